@@ -143,7 +143,7 @@ MARKED = {
 def files_of(table):
     """The text of each file, by its path."""
     return {
-        'crates/sctp_report/src/registry.rt': languages.rattle(table),
+        'crates/dump_text/src/registry.rt': languages.rattle(table),
         'bindings/go/registry.go': languages.go(table),
         'page/src/registry.mjs': languages.page(table),
         **{path: between_marks(path, language(table)) for path, language in MARKED.items()},

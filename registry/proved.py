@@ -10,7 +10,7 @@ LEVELS = {'CHUNK_TYPE': 'chunk', 'PARAMETER_TYPE': 'parameter', 'CAUSE_CODE': 'c
 # Whose kinds the definitions of a crate are.
 CRATES = {'dcsctp_chunk': 'chunk', 'dcsctp_wire': 'chunk', 'dcsctp_tlv': 'parameter', 'dcsctp_cause': 'cause'}
 LAWS = 'crates/dcsctp_wire/src/laws.rt'
-CHUNK_TYPES = 'crates/sctp_*/src/chunk_type.rt'
+CHUNK_TYPES = 'crates/dump_analysis/src/chunk_type.rt'
 
 # What the name of a file or of a definition says in other words than the table.
 RENAMED = {'initiation': 'init', 'missing_parameters': 'missing_mandatory_parameter', 'cookie': 'cookie_echo',
@@ -128,7 +128,7 @@ def others(them):
     for place, name, match in them.places('crates/dcsctp_*/src/**/*_chunk.rt', flag):
         chunk = them.rows[them.key('chunk', name)].number
         them.number(place, ('flag', chunk, FLAGS[match[1]]), str(1 << int(match[2])))
-    for place, _, match in them.places('crates/sctp_capture/src/frame.rt', rf'^pub const (UDP)_PORT: u16 = {NUMBER};'):
+    for place, _, match in them.places('crates/dump_capture/src/frame.rt', rf'^pub const (UDP)_PORT: u16 = {NUMBER};'):
         them.number(place, ('port', 'udp'), match[2])
     # (else an expression that finds nothing would compare nothing)
     for key in them.rows:

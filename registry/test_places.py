@@ -41,16 +41,16 @@ crates/dcsctp_buffer/specs/Item.antt = INIT ACK = with_parameter (InitAck i) p =
 crates/dcsctp_c/src/parameters.rt = HEARTBEAT = heartbeat_request_chunk::CHUNK_TYPE
 crates/dcsctp_c/specs/Parameter.antt = SSN/TSN Reset Request = number_of (SsnTsnResetRequest number) = Some number
 crates/dcsctp_c/specs/Parameter.antt = No User Data = cause_number_of (NoUserData tsn) = Some tsn
-crates/sctp_report/src/chunks.rt = SHUTDOWN COMPLETE = 14 if value.size == 0 =>
-crates/sctp_report/src/chunks.rt = SHUTDOWN ACK = 8 |
-crates/sctp_report/src/parameters.rt = Forward-TSN-Supported = | 0xc000
-crates/sctp_report/src/causes.rt = Protocol Violation = | 13
-crates/sctp_report/src/fault.rt = RE-CONFIG = | 130
-crates/sctp_filter/src/chunk_test.rt = RE-CONFIG = 130 |
-crates/value_tests/src/facade.rt = INIT = (init_chunk::CHUNK_TYPE, 1),
-crates/wire_rows/src/kinds.rt = State Cookie = 7 => write_read(alloc, bytes, StateCookie::try_from(alloc, raw), out),
-crates/wire_rows/src/in_place.rt = COOKIE ACK = Chunk::CookieAck(_) |
-crates/wire_rows/src/buffers.rt = I-DATA = Chunk::IData(c) =>
+crates/dump_report/src/chunks.rt = SHUTDOWN COMPLETE = 14 if value.size == 0 =>
+crates/dump_report/src/chunks.rt = SHUTDOWN ACK = 8 |
+crates/dump_report/src/parameters.rt = Forward-TSN-Supported = | 0xc000
+crates/dump_report/src/causes.rt = Protocol Violation = | 13
+crates/dump_report/src/fault.rt = RE-CONFIG = | 130
+crates/dump_analysis/src/chunk_test.rt = RE-CONFIG = 130 |
+crates/test_values/src/tests/facade.rt = INIT = (init_chunk::CHUNK_TYPE, 1),
+crates/test_rows/src/kinds.rt = State Cookie = 7 => write_read(alloc, bytes, StateCookie::try_from(alloc, raw), out),
+crates/test_rows/src/in_place.rt = COOKIE ACK = Chunk::CookieAck(_) |
+crates/test_rows/src/buffers.rt = I-DATA = Chunk::IData(c) =>
 tests/c/assertions.c = FORWARD-TSN = VALUE(CHUNK_FORWARD_TSN, 192);
 tests/dump/names.txt = Supported Extensions = parameter 32776 Supported Extensions
 docs/PROVED.md = RE-CONFIG = RE-CONFIG, as
@@ -65,7 +65,7 @@ bindings/js/davgyuti.d.ts = No User Data = | { code: Of<typeof CauseCode, 'NO_US
 '''
 
 # Files of tests, which have a line of a place as often as they like.
-TESTS = {'crates/wire_rows/stdin', 'tests/refusals/rows.txt', 'tests/dump/refused.txt', 'bindings/python/tests/test_kinds.py',
+TESTS = {'crates/test_rows/stdin', 'tests/refusals/rows.txt', 'tests/dump/refused.txt', 'bindings/python/tests/test_kinds.py',
          'bindings/js/tests/kinds.test.mjs', 'bindings/rust/tests/kinds.rs'}
 
 # Rows that the table doesn't have, of types and codes that no standard will have, and files that their kinds need.
@@ -75,15 +75,15 @@ chunk  191  MADE_BYTES  MADE BYTES  9999 1  0+1  kind  data  any bytes  Made
     crates/dcsctp_chunk/src/made_bytes_chunk.rt crates/dcsctp_chunk/src/lib.rt crates/dcsctp_chunk/src/plain_check.rt
     crates/dcsctp_wire/specs/Chunk.antt crates/dcsctp_wire/proofs/ChunkRows.antt crates/dcsctp_wire/src/packet/chunk.rt
     crates/dcsctp_wire/src/packet.rt crates/dcsctp_wire/src/laws.rt crates/dcsctp_buffer/proofs/Longer.antt
-    crates/wire_rows/src/in_place.rt crates/wire_rows/src/kinds.rt crates/wire_rows/stdin crates/value_tests/src/facade.rt
+    crates/test_rows/src/in_place.rt crates/test_rows/src/kinds.rt crates/test_rows/stdin crates/test_values/src/tests/facade.rt
     tests/refusals/rows.txt tests/c/assertions.c tests/c/plain_reader.h bindings/python/tests/support.py bindings/cpp/README.md docs/C.md
     docs/ARCHITECTURE.md CHANGELOG.md
 chunk  191  MADE_LIST  MADE LIST  9999 1  4+1  kind  data  serial u32, parameters  Made
     crates/dcsctp_wire/specs/MadeList.antt crates/dcsctp_wire/specs/Lib.antt crates/dcsctp_wire/specs/Chunk.antt
     crates/dcsctp_wire/specs/Caller.antt crates/dcsctp_wire/src/packet/made_list_chunk.rt crates/dcsctp_wire/src/packet/chunk.rt
     crates/dcsctp_borrowed/specs/RawParameters.antt crates/dcsctp_borrowed/src/raw_parameters.rt crates/dcsctp_buffer/specs/Item.antt
-    crates/dcsctp_buffer/proofs/Longer.antt crates/dcsctp_c/src/parameters.rt crates/sctp_report/src/chunks.rt
-    crates/sctp_report/src/fault.rt tests/dump/refused.txt tests/c/fuzz.c docs/PROVED.md
+    crates/dcsctp_buffer/proofs/Longer.antt crates/dcsctp_c/src/parameters.rt crates/dump_report/src/chunks.rt
+    crates/dump_report/src/fault.rt tests/dump/refused.txt tests/c/fuzz.c docs/PROVED.md
 parameter  0xffff  MADE_VALUE  Made Value  9999 1  4+1  kind  a parameter  Made
     crates/dcsctp_tlv/specs/MadeValue.antt crates/dcsctp_tlv/specs/Parameter.antt tests/refusals/rows.txt
 parameter  0xffff  MADE_NUMBER  Made Number  9999 1  4  kind  milliseconds u32  Made
@@ -91,13 +91,13 @@ parameter  0xffff  MADE_NUMBER  Made Number  9999 1  4  kind  milliseconds u32  
     crates/dcsctp_tlv/specs/Parameter.antt crates/dcsctp_tlv/src/parameter/made_number_parameter.rt
     crates/dcsctp_tlv/src/parameter.rt crates/dcsctp_tlv/proofs/ParameterLaws.antt crates/dcsctp_wire/src/packet.rt
     crates/dcsctp_wire/src/laws.rt crates/dcsctp_c/specs/Parameter.antt crates/dcsctp_c/proofs/NumberRows.antt
-    crates/wire_rows/src/kinds.rt crates/wire_rows/stdin crates/value_tests/src/facade.rt tests/c/assertions.c tests/c/fuzz.c
+    crates/test_rows/src/kinds.rt crates/test_rows/stdin crates/test_values/src/tests/facade.rt tests/c/assertions.c tests/c/fuzz.c
     tests/dump/refused.txt include/dcsctp.h bindings/js/davgyuti.d.ts bindings/js/tests/user/imported.mts bindings/python/tests/support.py
     bindings/go/read.go bindings/go/write.go bindings/rust/src/list.rs bindings/rust/src/builder.rs docs/C.md CHANGELOG.md
 cause  0xffff  MADE_NUMBER  Made Number  9999 1  4  kind  microseconds u32  Made
     crates/dcsctp_cause/specs/MadeNumber.antt crates/dcsctp_cause/specs/Cause.antt crates/dcsctp_cause/src/lib.rt
     crates/dcsctp_cause/src/error_causes.rt crates/dcsctp_cause/proofs/CauseLaws.antt crates/dcsctp_c/specs/Parameter.antt
-    crates/sctp_report/src/causes.rt include/dcsctp.h bindings/js/davgyuti.js bindings/js/davgyuti.d.ts bindings/cpp/dcsctp.hpp
+    crates/dump_report/src/causes.rt include/dcsctp.h bindings/js/davgyuti.js bindings/js/davgyuti.d.ts bindings/cpp/dcsctp.hpp
 '''
 
 failures = []

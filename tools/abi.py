@@ -39,16 +39,21 @@ def abi_of(text):
     lines = [f'# {soname(text)}, where pointers have 64 bits; tools/abi.py makes and compares this']
     for name, (result, arguments) in sorted(functions.items()):
         lines.append(f'{result} {name}({", ".join(c_name(kind) for kind, _ in arguments) or "void"})')
-    for name, fields in sorted(structs.items()):
-        places, at, alignment = [], 0, 1
+    sizes = {kind: (size, size) for kind, size in SIZES.items()}
+    laid_out = {}
+    # (in the header's order, since a struct may hold those before it)
+    for name, fields in structs.items():
+        places, at, most = [], 0, 1
         for kind, field in fields:
             field, _, count = field.rstrip(']').partition('[')
-            size = SIZES[kind]
-            at += -at % size
-            places.append(f'{name}.{field}: {kind}{f"[{count}]" if count else ""} at {at}')
+            size, alignment = sizes[kind]
+            at += -at % alignment
+            places.append(f'{name}.{field}: {c_name(kind)}{f"[{count}]" if count else ""} at {at}')
             at += size * int(count or 1)
-            alignment = max(alignment, size)
-        lines += [f'struct {name}: size {at + -at % alignment}, alignment {alignment}', *places]
+            most = max(most, alignment)
+        sizes[name] = at + -at % most, most
+        laid_out[name] = [f'struct {name}: size {sizes[name][0]}, alignment {most}', *places]
+    lines += [line for _, its in sorted(laid_out.items()) for line in its]
     return lines + [f'DCSCTP_{name} = {value}' for name, value in sorted(constants.items())]
 
 

@@ -2,7 +2,7 @@
 # SPDX-License-Identifier: Apache-2.0
 """usage: tools/rules.py --compare | --try PROGRAM | --help
 
-Compares the table of rules in docs/DUMP.md with the code, crates/sctp_filter/src/rule.rt: the names in the
+Compares the table of rules in docs/DUMP.md with the code, crates/dump_analysis/src/rule.rt: the names in the
 order of `Rule::ALL`, the requirement, the section and the sentence of each; and the names in tests/dump/rules.txt.
 
   --compare      prints a line for each difference, with status 1, or one line that there is none, with status 0
@@ -18,7 +18,7 @@ import subprocess
 import sys
 
 ROOT = os.path.dirname(os.path.dirname(os.path.abspath(__file__)))
-CODE = os.path.join(ROOT, 'crates', 'sctp_filter', 'src', 'rule.rt')
+CODE = os.path.join(ROOT, 'crates', 'dump_analysis', 'src', 'rule.rt')
 PAGE = os.path.join(ROOT, 'docs', 'DUMP.md')
 ROWS = os.path.join(ROOT, 'tests', 'dump', 'rules.txt')
 COLUMNS = ['name', 'requirement', 'section', 'sentence']
