@@ -264,6 +264,40 @@ struct dcsctp_re_config {
     size_t stream_count;        /* of an Outgoing or Incoming SSN Reset; writing ignores it */
 };
 
+/* A chunk of a packet that dcsctp_read read: what dcsctp_chunk_at writes of it, and the numbers that the function for its
+   type writes. What the type does not carry is 0. */
+struct dcsctp_row {
+    struct dcsctp_chunk chunk; /* as the functions for its type and for its lists take it */
+    size_t rest_offset;        /* of what follows the numbers in the value: the payload, the gap ack blocks and then the
+                                  duplicate TSNs, the skipped streams, the parameters or the error causes */
+    size_t rest_size;          /* up to the end of the value */
+    size_t count;              /* of gap ack blocks, or of skipped streams */
+    size_t duplicate_count;    /* of SACK */
+    uint32_t tsn;              /* of DATA and I-DATA; the cumulative one of SACK, SHUTDOWN, FORWARD-TSN and I-FORWARD-TSN; the
+                                  initial one of INIT and INIT ACK */
+    uint32_t a_rwnd;           /* of SACK, INIT and INIT ACK */
+    uint32_t initiate_tag;     /* of INIT and INIT ACK */
+    uint32_t mid;              /* of I-DATA */
+    uint32_t fsn;              /* of I-DATA that isn't the beginning of a message */
+    uint32_t ppid;             /* of DATA, and of I-DATA that is the beginning of a message */
+    uint16_t stream;           /* of DATA and I-DATA */
+    uint16_t ssn;              /* of DATA */
+    uint16_t outbound_streams; /* of INIT and INIT ACK */
+    uint16_t inbound_streams;  /* of INIT and INIT ACK */
+    bool is_unordered;         /* of DATA and I-DATA, as the next three */
+    bool is_beginning;
+    bool is_end;
+    bool immediate_ack;
+};
+
+/* A packet that dcsctp_read read, without its rows. */
+struct dcsctp_packet {
+    struct dcsctp_header header;
+    uint32_t code;       /* DCSCTP_OK, or the first fault */
+    size_t chunk_count;  /* 0 where the bytes are no packet */
+    size_t fault_offset; /* the length of the bytes where there is no fault */
+};
+
 /* ---- reading a whole packet
 
    `length` is the packet's, as the headers before it give it: without what a frame adds after it. `word` is the number
@@ -276,6 +310,12 @@ uint32_t dcsctp_check(const uint8_t *bytes, size_t length, uint32_t word, const 
    `length`, or 65,535 if that is less. */
 uint32_t dcsctp_first_fault(const uint8_t *bytes, size_t length, uint32_t word, const struct dcsctp_policy *policy,
                             size_t *offset);
+
+/* Reads a packet in one call: returns what dcsctp_check returns, and writes the header, the number of chunks, and a row for
+   each chunk to the front of `rows`: where there are more chunks than `row_count`, the first ones. The rows after them
+   stay. Of a fault its offset is written, as dcsctp_first_fault writes it, and the header and the rows stay. */
+uint32_t dcsctp_read(const uint8_t *bytes, size_t length, uint32_t word, const struct dcsctp_policy *policy,
+                     struct dcsctp_row *rows, size_t row_count, struct dcsctp_packet *packet);
 
 /* Writes the canonical packet to the front of `output` and its size to `size`: two packets have the same one if and
    only if they mean the same. A text that isn't UTF-8, of the causes User-Initiated Abort and Protocol Violation, is read

@@ -71,6 +71,13 @@ DCSCTP_MSAN(uint32_t, dcsctp_check,
 DCSCTP_MSAN(uint32_t, dcsctp_first_fault,
             (const uint8_t *bytes, size_t length, uint32_t word, const struct dcsctp_policy *policy, size_t *offset),
             (bytes, length, word, policy, offset), DCSCTP_MSAN_READS_WHOLE, DCSCTP_MSAN_WRITES(true, offset, 1))
+DCSCTP_MSAN(uint32_t, dcsctp_read,
+            (const uint8_t *bytes, size_t length, uint32_t word, const struct dcsctp_policy *policy, struct dcsctp_row *rows,
+             size_t row_count, struct dcsctp_packet *packet),
+            (bytes, length, word, policy, rows, row_count, packet), DCSCTP_MSAN_READS_WHOLE,
+            DCSCTP_MSAN_WRITES(returned == DCSCTP_OK, &packet->header, 1); DCSCTP_MSAN_WRITES(true, &packet->code, 1);
+            DCSCTP_MSAN_WRITES(true, &packet->chunk_count, 1); DCSCTP_MSAN_WRITES(true, &packet->fault_offset, 1);
+            DCSCTP_MSAN_WRITES(true, rows, packet->chunk_count < row_count ? packet->chunk_count : row_count))
 DCSCTP_MSAN_WHOLE(dcsctp_canonical)
 DCSCTP_MSAN_WHOLE(dcsctp_print)
 DCSCTP_MSAN_WHOLE(dcsctp_report)

@@ -135,14 +135,14 @@ start:
   store ptr %r2, ptr %r7, align 8
   %r17 = load ptr, ptr %r7, align 8, !noundef !1
   call void @std.io.stdio.LibcRuntimeInput.reader(ptr %r6, ptr %r17)
-  call void @watched_io.watched.Watched.new.27.std.io.stdio.LockedStdin(ptr %r5, ptr %r6)
+  call void @dump_io.watched.Watched.new.27.std.io.stdio.LockedStdin(ptr %r5, ptr %r6)
   call void @llvm.memmove.p0.p0.i64(ptr %r3, ptr %r5, i64 8224, i1 false)
   store ptr %r2, ptr %r10, align 8
   %r18 = load ptr, ptr %r10, align 8, !noundef !1
   %r19 = call ptr @std.io.stdio.writer.d0902b90cef0033e(ptr %r18)
   store ptr %r19, ptr %r9, align 8
   %r20 = load ptr, ptr %r9, align 8, !noundef !1
-  call void @watched_io.watched.Watched.new.8b2e4415958fccf9(ptr %r8, ptr %r20)
+  call void @dump_io.watched.Watched.new.8b2e4415958fccf9(ptr %r8, ptr %r20)
   call void @llvm.memmove.p0.p0.i64(ptr %r4, ptr %r8, i64 16, i1 false)
   store ptr %r2, ptr %r13, align 8
   %r21 = load ptr, ptr %r13, align 8, !noundef !1
@@ -244,7 +244,7 @@ start:
 }
 
 ; Function Attrs: nounwind
-define internal void @watched_io.watched.Watched.new.27.std.io.stdio.LockedStdin(ptr noundef %a0, ptr noundef %a1) #0 {
+define internal void @dump_io.watched.Watched.new.27.std.io.stdio.LockedStdin(ptr noundef %a0, ptr noundef %a1) #0 {
 start:
   %r0 = alloca [8224 x i8], align 8
   %r1 = alloca [8216 x i8], align 8
@@ -279,7 +279,7 @@ return.1:                                         ; preds = %start
 }
 
 ; Function Attrs: nounwind
-define internal void @watched_io.watched.Watched.new.8b2e4415958fccf9(ptr noundef %a0, ptr noundef %a1) #0 {
+define internal void @dump_io.watched.Watched.new.8b2e4415958fccf9(ptr noundef %a0, ptr noundef %a1) #0 {
 start:
   %r0 = alloca [16 x i8], align 8
   %r1 = alloca [8 x i8], align 8
@@ -578,7 +578,7 @@ join.4:                                           ; preds = %arm.1
   %r35 = load ptr, ptr %r11, align 8, !noundef !1
   %r36 = getelementptr i8, ptr %r11, i64 8
   %r37 = load i64, ptr %r36, align 8, !noundef !1
-  call void @watched_io.transfer.fill.23337c5e355f5d70(ptr %r9, ptr %r34, ptr %r35, i64 %r37)
+  call void @dump_io.transfer.fill.23337c5e355f5d70(ptr %r9, ptr %r34, ptr %r35, i64 %r37)
   %r38 = load i8, ptr %r9, align 1, !noundef !1
   switch i8 %r38, label %noarm.3 [
     i8 0, label %arm.5
@@ -1697,7 +1697,7 @@ return.2:                                         ; preds = %after.1
 }
 
 ; Function Attrs: nounwind
-define internal void @watched_io.transfer.fill.23337c5e355f5d70(ptr noundef %a0, ptr noundef %a1, ptr noundef %a2, i64 noundef %a3) #0 {
+define internal void @dump_io.transfer.fill.23337c5e355f5d70(ptr noundef %a0, ptr noundef %a1, ptr noundef %a2, i64 noundef %a3) #0 {
 start:
   %r0 = alloca [96 x i8], align 8
   %r1 = alloca [16 x i8], align 8
@@ -1763,7 +1763,7 @@ join.5:                                           ; preds = %then.3
   %r33 = load ptr, ptr %r12, align 8, !noundef !1
   %r34 = getelementptr i8, ptr %r12, i64 8
   %r35 = load i64, ptr %r34, align 8, !noundef !1
-  call void @watched_io.watched.WatchedRead.read.23337c5e355f5d70(ptr %r8, ptr %r32, ptr %r33, i64 %r35)
+  call void @dump_io.watched.WatchedRead.read.23337c5e355f5d70(ptr %r8, ptr %r32, ptr %r33, i64 %r35)
   %r36 = load i8, ptr %r8, align 1, !noundef !1
   switch i8 %r36, label %noarm.8 [
     i8 0, label %arm.6
@@ -1828,7 +1828,7 @@ noarm.8:                                          ; preds = %join.5
 }
 
 ; Function Attrs: nounwind
-define internal void @watched_io.watched.WatchedRead.read.23337c5e355f5d70(ptr noundef %a0, ptr noundef %a1, ptr noundef %a2, i64 noundef %a3) #0 {
+define internal void @dump_io.watched.WatchedRead.read.23337c5e355f5d70(ptr noundef %a0, ptr noundef %a1, ptr noundef %a2, i64 noundef %a3) #0 {
 start:
   %r0 = alloca [96 x i8], align 8
   %r1 = alloca [16 x i8], align 8
@@ -69966,7 +69966,7 @@ start:
   %r12 = load ptr, ptr %r1, align 8, !noundef !1
   %r13 = getelementptr i8, ptr %r1, i64 8
   %r14 = load i64, ptr %r13, align 8, !noundef !1
-  call void @watched_io.transfer.write_bytes.cdc8ff12022c16a2(ptr %r4, ptr %r11, ptr %r12, i64 %r14)
+  call void @dump_io.transfer.write_bytes.cdc8ff12022c16a2(ptr %r4, ptr %r11, ptr %r12, i64 %r14)
   call void @llvm.memmove.p0.p0.i64(ptr %r6, ptr %r4, i64 1, i1 false)
   %r15 = getelementptr i8, ptr %r6, i64 8
   %r16 = getelementptr i8, ptr %r4, i64 8
@@ -69991,7 +69991,7 @@ else.2:                                           ; preds = %start
 join.3:                                           ; preds = %else.2
   store ptr %a0, ptr %r9, align 8
   %r23 = load ptr, ptr %r9, align 8, !noundef !1
-  call void @watched_io.watched.WatchedWrite.flush.cdc8ff12022c16a2(ptr %r8, ptr %r23)
+  call void @dump_io.watched.WatchedWrite.flush.cdc8ff12022c16a2(ptr %r8, ptr %r23)
   %r24 = load i8, ptr %r8, align 1, !noundef !1
   switch i8 %r24, label %noarm.6 [
     i8 0, label %arm.4
@@ -70017,7 +70017,7 @@ noarm.6:                                          ; preds = %join.3
 }
 
 ; Function Attrs: nounwind
-define internal void @watched_io.transfer.write_bytes.cdc8ff12022c16a2(ptr noundef %a0, ptr noundef %a1, ptr noundef %a2, i64 noundef %a3) #0 {
+define internal void @dump_io.transfer.write_bytes.cdc8ff12022c16a2(ptr noundef %a0, ptr noundef %a1, ptr noundef %a2, i64 noundef %a3) #0 {
 start:
   %r0 = alloca [96 x i8], align 8
   %r1 = alloca [16 x i8], align 8
@@ -70087,7 +70087,7 @@ join.5:                                           ; preds = %then.3
   %r35 = load ptr, ptr %r12, align 8, !noundef !1
   %r36 = getelementptr i8, ptr %r12, i64 8
   %r37 = load i64, ptr %r36, align 8, !noundef !1
-  call void @watched_io.watched.WatchedWrite.write.cdc8ff12022c16a2(ptr %r8, ptr %r34, ptr %r35, i64 %r37)
+  call void @dump_io.watched.WatchedWrite.write.cdc8ff12022c16a2(ptr %r8, ptr %r34, ptr %r35, i64 %r37)
   %r38 = load i8, ptr %r8, align 1, !noundef !1
   switch i8 %r38, label %noarm.8 [
     i8 0, label %arm.6
@@ -70156,7 +70156,7 @@ noarm.8:                                          ; preds = %join.5
 }
 
 ; Function Attrs: nounwind
-define internal void @watched_io.watched.WatchedWrite.write.cdc8ff12022c16a2(ptr noundef %a0, ptr noundef %a1, ptr noundef %a2, i64 noundef %a3) #0 {
+define internal void @dump_io.watched.WatchedWrite.write.cdc8ff12022c16a2(ptr noundef %a0, ptr noundef %a1, ptr noundef %a2, i64 noundef %a3) #0 {
 start:
   %r0 = alloca [96 x i8], align 8
   %r1 = alloca [16 x i8], align 8
@@ -70524,7 +70524,7 @@ noarm.3:                                          ; preds = %start
 }
 
 ; Function Attrs: nounwind
-define internal void @watched_io.watched.WatchedWrite.flush.cdc8ff12022c16a2(ptr noundef %a0, ptr noundef %a1) #0 {
+define internal void @dump_io.watched.WatchedWrite.flush.cdc8ff12022c16a2(ptr noundef %a0, ptr noundef %a1) #0 {
 start:
   %r0 = alloca [96 x i8], align 8
   %r1 = alloca [96 x i8], align 8

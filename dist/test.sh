@@ -72,7 +72,7 @@ try() {
     if (cd "$work" && "$@") >"$work/log" 2>&1 </dev/null; then
         passed=$((passed + 1))
         printf 'dist: %s: passed\n' "$name"
-        grep -e 'left out, since' -e '^dump: [0-9]* passed' "$work/log"
+        grep -e 'left out, since' -e '^\(show\|dump\): [0-9]* passed' "$work/log"
         return 0
     else
         failed=$((failed + 1))
@@ -377,7 +377,7 @@ program() {
 }
 
 sctp_show() {
-    program sctp_show "$@" && ./sctp_show <"$root/crates/sctp_show/stdin" | diff - "$root/crates/sctp_show/stdout"
+    program sctp_show "$@" && "$root/tests/show/test.sh" "$work/sctp_show"
 }
 
 sctp_dump() {
@@ -436,7 +436,7 @@ elsewhere() {
         "$@" -O2 -Wall -Wextra -Werror -o "$name.exe" "$name.s" "$dist/program.c" || return
         printf '#!/bin/sh\nexec %s "%s" "$@"\n' "$runner" "$PWD/$name.exe" >"$name" && chmod +x "$name"
     done
-    ./sctp_show <"$root/crates/sctp_show/stdin" | diff - "$root/crates/sctp_show/stdout" && "$root/tests/dump/test.sh" --quick sctp_dump
+    "$root/tests/show/test.sh" --quick sctp_show && "$root/tests/dump/test.sh" --quick sctp_dump
 }
 
 # So they do on Windows, which has names of files and words in UTF-16; a word that isn't has no form in UTF-8.
