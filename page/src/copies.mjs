@@ -19,7 +19,7 @@ function cArray(bytes) {
   return `static const unsigned char packet[${bytes.length}] = {\n${lines.join('')}};\n`;
 }
 
-/** A packet as a row of crates/wire_rows/stdin, without its answer: its chunks by four bytes, since its header is another there.
+/** A packet as a row of crates/test_rows/stdin, without its answer: its chunks by four bytes, since its header is another there.
     Undefined if nothing follows a header.
     @param {Uint8Array} bytes */
 function testRow(bytes) {

@@ -789,7 +789,7 @@ each('a link', linkOf, [
   ['https://a.example/', ...Array(50).fill(Uint8Array.of(1)), `https://a.example/#hex=01${',01'.repeat(49)}`],
   ['https://a.example/', ...Array(51).fill(Uint8Array.of(1)), undefined],
 ]);
-// The rows of packets in crates/wire_rows/stdin: chunks behind a header of 12 bytes, by four bytes.
+// The rows of packets in crates/test_rows/stdin: chunks behind a header of 12 bytes, by four bytes.
 each('a row of a test', testRow, [
   [Uint8Array.from([...Array(12).fill(9), 10, 0, 0, 5, 127]), 'packet 0a000005 7f'],
   [Uint8Array.from([...Array(12).fill(9), 11, 0, 0, 4]), 'packet 0b000004'], [new Uint8Array(12), undefined],
