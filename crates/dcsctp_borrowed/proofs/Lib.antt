@@ -6,7 +6,6 @@ pub mod ReConfigRows
 pub mod FieldLists
 pub mod Changes
 pub mod ListPlaces
-pub mod NumberPairs
 pub mod CheckedRows
 pub mod FrameItems
 pub mod PacketItems

@@ -4,7 +4,7 @@ ghost use Rattle.std.specs.Prelude.{◌≡◌};
 ghost use Rattle.dcsctp_borrowed.specs.ChecksumField.{known, known_of_packet};
 
 use dcsctp_wire::packet::read_u32_be;
-use dcsctp_wire::packet::sctp_packet::COMMON_HEADER_SIZE;
+use dcsctp_wire::packet::sctp_packet::{COMMON_HEADER_SIZE, CommonHeader};
 use std::fmt;
 
 /// What is known of a packet's checksum field.
@@ -29,7 +29,7 @@ impl Checksum {
         if bytes.len() < size || bytes.len() < COMMON_HEADER_SIZE {
             return Checksum::Unknown;
         }
-        Checksum::of(read_u32_be(&bytes[8..]), word)
+        Checksum::of(read_u32_be(&bytes[CommonHeader::CHECKSUM..]), word)
     }
 
     /// Returns what is known of a field where a word is expected.

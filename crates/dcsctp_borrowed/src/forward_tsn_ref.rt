@@ -7,22 +7,13 @@ ghost use Rattle.dcsctp_chunk.specs.SkippedStreams.{SkippedStreamTree, Tree, ski
 ghost use Rattle.dcsctp_wire.specs.Chunk.{ChunkTree};
 ghost use Rattle.dcsctp_borrowed.specs.{RawChunks.{RawMeans}, SkippedStreams.{streams_at, forward_of, read_forward}};
 
-use dcsctp_chunk::{forward_tsn_chunk, iforward_tsn_chunk};
-use dcsctp_tlv::number::{read_u16_be, read_u32_be};
+use dcsctp_chunk::forward_tsn_chunk::{self, ForwardTsnNumbers, SsnStreamField};
+use dcsctp_chunk::iforward_tsn_chunk::{self, MidStreamField};
+use dcsctp_tlv::fields::Field;
 use dcsctp_tlv::skipped_stream::SkippedStream;
-use dcsctp_types::api::StreamId;
-use dcsctp_types::types::{Mid, Ssn, StreamKey, Tsn};
+use dcsctp_types::types::Tsn;
 use dcsctp_wire::packet::chunk::RawChunk;
 use std::marker::Model;
-
-/// Bytes of the value before the skipped streams.
-const FIXED_SIZE: usize = 4;
-
-/// Bytes of a stream of FORWARD-TSN.
-const SSN_STREAM_SIZE: usize = 4;
-
-/// Bytes of a stream of I-FORWARD-TSN.
-const MID_STREAM_SIZE: usize = 8;
 
 /// A FORWARD-TSN (RFC 3758 section 3.2) or an I-FORWARD-TSN (RFC 8260 section 2.3.1) whose skipped
 /// streams stay where they lie in the packet.
@@ -74,10 +65,10 @@ impl<'a> ForwardTsnRef<'a> {
     fn of_forward(value: &'a [u8]) -> Option<ForwardTsnRef<'a>>
         ensures { result ≡ result_ok (forward_kind.read value.now) }
     {
-        if value.len() < FIXED_SIZE {
+        if value.len() < ForwardTsnNumbers::SIZE {
             return None;
         }
-        if !(value.len() - FIXED_SIZE).is_multiple_of(SSN_STREAM_SIZE) {
+        if !(value.len() - ForwardTsnNumbers::SIZE).is_multiple_of(SsnStreamField::SIZE) {
             return None;
         }
         Some(ForwardTsnRef::of_checked_forward(value))
@@ -91,10 +82,10 @@ impl<'a> ForwardTsnRef<'a> {
         ensures { Some result ≡ result_ok (forward_kind.read value.now) }
     {
         ForwardTsnRef {
-            new_cumulative_tsn: Tsn(read_u32_be(value)),
+            new_cumulative_tsn: ForwardTsnNumbers::read(value).new_cumulative_tsn,
             by_mid: false,
-            count: (value.len() - FIXED_SIZE) / SSN_STREAM_SIZE,
-            streams: &value[FIXED_SIZE..],
+            count: (value.len() - ForwardTsnNumbers::SIZE) / SsnStreamField::SIZE,
+            streams: &value[ForwardTsnNumbers::SIZE..],
         }
     }
 
@@ -104,10 +95,10 @@ impl<'a> ForwardTsnRef<'a> {
     fn of_iforward(value: &'a [u8]) -> Option<ForwardTsnRef<'a>>
         ensures { result ≡ result_ok (iforward_kind.read value.now) }
     {
-        if value.len() < FIXED_SIZE {
+        if value.len() < ForwardTsnNumbers::SIZE {
             return None;
         }
-        if !(value.len() - FIXED_SIZE).is_multiple_of(MID_STREAM_SIZE) {
+        if !(value.len() - ForwardTsnNumbers::SIZE).is_multiple_of(MidStreamField::SIZE) {
             return None;
         }
         Some(ForwardTsnRef::of_checked_iforward(value))
@@ -121,10 +112,10 @@ impl<'a> ForwardTsnRef<'a> {
         ensures { Some result ≡ result_ok (iforward_kind.read value.now) }
     {
         ForwardTsnRef {
-            new_cumulative_tsn: Tsn(read_u32_be(value)),
+            new_cumulative_tsn: ForwardTsnNumbers::read(value).new_cumulative_tsn,
             by_mid: true,
-            count: (value.len() - FIXED_SIZE) / MID_STREAM_SIZE,
-            streams: &value[FIXED_SIZE..],
+            count: (value.len() - ForwardTsnNumbers::SIZE) / MidStreamField::SIZE,
+            streams: &value[ForwardTsnNumbers::SIZE..],
         }
     }
 
@@ -152,9 +143,9 @@ impl<'a> ForwardTsnRef<'a> {
         ensures { slice_get self.now.streams index ≡ Some (skipped_stream_view result) }
     {
         if self.by_mid {
-            mid_stream(&self.streams[MID_STREAM_SIZE * index..])
+            MidStreamField::read(&self.streams[MidStreamField::SIZE * index..])
         } else {
-            ssn_stream(&self.streams[SSN_STREAM_SIZE * index..])
+            SsnStreamField::read(&self.streams[SsnStreamField::SIZE * index..])
         }
     }
 
@@ -169,34 +160,6 @@ impl<'a> ForwardTsnRef<'a> {
             rest: self.streams,
         }
     }
-}
-
-/// The stream at the front, skipped by a sequence number: two bytes of stream id, and two of the
-/// number.
-// As `dcsctp_chunk` reads it for itself: to share it, a function of that crate would have to be
-// public.
-#[inline(always)]
-fn ssn_stream(bytes: &[u8]) -> SkippedStream
-    requires { 4 ≤ length bytes.now }
-    ensures { skipped_stream_view result ≡ forward_kind.stream_at bytes.now }
-{
-    SkippedStream::ForwardTsn(StreamId(read_u16_be(bytes)), Ssn(read_u16_be(&bytes[2..])))
-}
-
-/// The stream at the front, skipped by a message id: two bytes of stream id, two whose lowest bit
-/// says unordered, and four of message id.
-// Not shared with `dcsctp_chunk`, for the same reason.
-#[inline(always)]
-fn mid_stream(bytes: &[u8]) -> SkippedStream
-    requires { 8 ≤ length bytes.now }
-    ensures { skipped_stream_view result ≡ iforward_kind.stream_at bytes.now }
-{
-    let id = StreamId(read_u16_be(bytes));
-    let is_unordered = read_u16_be(&bytes[2..]) % 2 == 1;
-    SkippedStream::IForwardTsn(
-        StreamKey::new(is_unordered, id),
-        Mid(read_u32_be(&bytes[4..])),
-    )
 }
 
 /// An iterator over the skipped streams of a FORWARD-TSN or I-FORWARD-TSN. A contract sees the list
@@ -231,12 +194,12 @@ impl<'a> Iterator for SkippedStreams<'a> {
         }
         self.count -= 1;
         if self.by_mid {
-            let stream = mid_stream(self.rest);
-            self.rest = &self.rest[MID_STREAM_SIZE..];
+            let stream = MidStreamField::read(self.rest);
+            self.rest = &self.rest[MidStreamField::SIZE..];
             Some(stream)
         } else {
-            let stream = ssn_stream(self.rest);
-            self.rest = &self.rest[SSN_STREAM_SIZE..];
+            let stream = SsnStreamField::read(self.rest);
+            self.rest = &self.rest[SsnStreamField::SIZE..];
             Some(stream)
         }
     }

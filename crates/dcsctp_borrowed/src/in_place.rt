@@ -5,6 +5,7 @@ ghost use Rattle.dcsctp_tlv.specs.Image.{put};
 ghost use Rattle.dcsctp_wire.specs.{Packet.{PacketTree, PacketFault, Answer, IsAccepted, checksum_field}, declared.packet.sctp_packet.ChecksumPolicy.{ChecksumPolicy}};
 
 use dcsctp_tlv::number::put_u32;
+use dcsctp_wire::packet::sctp_packet::CommonHeader;
 
 /// Writes the verification tag (RFC 9260 section 3.1) into bytes 4 to 7 of a packet; all other
 /// bytes stay.
@@ -21,7 +22,7 @@ pub fn set_verification_tag(packet: &mut [u8], verification_tag: u32)
     ensures faulty { (word : ℕ) (policy : ChecksumPolicy) (e : PacketFault)
         → Answer packet.old word policy (Err e) → Answer packet.new word policy (Err e) }
 {
-    put_u32(packet, 4, verification_tag);
+    put_u32(packet, CommonHeader::VERIFICATION_TAG, verification_tag);
 }
 
 /// Writes the checksum field (RFC 9260 section 3.1), bytes 8 to 11 of a packet, most significant
@@ -40,5 +41,5 @@ pub fn set_checksum_word(packet: &mut [u8], checksum: u32)
         → later.strict_padding ≡ first.strict_padding
         → Answer packet.new after later (Ok (record p { checksum = checksum })) }
 {
-    put_u32(packet, 8, checksum);
+    put_u32(packet, CommonHeader::CHECKSUM, checksum);
 }

@@ -6,7 +6,6 @@ ghost use Rattle.dcsctp_wire.specs.{Chunk.{chunks}, Packet.{PacketTree, Answer, 
 ghost use Rattle.dcsctp_borrowed.specs.PacketRef.{reference, Referred, Located, RefersTo};
 
 use crate::raw_chunks::RawChunks;
-use dcsctp_tlv::number::{read_u16_be, read_u32_be};
 use dcsctp_wire::packet::sctp_packet::{
     COMMON_HEADER_SIZE, ChecksumPolicy, CommonHeader, FirstFault, PacketParseError, SctpPacket,
 };
@@ -72,12 +71,7 @@ impl<'a> SctpPacketRef<'a> {
         ensures { result ≡ reference bytes.now }
     {
         SctpPacketRef {
-            common_header: CommonHeader {
-                source_port: read_u16_be(bytes),
-                destination_port: read_u16_be(&bytes[2..]),
-                verification_tag: read_u32_be(&bytes[4..]),
-                checksum: read_u32_be(&bytes[8..]),
-            },
+            common_header: CommonHeader::read(bytes),
             chunks: RawChunks::new(&bytes[COMMON_HEADER_SIZE..]),
         }
     }

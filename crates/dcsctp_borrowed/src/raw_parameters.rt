@@ -9,13 +9,11 @@ use dcsctp_tlv::frame::frame_parts;
 use dcsctp_tlv::number::read_u16_be;
 use dcsctp_tlv::parameter::{RawParameter, parameters_check};
 use dcsctp_wire::packet::chunk::RawChunk;
+use dcsctp_wire::packet::init_chunk::InitNumbers;
 use dcsctp_wire::packet::{
     heartbeat_ack_chunk, heartbeat_request_chunk, init_ack_chunk, init_chunk, re_config_chunk,
 };
 use std::marker::Model;
-
-/// Bytes of the value of INIT and INIT ACK before the parameters.
-const INIT_SIZE: usize = 16;
 
 /// The parameters that are left of a chunk, each as its type and its value (RFC 9260 section
 /// 3.2.1).
@@ -74,10 +72,10 @@ pub(crate) fn parameter_bytes(typ: u8, value: &[u8]) -> Option<&[u8]>
 {
     match typ {
         init_chunk::CHUNK_TYPE | init_ack_chunk::CHUNK_TYPE => {
-            if value.len() < INIT_SIZE {
+            if value.len() < InitNumbers::SIZE {
                 return None;
             }
-            Some(&value[INIT_SIZE..])
+            Some(&value[InitNumbers::SIZE..])
         }
         heartbeat_request_chunk::CHUNK_TYPE
         | heartbeat_ack_chunk::CHUNK_TYPE

@@ -2,20 +2,17 @@
 
 ghost use Rattle.std.specs.{Prelude.{◌≡◌, ◌↔◌, ◌<◌, ◌≤◌, ◌+◌, ◌*◌, ◌^◌, ℕ, List, Some, IsOk, IsTrue, length, drop, slice_get}, Iterator.{YieldsFirst, YieldsFirstBy, item_count}, Result.{result_ok}};
 ghost use Rattle.dcsctp_types.specs.Serial.{wrapped_sum, IsGreater};
-ghost use Rattle.dcsctp_tlv.specs.{Fields.{fields}, Number.{number16, number32}};
+ghost use Rattle.dcsctp_tlv.specs.{Fields.{fields}, Number.{number32}};
 ghost use Rattle.dcsctp_chunk.specs.{Cover.{Covers, AreValid}, Sack.{Tree, block_at, read}, declared.sack_chunk.GapAckBlock.{GapAckBlock}};
 ghost use Rattle.dcsctp_wire.specs.Chunk.{ChunkTree};
 ghost use Rattle.dcsctp_borrowed.specs.{RawChunks.{RawMeans}, Sack.{sack_of, read_sack}};
 
-use dcsctp_chunk::sack_chunk::{self, GapAckBlock};
+use dcsctp_chunk::sack_chunk::{self, GapAckBlock, SackNumbers};
 use dcsctp_tlv::fields::Field;
 use dcsctp_tlv::number::read_u32_be;
 use dcsctp_types::types::Tsn;
 use dcsctp_wire::packet::chunk::RawChunk;
 use std::marker::Model;
-
-/// Bytes of the value before the gap ack blocks.
-const FIXED_SIZE: usize = 12;
 
 /// A SACK (RFC 9260 section 3.3.4) whose gap ack blocks and duplicate TSNs stay where they lie in
 /// the packet.
@@ -23,10 +20,7 @@ const FIXED_SIZE: usize = 12;
 /// A contract sees its numbers and its two lists, as of a `SackChunk`.
 #[derive(Clone, Debug, Drop)]
 pub struct SackRef<'a> {
-    cumulative_tsn_ack: Tsn,
-    a_rwnd: u32,
-    block_count: u16,
-    duplicate_count: u16,
+    numbers: SackNumbers,
     /// The blocks, and after them the duplicates.
     lists: &'a [u8],
 }
@@ -35,13 +29,15 @@ impl<'a> Model for SackRef<'a> {
     ghost Value = { Tree };
 
     ghost view = { λ s. record {
-      tsn = s.cumulative_tsn_ack.0;
-      a_rwnd = s.a_rwnd;
-      blocks = fields block_at 4 s.block_count s.lists.now;
-      duplicates = fields number32 4 s.duplicate_count (drop (4 * s.block_count) s.lists.now);
+      tsn = s.numbers.cumulative_tsn_ack.0;
+      a_rwnd = s.numbers.a_rwnd;
+      blocks = fields block_at 4 s.numbers.gap_ack_block_count s.lists.now;
+      duplicates = fields number32 4 s.numbers.duplicate_tsn_count
+          (drop (4 * s.numbers.gap_ack_block_count) s.lists.now);
     } };
 
-    ghost invariant = { λ s. length s.lists.now ≡ 4 * s.block_count + 4 * s.duplicate_count };
+    ghost invariant = { λ s. length s.lists.now
+        ≡ 4 * s.numbers.gap_ack_block_count + 4 * s.numbers.duplicate_tsn_count };
 }
 
 #[tactic(auto, using(crate::proofs::FieldLists::field_count))]
@@ -68,11 +64,10 @@ impl<'a> SackRef<'a> {
     fn of_value(value: &'a [u8]) -> Option<SackRef<'a>>
         ensures { result ≡ result_ok (read value.now) }
     {
-        if value.len() < FIXED_SIZE {
+        if value.len() < SackNumbers::SIZE {
             return None;
         }
-        let (block_count, duplicate_count) = two_numbers(&value[8..]);
-        if value.len() != FIXED_SIZE + 4 * block_count as usize + 4 * duplicate_count as usize {
+        if value.len() != SackNumbers::read(value).value_size() {
             return None;
         }
         Some(SackRef::of_checked(value))
@@ -85,13 +80,9 @@ impl<'a> SackRef<'a> {
         requires { IsOk (read value.now) }
         ensures { Some result ≡ result_ok (read value.now) }
     {
-        let (block_count, duplicate_count) = two_numbers(&value[8..]);
         SackRef {
-            cumulative_tsn_ack: Tsn(read_u32_be(value)),
-            a_rwnd: read_u32_be(&value[4..]),
-            block_count,
-            duplicate_count,
-            lists: &value[FIXED_SIZE..],
+            numbers: SackNumbers::read(value),
+            lists: &value[SackNumbers::SIZE..],
         }
     }
 
@@ -100,7 +91,7 @@ impl<'a> SackRef<'a> {
     pub fn cumulative_tsn_ack(&self) -> Tsn
         ensures { result.0 ≡ self.now.tsn }
     {
-        self.cumulative_tsn_ack
+        self.numbers.cumulative_tsn_ack
     }
 
     /// Returns the bytes that the receiver has room for.
@@ -108,7 +99,7 @@ impl<'a> SackRef<'a> {
     pub fn a_rwnd(&self) -> u32
         ensures { result ≡ self.now.a_rwnd }
     {
-        self.a_rwnd
+        self.numbers.a_rwnd
     }
 
     /// Returns the number of gap ack blocks.
@@ -116,7 +107,7 @@ impl<'a> SackRef<'a> {
     pub fn gap_ack_block_count(&self) -> usize
         ensures { result ≡ length self.now.blocks }
     {
-        self.block_count as usize
+        self.numbers.gap_ack_block_count as usize
     }
 
     /// Returns the gap ack block at this index, which has to be less than `gap_ack_block_count()`.
@@ -134,7 +125,7 @@ impl<'a> SackRef<'a> {
     pub fn duplicate_tsn_count(&self) -> usize
         ensures { result ≡ length self.now.duplicates }
     {
-        self.duplicate_count as usize
+        self.numbers.duplicate_tsn_count as usize
     }
 
     /// Returns the duplicate TSN at this index, which has to be less than `duplicate_tsn_count()`.
@@ -143,7 +134,7 @@ impl<'a> SackRef<'a> {
         requires { index < length self.now.duplicates }
         ensures { slice_get self.now.duplicates index ≡ Some result.0 }
     {
-        Tsn(read_u32_be(&self.lists[4 * self.block_count as usize + 4 * index..]))
+        Tsn(read_u32_be(&self.lists[4 * self.numbers.gap_ack_block_count as usize + 4 * index..]))
     }
 
     /// Returns an iterator over the gap ack blocks, in their order: at most 65,535.
@@ -153,7 +144,7 @@ impl<'a> SackRef<'a> {
         ensures few { length result < 2 ^ 16 }
     {
         GapAckBlocks {
-            count: self.block_count as usize,
+            count: self.numbers.gap_ack_block_count as usize,
             rest: self.lists,
         }
     }
@@ -164,8 +155,8 @@ impl<'a> SackRef<'a> {
         ensures { result ≡ self.now.duplicates }
     {
         DuplicateTsns {
-            count: self.duplicate_count as usize,
-            rest: &self.lists[4 * self.block_count as usize..],
+            count: self.numbers.duplicate_tsn_count as usize,
+            rest: &self.lists[4 * self.numbers.gap_ack_block_count as usize..],
         }
     }
 
@@ -191,19 +182,6 @@ impl<'a> SackRef<'a> {
         }
         true
     }
-}
-
-/// The two numbers at the front, of two bytes each: how many blocks and how many duplicates there
-/// are, or where a block starts and ends.
-// One load serves both.
-#[inline(always)]
-fn two_numbers(bytes: &[u8]) -> (u16, u16)
-    requires { 4 ≤ length bytes.now }
-    ensures first { result.0 ≡ number16 bytes.now }
-    ensures second { result.1 ≡ number16 (drop 2 bytes.now) }
-{
-    let both = read_u32_be(bytes);
-    ((both / 65536) as u16, (both % 65536) as u16)
 }
 
 /// An iterator over the gap ack blocks of a SACK. A contract sees the list of those that are left.
@@ -234,10 +212,10 @@ impl<'a> Iterator for GapAckBlocks<'a> {
         if self.count == 0 {
             return None;
         }
-        let (start, end) = two_numbers(self.rest);
+        let block = GapAckBlock::read(self.rest);
         self.count -= 1;
         self.rest = &self.rest[4..];
-        Some(GapAckBlock { start, end })
+        Some(block)
     }
 }
 

@@ -1,27 +1,18 @@
 //! The user data of DATA and I-DATA, in a packet's bytes.
 
-ghost use Rattle.std.specs.{Prelude.{◌≡◌, ◌≤◌, IfSome, IsOk, Some, not, option_map, if◌then◌else◌, length, drop}, Result.{result_ok}};
-ghost use Rattle.dcsctp_types.specs.StreamKey.{is_ordered_key, stream_of};
-ghost use Rattle.dcsctp_tlv.specs.Number.{number16};
-ghost use Rattle.dcsctp_chunk.specs.Flags as bits;
+ghost use Rattle.std.specs.{Prelude.{◌≡◌, ◌≤◌, IfSome, IsOk, Some, option_map, length}, Result.{result_ok}};
 ghost use Rattle.dcsctp_chunk.specs.DataChunk as data_kind;
 ghost use Rattle.dcsctp_chunk.specs.IDataChunk as idata_kind;
 ghost use Rattle.dcsctp_wire.specs.Chunk.{ChunkTree};
 ghost use Rattle.dcsctp_borrowed.specs.{RawChunks.{RawMeans}, UserData.{user_data_view, data_of, read_user_data}};
 
+use dcsctp_chunk::data_chunk::DataNumbers;
 use dcsctp_chunk::flags::is_set;
-use dcsctp_tlv::frame::TLV_HEADER_SIZE;
-use dcsctp_tlv::number::{read_u16_be, read_u32_be};
-use dcsctp_types::api::{PpId, StreamId};
+use dcsctp_chunk::idata_chunk::{IDataNumbers, ppid_and_fsn};
+use dcsctp_types::api::PpId;
 use dcsctp_types::types::{Fsn, Mid, Ssn, StreamKey, Tsn};
 use dcsctp_wire::packet::chunk::RawChunk;
 use dcsctp_wire::packet::{data_chunk, idata_chunk};
-
-/// Bytes of a DATA chunk's value before the payload.
-const DATA_SIZE: usize = data_chunk::HEADER_SIZE - TLV_HEADER_SIZE;
-
-/// Bytes of an I-DATA chunk's value before the payload.
-const IDATA_SIZE: usize = idata_chunk::HEADER_SIZE - TLV_HEADER_SIZE;
 
 /// What a DATA (RFC 9260 section 3.3.1) or an I-DATA chunk (RFC 8260 section 2.1) holds. The
 /// payload stays where it lies in the packet.
@@ -89,7 +80,7 @@ impl<'a> UserData<'a> {
             ≡ result_ok (data_kind.read flags value.now) }
         ensures size { IfSome result (λ d. length d.payload.now ≤ length value.now) }
     {
-        if value.len() < DATA_SIZE {
+        if value.len() < DataNumbers::SIZE {
             return None;
         }
         Some(UserData::of_checked_data(flags, value))
@@ -103,14 +94,15 @@ impl<'a> UserData<'a> {
         ensures read { Some (user_data_view result) ≡ result_ok (data_kind.read flags value.now) }
         ensures size { length result.payload.now ≤ length value.now }
     {
+        let data = DataNumbers::read(value);
         UserData {
-            tsn: Tsn(read_u32_be(value)),
-            stream_key: stream_key_of(flags, value),
-            ssn: Ssn(read_u16_be(&value[6..])),
+            tsn: data.tsn,
+            stream_key: StreamKey::new(is_set(flags, 2), data.stream_id),
+            ssn: data.ssn,
             mid: Mid(0),
             fsn: Fsn(0),
-            ppid: PpId(read_u32_be(&value[8..])),
-            payload: &value[DATA_SIZE..],
+            ppid: data.ppid,
+            payload: &value[DataNumbers::SIZE..],
             is_beginning: is_set(flags, 1),
             is_end: is_set(flags, 0),
             immediate_ack: is_set(flags, 3),
@@ -125,7 +117,7 @@ impl<'a> UserData<'a> {
             ≡ result_ok (idata_kind.read flags value.now) }
         ensures size { IfSome result (λ d. length d.payload.now ≤ length value.now) }
     {
-        if value.len() < IDATA_SIZE {
+        if value.len() < IDataNumbers::SIZE {
             return None;
         }
         Some(UserData::of_checked_idata(flags, value))
@@ -140,41 +132,19 @@ impl<'a> UserData<'a> {
         ensures size { length result.payload.now ≤ length value.now }
     {
         let is_beginning = is_set(flags, 1);
-        let (ppid, fsn) = ppid_and_fsn(is_beginning, read_u32_be(&value[12..]));
+        let idata = IDataNumbers::read(value);
+        let (ppid, fsn) = ppid_and_fsn(is_beginning, idata.ppid_or_fsn);
         UserData {
-            tsn: Tsn(read_u32_be(value)),
-            stream_key: stream_key_of(flags, value),
+            tsn: idata.tsn,
+            stream_key: StreamKey::new(is_set(flags, 2), idata.stream_id),
             ssn: Ssn(0),
-            mid: Mid(read_u32_be(&value[8..])),
+            mid: idata.mid,
             fsn,
             ppid,
-            payload: &value[IDATA_SIZE..],
+            payload: &value[IDataNumbers::SIZE..],
             is_beginning,
             is_end: is_set(flags, 0),
             immediate_ack: is_set(flags, 3),
         }
-    }
-}
-
-/// The stream of a chunk with these flags and this value, and whether its U bit is set.
-#[inline(always)]
-fn stream_key_of(flags: u8, value: &[u8]) -> StreamKey
-    requires { 6 ≤ length value.now }
-    ensures unordered { not (is_ordered_key result) ≡ bits.is_set flags 2 }
-    ensures stream { (stream_of result).0 ≡ number16 (drop 4 value.now) }
-{
-    StreamKey::new(is_set(flags, 2), StreamId(read_u16_be(&value[4..])))
-}
-
-/// What the number before an I-DATA chunk's payload says; what it doesn't say is 0.
-#[inline(always)]
-fn ppid_and_fsn(is_beginning: bool, number: u32) -> (PpId, Fsn)
-    ensures ppid { result.0.0 ≡ (if is_beginning then number else 0) }
-    ensures fsn { result.1.0 ≡ (if is_beginning then 0 else number) }
-{
-    if is_beginning {
-        (PpId(number), Fsn(0))
-    } else {
-        (PpId(0), Fsn(number))
     }
 }

@@ -10,13 +10,9 @@ use crate::widths::bytes_in_width;
 use crate::writable_chunk::WritableChunk;
 use dcsctp_chunk::flags::four_flags;
 use dcsctp_tlv::frame::{MAX_VALUE_SIZE, TLV_HEADER_SIZE, put_fixed_and_rest};
-use dcsctp_tlv::number::{put_u16, put_u32};
 use dcsctp_types::api::PpId;
 use dcsctp_types::types::{Ssn, StreamKey, Tsn};
-use dcsctp_wire::packet::data_chunk::{CHUNK_TYPE, HEADER_SIZE};
-
-/// Bytes of the value before the payload.
-const FIXED_SIZE: usize = HEADER_SIZE - TLV_HEADER_SIZE;
+use dcsctp_wire::packet::data_chunk::{CHUNK_TYPE, DataNumbers, HEADER_SIZE};
 
 /// DATA (RFC 9260 section 3.3.1) to be written: a message, or a fragment of one.
 #[derive(Clone, Copy, Debug)]
@@ -40,18 +36,19 @@ pub struct BorrowedData<'a> {
 }
 
 impl BorrowedData<'_> {
-    /// The value before the payload, as it is written.
-    fn fixed(&self) -> [u8; FIXED_SIZE]
+    /// Returns the value before the payload, as it is written.
+    fn fixed(&self) -> [u8; DataNumbers::SIZE]
         ensures bytes { result ≡ fixed_bytes (view self.now) }
         ensures width { IsInWidth (view self.now) }
     {
         bytes_in_width(self.payload);
-        let mut bytes = [0; FIXED_SIZE];
-        put_u32(&mut bytes, 0, self.tsn.0);
-        put_u16(&mut bytes, 4, self.stream_key.id().0);
-        put_u16(&mut bytes, 6, self.ssn.0);
-        put_u32(&mut bytes, 8, self.ppid.0);
-        bytes
+        DataNumbers {
+            tsn: self.tsn,
+            stream_id: self.stream_key.id(),
+            ssn: self.ssn,
+            ppid: self.ppid,
+        }
+        .bytes()
     }
 }
 

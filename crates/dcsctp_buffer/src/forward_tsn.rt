@@ -6,14 +6,13 @@ ghost use Rattle.dcsctp_chunk.specs.SkippedStreams.{SkippedStreamTree, is_by_mid
 ghost use Rattle.dcsctp_buffer.specs.ForwardTsn.{view, chunk_type as type_of, stream_bytes, stream_size as size_of_stream};
 
 use crate::writable_chunk::WritableChunk;
-use dcsctp_tlv::frame::{MAX_VALUE_SIZE, TLV_HEADER_SIZE, put_header};
-use dcsctp_tlv::number::{put_u16, put_u32, write_u16_be};
+use dcsctp_chunk::skipped_streams::stream_has_widths;
+use dcsctp_tlv::fields::Field;
+use dcsctp_tlv::frame::{MAX_VALUE_SIZE, TLV_HEADER_SIZE, put_bytes, put_header};
 use dcsctp_tlv::skipped_stream::SkippedStream;
 use dcsctp_types::types::Tsn;
-use dcsctp_wire::packet::{forward_tsn_chunk, iforward_tsn_chunk};
-
-/// Bytes of the value before the skipped streams.
-const FIXED_SIZE: usize = 4;
+use dcsctp_wire::packet::forward_tsn_chunk::{self, ForwardTsnNumbers, SsnStreamField};
+use dcsctp_wire::packet::iforward_tsn_chunk::{self, MidStreamField};
 
 /// What is written as a skipped stream (RFC 3758 section 3.2, RFC 8260 section 2.3.1): for callers
 /// with a struct of their own for it.
@@ -58,17 +57,20 @@ impl<S: AsSkippedStream> WritableChunk for BorrowedForwardTsn<'_, S> {
             return None;
         }
         let size = stream_size(self.by_mid).saturating_mul(self.skipped_streams.len());
-        if size > MAX_VALUE_SIZE - FIXED_SIZE {
+        if size > MAX_VALUE_SIZE - ForwardTsnNumbers::SIZE {
             return None;
         }
-        Some(TLV_HEADER_SIZE + FIXED_SIZE + size)
+        Some(TLV_HEADER_SIZE + ForwardTsnNumbers::SIZE + size)
     }
 
     fn write_to(&self, output: &mut [u8]) {
         let size = stream_size(self.by_mid) * self.skipped_streams.len();
-        put_header(chunk_type(self.by_mid), 0, FIXED_SIZE + size, output);
-        put_u32(output, TLV_HEADER_SIZE, self.new_cumulative_tsn.0);
-        let place = TLV_HEADER_SIZE + FIXED_SIZE;
+        put_header(chunk_type(self.by_mid), 0, ForwardTsnNumbers::SIZE + size, output);
+        let numbers = ForwardTsnNumbers {
+            new_cumulative_tsn: self.new_cumulative_tsn,
+        };
+        put_bytes(output, TLV_HEADER_SIZE, &numbers.bytes());
+        let place = TLV_HEADER_SIZE + ForwardTsnNumbers::SIZE;
         put_streams(output, place, self.by_mid, self.skipped_streams);
     }
 }
@@ -88,7 +90,11 @@ fn chunk_type(by_mid: bool) -> u8
 fn stream_size(by_mid: bool) -> usize
     ensures { result ≡ size_of_stream by_mid }
 {
-    if by_mid { 8 } else { 4 }
+    if by_mid {
+        MidStreamField::SIZE
+    } else {
+        SsnStreamField::SIZE
+    }
 }
 
 /// Whether each stream has a place in it.
@@ -135,15 +141,10 @@ fn write_stream(by_mid: bool, stream: &SkippedStream, output: &mut [u8])
         ++ drop (size_of_stream by_mid) output.old }
     ensures width { IsSkippedStreamInWidth (skipped_stream_view stream.now) }
 {
-    match stream {
-        SkippedStream::ForwardTsn(id, ssn) => {
-            write_u16_be(output, id.0);
-            put_u16(output, 2, ssn.0);
-        }
-        SkippedStream::IForwardTsn(key, mid) => {
-            write_u16_be(output, key.id().0);
-            put_u16(output, 2, key.is_unordered() as u16);
-            put_u32(output, 4, mid.0);
-        }
+    stream_has_widths(stream);
+    if by_mid {
+        MidStreamField::write(stream, output);
+    } else {
+        SsnStreamField::write(stream, output);
     }
 }

@@ -9,14 +9,9 @@ use crate::data::{data_size, put_data};
 use crate::widths::bytes_in_width;
 use crate::writable_chunk::WritableChunk;
 use dcsctp_chunk::flags::four_flags;
-use dcsctp_tlv::frame::TLV_HEADER_SIZE;
-use dcsctp_tlv::number::{put_u16, put_u32};
 use dcsctp_types::api::PpId;
 use dcsctp_types::types::{Fsn, Mid, StreamKey, Tsn};
-use dcsctp_wire::packet::idata_chunk::{CHUNK_TYPE, HEADER_SIZE};
-
-/// Bytes of the value before the payload.
-const FIXED_SIZE: usize = HEADER_SIZE - TLV_HEADER_SIZE;
+use dcsctp_wire::packet::idata_chunk::{CHUNK_TYPE, HEADER_SIZE, IDataNumbers};
 
 /// I-DATA (RFC 8260 section 2.1) to be written: a message, or a fragment of one.
 #[derive(Clone, Copy, Debug)]
@@ -42,19 +37,20 @@ pub struct BorrowedIData<'a> {
 }
 
 impl BorrowedIData<'_> {
-    /// The value before the payload, as it is written.
-    fn fixed(&self) -> [u8; FIXED_SIZE]
+    /// Returns the value before the payload, as it is written.
+    fn fixed(&self) -> [u8; IDataNumbers::SIZE]
         ensures bytes { result ≡ fixed_bytes (view self.now) }
         ensures width { IsInWidth (view self.now) }
     {
         bytes_in_width(self.payload);
         let (ppid, fsn) = (self.ppid.0, self.fsn.0);
-        let mut bytes = [0; FIXED_SIZE];
-        put_u32(&mut bytes, 0, self.tsn.0);
-        put_u16(&mut bytes, 4, self.stream_key.id().0);
-        put_u32(&mut bytes, 8, self.mid.0);
-        put_u32(&mut bytes, 12, if self.is_beginning { ppid } else { fsn });
-        bytes
+        IDataNumbers {
+            tsn: self.tsn,
+            stream_id: self.stream_key.id(),
+            mid: self.mid,
+            ppid_or_fsn: if self.is_beginning { ppid } else { fsn },
+        }
+        .bytes()
     }
 }
 

@@ -6,12 +6,9 @@ ghost use Rattle.dcsctp_buffer.specs.Init.{fields, view};
 
 use crate::writable_chunk::WritableChunk;
 use dcsctp_tlv::frame::put_solid;
-use dcsctp_tlv::number::{put_u16, put_u32};
 use dcsctp_types::types::Tsn;
-use dcsctp_wire::packet::{TLV_HEADER_SIZE, init_ack_chunk, init_chunk};
-
-/// Bytes of the value before the parameters.
-const FIXED_SIZE: usize = 16;
+use dcsctp_wire::packet::init_chunk::{self, InitNumbers};
+use dcsctp_wire::packet::{TLV_HEADER_SIZE, init_ack_chunk};
 
 /// INIT (RFC 9260 section 3.3.2) or INIT ACK (section 3.3.3) to be written, without parameters
 /// (`add_item` adds them).
@@ -32,18 +29,19 @@ pub struct BorrowedInit {
 }
 
 impl BorrowedInit {
-    /// The value, as it is written.
-    fn fixed(self) -> [u8; FIXED_SIZE]
+    /// Returns the value, as it is written.
+    fn fixed(self) -> [u8; InitNumbers::SIZE]
         ensures bytes { result ≡ leading (fields self) }
         ensures width { IsInWidth (fields self) }
     {
-        let mut bytes = [0; FIXED_SIZE];
-        put_u32(&mut bytes, 0, self.initiate_tag);
-        put_u32(&mut bytes, 4, self.a_rwnd);
-        put_u16(&mut bytes, 8, self.nbr_outbound_streams);
-        put_u16(&mut bytes, 10, self.nbr_inbound_streams);
-        put_u32(&mut bytes, 12, self.initial_tsn.0);
-        bytes
+        InitNumbers {
+            initiate_tag: self.initiate_tag,
+            a_rwnd: self.a_rwnd,
+            nbr_outbound_streams: self.nbr_outbound_streams,
+            nbr_inbound_streams: self.nbr_inbound_streams,
+            initial_tsn: self.initial_tsn,
+        }
+        .bytes()
     }
 }
 
@@ -51,7 +49,7 @@ impl WritableChunk for BorrowedInit {
     ghost tree = { view };
 
     fn written_size(&self) -> Option<usize> {
-        Some(TLV_HEADER_SIZE + FIXED_SIZE)
+        Some(TLV_HEADER_SIZE + InitNumbers::SIZE)
     }
 
     fn write_to(&self, output: &mut [u8]) {

@@ -33,14 +33,14 @@ use crate::error::WriteError;
 use crate::writable_chunk::WritableChunk;
 use dcsctp_crc32c::packet_word;
 use dcsctp_tlv::frame::put_bytes;
-use dcsctp_tlv::number::{is_divisible_by_4, put_u16, put_u32, round_up_to_4};
-use dcsctp_wire::packet::sctp_packet::COMMON_HEADER_SIZE;
+use dcsctp_tlv::number::{is_divisible_by_4, put_u32, round_up_to_4};
+use dcsctp_wire::packet::sctp_packet::{COMMON_HEADER_SIZE, CommonHeader};
 
 /// The most bytes of a packet that is written: the largest multiple of 4 that a packet can have.
 pub const MAX_SIZE: usize = 65532;
 
 /// The offset of the checksum field.
-const CHECKSUM_OFFSET: usize = 8;
+const CHECKSUM_OFFSET: usize = CommonHeader::CHECKSUM;
 
 /// Begins a packet (RFC 9260 section 3.1) with these ports and this tag, a checksum field of zero
 /// and no chunk: writes 12 bytes at the front of the buffer, and sets the size to 12.
@@ -69,11 +69,13 @@ pub fn begin(
     if buffer.len() < COMMON_HEADER_SIZE {
         return Err(WriteError::NoRoom);
     }
-    put_bytes(
-        buffer,
-        0,
-        &header(source_port, destination_port, verification_tag),
-    );
+    let header = CommonHeader {
+        source_port,
+        destination_port,
+        verification_tag,
+        checksum: 0,
+    };
+    put_bytes(buffer, 0, &header.bytes());
     *size = COMMON_HEADER_SIZE;
     Ok(())
 }
@@ -156,27 +158,6 @@ pub fn is_begun(room: usize, size: usize) -> bool
     ensures { IsTrue result ↔ IsBegun room size }
 {
     size >= COMMON_HEADER_SIZE && is_divisible_by_4(size) && size <= room.min(MAX_SIZE)
-}
-
-/// The common header with a checksum of 0: the canonical packet of no chunks.
-#[tactic(auto, unfolding(dcsctp_wire::specs::Canonical::canonical))]
-fn header(
-    source_port: u16,
-    destination_port: u16,
-    verification_tag: u32,
-) -> [u8; COMMON_HEADER_SIZE]
-    ensures { result ≡ canonical (record {
-      source = source_port;
-      destination = destination_port;
-      tag = verification_tag;
-      chunks = [];
-    }) }
-{
-    let mut header = [0; COMMON_HEADER_SIZE];
-    put_u16(&mut header, 0, source_port);
-    put_u16(&mut header, 2, destination_port);
-    put_u32(&mut header, 4, verification_tag);
-    header
 }
 
 /// Writes the chunk at a place, and zeros after it up to a multiple of 4; all other bytes stay.

@@ -9,15 +9,11 @@ use crate::widths::{blocks_in_width, words_in_width};
 use crate::writable_chunk::WritableChunk;
 use dcsctp_tlv::fields::put_fields;
 use dcsctp_tlv::frame::{MAX_VALUE_SIZE, TLV_HEADER_SIZE, put_bytes, put_header};
-use dcsctp_tlv::number::{put_u16, put_u32};
 use dcsctp_types::types::Tsn;
-use dcsctp_wire::packet::sack_chunk::{CHUNK_TYPE, GapAckBlock};
-
-/// Bytes of the value before the gap ack blocks.
-const FIXED_SIZE: usize = 12;
+use dcsctp_wire::packet::sack_chunk::{CHUNK_TYPE, GapAckBlock, SackNumbers};
 
 /// The most blocks and duplicates that two bytes of length have room for.
-const MAX_COUNT: usize = (MAX_VALUE_SIZE - FIXED_SIZE) / 4;
+const MAX_COUNT: usize = (MAX_VALUE_SIZE - SackNumbers::SIZE) / 4;
 
 /// A SACK (RFC 9260 section 3.3.4) to be written. Its blocks and duplicates are written as they
 /// are, in any order.
@@ -34,8 +30,8 @@ pub struct BorrowedSack<'a> {
 }
 
 impl BorrowedSack<'_> {
-    /// The value before its lists, as it is written.
-    fn fixed(&self) -> [u8; FIXED_SIZE]
+    /// Returns the value before its lists, as it is written.
+    fn fixed(&self) -> [u8; SackNumbers::SIZE]
         requires blocks { length self.now.gap_ack_blocks.now < 2 ^ 16 }
         requires duplicates { length self.now.duplicate_tsns.now < 2 ^ 16 }
         ensures bytes { result ≡ fixed_bytes (view self.now) }
@@ -43,12 +39,13 @@ impl BorrowedSack<'_> {
     {
         blocks_in_width(self.gap_ack_blocks);
         words_in_width(self.duplicate_tsns);
-        let mut bytes = [0; FIXED_SIZE];
-        put_u32(&mut bytes, 0, self.cumulative_tsn_ack.0);
-        put_u32(&mut bytes, 4, self.a_rwnd);
-        put_u16(&mut bytes, 8, self.gap_ack_blocks.len() as u16);
-        put_u16(&mut bytes, 10, self.duplicate_tsns.len() as u16);
-        bytes
+        SackNumbers {
+            cumulative_tsn_ack: self.cumulative_tsn_ack,
+            a_rwnd: self.a_rwnd,
+            gap_ack_block_count: self.gap_ack_blocks.len() as u16,
+            duplicate_tsn_count: self.duplicate_tsns.len() as u16,
+        }
+        .bytes()
     }
 }
 
@@ -61,15 +58,15 @@ impl WritableChunk for BorrowedSack<'_> {
         if blocks.saturating_add(duplicates) > MAX_COUNT {
             return None;
         }
-        Some(TLV_HEADER_SIZE + FIXED_SIZE + 4 * blocks + 4 * duplicates)
+        Some(TLV_HEADER_SIZE + SackNumbers::SIZE + 4 * blocks + 4 * duplicates)
     }
 
     fn write_to(&self, output: &mut [u8]) {
         let blocks = self.gap_ack_blocks.len();
-        let value_size = FIXED_SIZE + 4 * blocks + 4 * self.duplicate_tsns.len();
+        let value_size = SackNumbers::SIZE + 4 * blocks + 4 * self.duplicate_tsns.len();
         put_header(CHUNK_TYPE, 0, value_size, output);
         put_bytes(output, TLV_HEADER_SIZE, &self.fixed());
-        let place = TLV_HEADER_SIZE + FIXED_SIZE;
+        let place = TLV_HEADER_SIZE + SackNumbers::SIZE;
         put_fields::<GapAckBlock>(output, place, self.gap_ack_blocks);
         put_fields::<u32>(output, place + 4 * blocks, self.duplicate_tsns);
     }

@@ -7,12 +7,13 @@ ghost use Rattle.dcsctp_cause.specs.Cause.{CauseTree};
 ghost use Rattle.dcsctp_wire.specs.Chunk.{ChunkTree};
 ghost use Rattle.dcsctp_c.specs.{Part.{ReadsInto, Holds, value_at, value_from, ChunkMeans, list_bytes, IsListOf}, Parameter.{IsParameterAt, ParameterMeans, CauseMeans, parameter_value, number_at, number_of, cause_number_of}};
 
-use crate::parts::{INIT_SIZE, part_at, read_number, value_of};
+use crate::parts::{part_at, read_number, value_of};
 use crate::structs::{DcsctpChunk, DcsctpParameter};
 use dcsctp_tlv::frame::split_frame;
+use dcsctp_wire::packet::init_chunk::{self, InitNumbers};
 use dcsctp_wire::packet::{
     TLV_HEADER_SIZE, abort_chunk, error_chunk, heartbeat_ack_chunk, heartbeat_request_chunk,
-    init_ack_chunk, init_chunk, re_config_chunk, read_u16_be,
+    init_ack_chunk, re_config_chunk, read_u16_be,
 };
 
 /// Returns the offset of a chunk's first parameter (RFC 9260 section 3.2.1) or error cause (section
@@ -105,7 +106,7 @@ fn list_place(typ: u8, size: usize) -> usize
         → drop result value ≡ list_bytes typ value }
 {
     match typ {
-        init_chunk::CHUNK_TYPE | init_ack_chunk::CHUNK_TYPE => INIT_SIZE.min(size),
+        init_chunk::CHUNK_TYPE | init_ack_chunk::CHUNK_TYPE => InitNumbers::SIZE.min(size),
         heartbeat_request_chunk::CHUNK_TYPE
         | heartbeat_ack_chunk::CHUNK_TYPE
         | re_config_chunk::CHUNK_TYPE

@@ -19,14 +19,10 @@ use dcsctp_chunk::chunk_validators::clean_in_place;
 use dcsctp_chunk::sack_chunk::GapAckBlock;
 use dcsctp_tlv::frame::split_frame;
 use dcsctp_tlv::skipped_stream::SkippedStream;
+use dcsctp_wire::packet::init_chunk::{self, InitNumbers};
 use dcsctp_wire::packet::raw_chunk::RawChunk;
 use dcsctp_wire::packet::sctp_packet::CommonHeader;
-use dcsctp_wire::packet::{
-    TLV_HEADER_SIZE, init_ack_chunk, init_chunk, read_u16_be, read_u32_be, shutdown_chunk,
-};
-
-/// Bytes of the value of INIT and INIT ACK before the parameters.
-pub(crate) const INIT_SIZE: usize = 16;
+use dcsctp_wire::packet::{TLV_HEADER_SIZE, init_ack_chunk, read_u32_be, shutdown_chunk};
 
 /// Bytes of a value that is one number.
 pub(crate) const NUMBER_SIZE: usize = 4;
@@ -428,15 +424,16 @@ pub(crate) fn init_in(typ: u8, value: &[u8]) -> Option<DcsctpInit>
     if typ != init_chunk::CHUNK_TYPE && typ != init_ack_chunk::CHUNK_TYPE {
         return None;
     }
-    if value.len() < INIT_SIZE {
+    if value.len() < InitNumbers::SIZE {
         return None;
     }
+    let numbers = InitNumbers::read(value);
     Some(DcsctpInit {
-        initiate_tag: read_u32_be(value),
-        a_rwnd: read_u32_be(&value[4..]),
-        outbound_streams: read_u16_be(&value[8..]),
-        inbound_streams: read_u16_be(&value[10..]),
-        initial_tsn: read_u32_be(&value[12..]),
+        initiate_tag: numbers.initiate_tag,
+        a_rwnd: numbers.a_rwnd,
+        outbound_streams: numbers.nbr_outbound_streams,
+        inbound_streams: numbers.nbr_inbound_streams,
+        initial_tsn: numbers.initial_tsn.0,
     })
 }
 

@@ -8,7 +8,7 @@ ghost use Rattle.dcsctp_c.specs.{Code.{policy_of}, Part.{value_at, IsChunkAt}, R
 use crate::codes::{OK, code_of};
 use crate::packet::checksum_policy;
 use crate::parts::{
-    INIT_SIZE, NUMBER_SIZE, data_in, dcsctp_header, forward_struct, framed_chunk, init_in,
+    NUMBER_SIZE, data_in, dcsctp_header, forward_struct, framed_chunk, init_in,
     sack_struct, shutdown_in,
 };
 use crate::structs::{
@@ -18,6 +18,7 @@ use crate::structs::{
 use dcsctp_borrowed::forward_tsn_ref::ForwardTsnRef;
 use dcsctp_borrowed::sack_ref::SackRef;
 use dcsctp_tlv::frame::frame_parts;
+use dcsctp_wire::packet::init_chunk::InitNumbers;
 use dcsctp_wire::packet::raw_chunk::RawChunk;
 use dcsctp_wire::packet::sctp_packet::{COMMON_HEADER_SIZE, SctpPacket};
 
@@ -219,7 +220,7 @@ fn init_row(chunk: &DcsctpChunk, found: &DcsctpInit) -> DcsctpRow
         initiate_tag: found.initiate_tag,
         outbound_streams: found.outbound_streams,
         inbound_streams: found.inbound_streams,
-        ..row_after(INIT_SIZE, chunk)
+        ..row_after(InitNumbers::SIZE, chunk)
     }
 }
 

@@ -2,7 +2,7 @@
 use Rattle.std.{proofs.Common.{◌≡◌, ℕ, List, ◌+◌, ◌*◌, length, drop, refl, sym, ap, ◌∙◌, arith, Ok, ◌==◌, eq-eqb, eqb-true, drop_at, drop-drop}, specs.Int.{w32}, specs.List.{flat_map}, proofs.lemmas.Nat.{from_be_bytes-to_be_bytes_2, from_be_bytes-to_be_bytes_4}}
 use Rattle.dcsctp_tlv.{specs.Fault.{Length}, specs.Fields.{fields}, specs.Image.{IsEncodable}, specs.Length.{length-each}, specs.Number.{number32, numbers}, proofs.FieldLaws.{FieldLaw, length-fields, fields_back, numbers32_back}, proofs.FormatLaws.{FormatLaws, format_laws}, proofs.KindLaws.{of_ok, passed}, proofs.Unpadded.{if_passed}}
 use Rattle.dcsctp_chunk.specs.Sack as sack
-use Rattle.dcsctp_chunk.{specs.Sack.{Tree, block_at, block_bytes, block_count, duplicate_count, IsBlockInWidth, IsInWidth}, proofs.Sacks.{length-lists}}
+use Rattle.dcsctp_chunk.{specs.Sack.{Tree, block_at, block_bytes, numbers_at, IsBlockInWidth, IsInWidth}, proofs.Sacks.{length-lists}}
 
 block_law : FieldLaw block_at block_bytes 4 IsBlockInWidth
 block_law = record {
@@ -23,8 +23,8 @@ back s width fits =
     let duplicates = numbers w32 s.duplicates in
     let sized : length value ≡ 12 + 4 * n + 4 * m =
     (let lists = length-lists s in omega (arith, lists)) in
-    let count : block_count value ≡ n = from_be_bytes-to_be_bytes_2 n (omega (arith, fits)) in
-    let more : duplicate_count value ≡ m = from_be_bytes-to_be_bytes_2 m (omega (arith, fits)) in
+    let count : (numbers_at value).gap_ack_block_count ≡ n = from_be_bytes-to_be_bytes_2 n (omega (arith, fits)) in
+    let more : (numbers_at value).duplicate_tsn_count ≡ m = from_be_bytes-to_be_bytes_2 m (omega (arith, fits)) in
     let blocks_are : fields block_at 4 n (drop 12 value) ≡ s.blocks =
     fields_back block_at block_bytes 4 IsBlockInWidth block_law s.blocks duplicates width.blocks in
     let after : drop (12 + 4 * n) value ≡ duplicates =
@@ -47,8 +47,8 @@ as_long : (value : List ℕ) (s : Tree) → sack.read value ≡ Ok s
     → length (sack.bytes s) ≡ length value
 unfolding sack.read
 as_long value s is =
-    let n = block_count value in
-    let m = duplicate_count value in
+    let n = (numbers_at value).gap_ack_block_count in
+    let m = (numbers_at value).duplicate_tsn_count in
     let whole = passed (length value == 12 + 4 * n + 4 * m) _ Length s is in
     let e = of_ok _ s whole.1 in
     let blocks : length s.blocks ≡ n =
@@ -64,5 +64,5 @@ unfolding sack.read
 sack_laws =
     format_laws sack.read sack.format sack.bytes (λ s. refl)
     (λ s width formed fits. back s width fits) (λ value s is. tt)
-    (λ value. if_passed (length value == 12 + 4 * block_count value + 4 * duplicate_count value) _)
+    (λ value. if_passed (length value == 12 + 4 * (numbers_at value).gap_ack_block_count + 4 * (numbers_at value).duplicate_tsn_count) _)
     (λ value s kept is. as_long value s is)

@@ -2,9 +2,9 @@
 -- their chunks have in common: flag bits 0 to 3 say end, beginning, unordered and immediate ack,
 -- and the others are ignored; the value begins with the TSN in four bytes and the stream id in two,
 -- and ends with the payload.
-use Rattle.std.specs.{Prelude.{ℕ, ◌<◌, ◌^◌, Bool, false, List, [], ◌∷◌, ◌++◌, not, if◌then◌else◌, length, drop, codes}, Fmt.{decimal}}
-use Rattle.dcsctp_types.specs.{StreamKey.{stream_of, is_ordered_key}, declared.types.tsn.Tsn.{Tsn}}
-use Rattle.dcsctp_tlv.specs.Kind.{AreBytes, number16, number32}
+use Rattle.std.specs.{Prelude.{ℕ, ◌<◌, ◌^◌, Bool, false, List, [], ◌∷◌, ◌++◌, not, if◌then◌else◌, length, codes}, Fmt.{decimal}}
+use Rattle.dcsctp_types.specs.{StreamKey.{stream_of, is_ordered_key}, declared.types.tsn.Tsn.{Tsn}, declared.api.stream_id.StreamId.{StreamId}}
+use Rattle.dcsctp_tlv.specs.Kind.{AreBytes}
 use Rattle.dcsctp_chunk.specs.{Flags.{is_set, flag_byte}, declared.data.Data.{Data}}
 
 -- user data as plain data
@@ -68,20 +68,16 @@ pub record Tree : Type 0 where
   pub user_data : DataTree
   pub immediate_ack : Bool
 
--- What flags and a value say, with the user data that they give; the numbers of DATA and of I-DATA
--- lie elsewhere, and are zero here.
-abbrev pub common : ℕ → List ℕ → DataTree
-common flags value = record no_data {
-  unordered = is_set flags 2;
-  stream = number16 (drop 4 value);
-  beginning = is_set flags 1;
-  ending = is_set flags 0;
-}
-
-abbrev pub chunk_of : ℕ → List ℕ → DataTree → Tree
-chunk_of flags value user_data = record {
-  tsn = number32 value;
-  user_data = user_data;
+-- what the flags, the TSN and the stream id say of user data with these other numbers
+abbrev pub chunk_of : ℕ → Tsn → StreamId → DataTree → Tree
+chunk_of flags tsn stream_id numbers = record {
+  tsn = tsn.0;
+  user_data = record numbers {
+    unordered = is_set flags 2;
+    stream = stream_id.0;
+    beginning = is_set flags 1;
+    ending = is_set flags 0;
+  };
   immediate_ack = is_set flags 3;
 }
 

@@ -3,16 +3,31 @@
 -- beginning, or else the FSN; then the payload. The SSN isn't carried, and of payload protocol id
 -- and FSN one alone.
 use Rattle.std.specs.{Prelude.{◌≡◌, ℕ, ◌+◌, List, ◌++◌, nat_lt, Result, Ok, Err, if◌then◌else◌, length, drop, codes, refl}, Int.{w16, w32, to_be_bytes}}
-use Rattle.dcsctp_tlv.{specs.Kind.{Fault, Length, number32, Format, flagged_tlv, Kind, kept_kind, Varied}, proofs.Lengths.{length-fixed}}
-use Rattle.dcsctp_chunk.specs.{Data.{DataTree, Tree, common, chunk_of, flags_of, text, tree_of, IsInWidth}, Flags.{is_set}, declared.idata_chunk.IDataChunk.{IDataChunk}}
+use Rattle.dcsctp_tlv.{specs.Kind.{Fault, Length, number16, number32, Format, flagged_tlv, Kind, kept_kind, Varied}, proofs.Lengths.{length-fixed}}
+use Rattle.dcsctp_chunk.specs.{Data.{DataTree, Tree, no_data, chunk_of, flags_of, text, tree_of, IsInWidth}, Flags.{is_set}, declared.idata_chunk.{IDataChunk.{IDataChunk}, IDataNumbers.{IDataNumbers}}}
+
+-- the numbers before the payload, as they are read and written
+abbrev pub numbers_at : List ℕ → IDataNumbers
+numbers_at value = record {
+  tsn = record { 0 = number32 value };
+  stream_id = record { 0 = number16 (drop 4 value) };
+  mid = record { 0 = number32 (drop 8 value) };
+  ppid_or_fsn = number32 (drop 12 value);
+}
+
+abbrev pub number_bytes : IDataNumbers → List ℕ
+number_bytes n =
+    to_be_bytes w32 n.tsn.0 ++ (to_be_bytes w16 n.stream_id.0 ++ (to_be_bytes w16 0
+    ++ (to_be_bytes w32 n.mid.0 ++ to_be_bytes w32 n.ppid_or_fsn)))
 
 unfoldable pub read : ℕ → List ℕ → Result Tree Fault
 read flags value =
+    let n = numbers_at value in
     if nat_lt (length value) 16 then Err Length else
-    Ok (chunk_of flags value (record (common flags value) {
-      mid = number32 (drop 8 value);
-      fsn = if is_set flags 1 then 0 else number32 (drop 12 value);
-      ppid = if is_set flags 1 then number32 (drop 12 value) else 0;
+    Ok (chunk_of flags n.tsn n.stream_id (record no_data {
+      mid = n.mid.0;
+      fsn = if is_set flags 1 then 0 else n.ppid_or_fsn;
+      ppid = if is_set flags 1 then n.ppid_or_fsn else 0;
       payload = drop 16 value;
     }))
 
@@ -22,9 +37,12 @@ ppid_or_fsn d = if d.beginning then d.ppid else d.fsn
 
 -- the value as it is written: what is before the payload, and the payload
 abbrev pub fixed : Tree → List ℕ
-fixed c =
-    to_be_bytes w32 c.tsn ++ (to_be_bytes w16 c.user_data.stream ++ (to_be_bytes w16 0
-    ++ (to_be_bytes w32 c.user_data.mid ++ to_be_bytes w32 (ppid_or_fsn c.user_data))))
+fixed c = number_bytes (record {
+  tsn = record { 0 = c.tsn };
+  stream_id = record { 0 = c.user_data.stream };
+  mid = record { 0 = c.user_data.mid };
+  ppid_or_fsn = ppid_or_fsn c.user_data;
+})
 
 abbrev pub bytes : Tree → List ℕ
 bytes c = fixed c ++ c.user_data.payload

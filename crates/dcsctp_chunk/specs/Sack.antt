@@ -4,7 +4,7 @@
 use Rattle.std.{proofs.Common.{ℕ, ◌+◌, ◌*◌, ◌<◌, ◌^◌, List, [], ◌∷◌, ◌++◌, ◌==◌, Result, Ok, Err, if◌then◌else◌, length, drop, map, codes, refl, ap, ◌∙◌}, specs.Fmt.{decimal}, specs.Int.{w16, w32, to_be_bytes}, specs.List.{flat_map, AllByRecursion}}
 use Rattle.dcsctp_types.specs.declared.types.tsn.Tsn.{Tsn}
 use Rattle.dcsctp_tlv.{specs.Kind.{Fault, Length, fields, number16, number32, numbers, Format, flagged_tlv, length-two_lists, Kind, plain_kind, Varied}, proofs.Lengths.{length-fixed}}
-use Rattle.dcsctp_chunk.specs.declared.sack_chunk.{GapAckBlock.{GapAckBlock}, SackChunk.{SackChunk}}
+use Rattle.dcsctp_chunk.specs.declared.sack_chunk.{GapAckBlock.{GapAckBlock}, SackChunk.{SackChunk}, SackNumbers.{SackNumbers}}
 
 pub record Tree : Type 0 where
   pub tsn : ℕ
@@ -19,27 +19,44 @@ block_at bytes = record { start = number16 bytes; end = number16 (drop 2 bytes) 
 abbrev pub block_bytes : GapAckBlock → List ℕ
 block_bytes b = numbers w16 (b.start ∷ b.end ∷ [])
 
-abbrev pub block_count : List ℕ → ℕ
-block_count value = number16 (drop 8 value)
+-- the numbers before the lists, as they are read and written
+abbrev pub numbers_at : List ℕ → SackNumbers
+numbers_at value = record {
+  cumulative_tsn_ack = record { 0 = number32 value };
+  a_rwnd = number32 (drop 4 value);
+  gap_ack_block_count = number16 (drop 8 value);
+  duplicate_tsn_count = number16 (drop 10 value);
+}
 
-abbrev pub duplicate_count : List ℕ → ℕ
-duplicate_count value = number16 (drop 10 value)
+abbrev pub number_bytes : SackNumbers → List ℕ
+number_bytes n =
+    numbers w32 (n.cumulative_tsn_ack.0 ∷ n.a_rwnd ∷ [])
+    ++ numbers w16 (n.gap_ack_block_count ∷ n.duplicate_tsn_count ∷ [])
+
+-- the size of the value with so many blocks and duplicates
+abbrev pub size_of_value : SackNumbers → ℕ
+size_of_value n = 12 + 4 * n.gap_ack_block_count + 4 * n.duplicate_tsn_count
 
 unfoldable pub read : List ℕ → Result Tree Fault
 read value =
-    if length value == 12 + 4 * block_count value + 4 * duplicate_count value then Ok (record {
-      tsn = number32 value;
-      a_rwnd = number32 (drop 4 value);
-      blocks = fields block_at 4 (block_count value) (drop 12 value);
+    let n = numbers_at value in
+    if length value == size_of_value n then Ok (record {
+      tsn = n.cumulative_tsn_ack.0;
+      a_rwnd = n.a_rwnd;
+      blocks = fields block_at 4 n.gap_ack_block_count (drop 12 value);
       duplicates =
-          fields number32 4 (duplicate_count value) (drop (12 + 4 * block_count value) value);
+          fields number32 4 n.duplicate_tsn_count (drop (12 + 4 * n.gap_ack_block_count) value);
     }) else
     Err Length
 
 -- the value as it is written: what is before the lists, and the lists
 abbrev pub fixed : Tree → List ℕ
-fixed s =
-    numbers w32 (s.tsn ∷ s.a_rwnd ∷ []) ++ numbers w16 (length s.blocks ∷ length s.duplicates ∷ [])
+fixed s = number_bytes (record {
+  cumulative_tsn_ack = record { 0 = s.tsn };
+  a_rwnd = s.a_rwnd;
+  gap_ack_block_count = length s.blocks;
+  duplicate_tsn_count = length s.duplicates;
+})
 
 abbrev pub lists : Tree → List ℕ
 lists s = flat_map block_bytes s.blocks ++ numbers w32 s.duplicates

@@ -1,8 +1,9 @@
 -- Streams that are skipped: each by a sequence number (RFC 3758 section 3.2), or by a message id
 -- (RFC 8260 section 2.3.1); and what the chunks that hold them have in common.
-use Rattle.std.specs.{Prelude.{◌≡◌, ℕ, ◌+◌, ◌-◌, ◌*◌, ◌/◌, ◌<◌, ◌^◌, Bool, true, false, not, List, ◌∷◌, [], ◌++◌, ◌==◌, Result, Ok, Err, if◌then◌else◌, length, drop, map}, Fmt.{decimal}, List.{AllByRecursion}}
+use Rattle.std.specs.{Prelude.{◌≡◌, ℕ, ◌+◌, ◌-◌, ◌*◌, ◌/◌, ◌<◌, ◌^◌, Bool, true, false, not, List, ◌∷◌, [], ◌++◌, ◌==◌, Result, Ok, Err, if◌then◌else◌, length, drop, map}, Fmt.{decimal}, Int.{w32, to_be_bytes}, List.{AllByRecursion}}
 use Rattle.dcsctp_types.specs.{StreamKey.{stream_of, is_ordered_key}, declared.types.tsn.Tsn.{Tsn}}
 use Rattle.dcsctp_tlv.specs.{Kind.{Fault, Length, fields, number32, Format, length-fields}, Fields.{numbers_and_fields_tlv}, declared.skipped_stream.SkippedStream.{SkippedStream}, declared.skipped_stream.SkippedStream.TheVariants.{ForwardTsn, IForwardTsn}}
+use Rattle.dcsctp_chunk.specs.declared.forward_tsn_chunk.ForwardTsnNumbers.{ForwardTsnNumbers}
 
 pub data SkippedStreamTree : Type 0 where
   -- the stream, and the sequence number of the last message that is skipped
@@ -40,6 +41,13 @@ pub record Tree : Type 0 where
 abbrev pub tree_of : Tsn → List SkippedStream → Tree
 tree_of tsn streams = record { tsn = tsn.0; streams = skipped_stream_views streams }
 
+-- the number before the streams, as it is read and written
+abbrev pub numbers_at : List ℕ → ForwardTsnNumbers
+numbers_at value = record { new_cumulative_tsn = record { 0 = number32 value } }
+
+abbrev pub number_bytes : ForwardTsnNumbers → List ℕ
+number_bytes n = to_be_bytes w32 n.new_cumulative_tsn.0
+
 -- how many streams of a size follow the TSN
 abbrev pub stream_count : ℕ → List ℕ → ℕ
 stream_count size value = (length value - 4) / size
@@ -49,7 +57,7 @@ stream_count size value = (length value - 4) / size
 abbrev pub read_of : (List ℕ → SkippedStreamTree) → ℕ → List ℕ → Result Tree Fault
 read_of stream_at size value =
     if length value == 4 + size * stream_count size value then Ok (record {
-      tsn = number32 value;
+      tsn = (numbers_at value).new_cumulative_tsn.0;
       streams = fields stream_at size (stream_count size value) (drop 4 value);
     }) else
     Err Length

@@ -37,10 +37,64 @@ use std::fmt;
 pub const CHUNK_TYPE: u8 = 0;
 
 /// Bytes of a DATA chunk before its payload.
-pub const HEADER_SIZE: usize = TLV_HEADER_SIZE + FIXED_SIZE;
+pub const HEADER_SIZE: usize = TLV_HEADER_SIZE + DataNumbers::SIZE;
 
-/// Bytes of the value before the payload.
-const FIXED_SIZE: usize = 12;
+/// The numbers at the front of a DATA chunk's value, before its payload (RFC 9260 section 3.3.1).
+#[derive(Clone, Copy, Debug)]
+pub struct DataNumbers {
+    /// The chunk's place in its association.
+    pub tsn: Tsn,
+    /// The stream of the message.
+    pub stream_id: StreamId,
+    /// The message's place in its stream.
+    pub ssn: Ssn,
+    /// What the payload is for.
+    pub ppid: PpId,
+}
+
+impl DataNumbers {
+    /// Their bytes.
+    pub const SIZE: usize = 12;
+
+    /// The offset of the TSN in the value.
+    pub const TSN: usize = 0;
+
+    /// The offset of the stream id in the value.
+    pub const STREAM_ID: usize = 4;
+
+    /// The offset of the SSN in the value.
+    pub const SSN: usize = 6;
+
+    /// The offset of the payload protocol identifier in the value.
+    pub const PPID: usize = 8;
+
+    /// Reads the numbers of a value, which has at least `SIZE` bytes.
+    #[inline(always)]
+    pub fn read(value: &[u8]) -> DataNumbers
+        requires { 12 ≤ length value.now }
+        ensures { result ≡ kind.numbers_at value.now }
+    {
+        DataNumbers {
+            tsn: Tsn(read_u32_be(value)),
+            stream_id: StreamId(read_u16_be(&value[DataNumbers::STREAM_ID..])),
+            ssn: Ssn(read_u16_be(&value[DataNumbers::SSN..])),
+            ppid: PpId(read_u32_be(&value[DataNumbers::PPID..])),
+        }
+    }
+
+    /// Returns the numbers as they are written.
+    #[inline(always)]
+    pub fn bytes(self) -> [u8; DataNumbers::SIZE]
+        ensures { result ≡ kind.number_bytes self }
+    {
+        let mut bytes = [0; DataNumbers::SIZE];
+        put_u32(&mut bytes, DataNumbers::TSN, self.tsn.0);
+        put_u16(&mut bytes, DataNumbers::STREAM_ID, self.stream_id.0);
+        put_u16(&mut bytes, DataNumbers::SSN, self.ssn.0);
+        put_u32(&mut bytes, DataNumbers::PPID, self.ppid.0);
+        bytes
+    }
+}
 
 /// DATA (RFC 9260 section 3.3.1).
 ///
@@ -80,11 +134,11 @@ impl DataChunk {
 
     /// `InvalidLength` if and only if the value has fewer than 12 bytes.
     pub(crate) fn check(value: &[u8]) -> Result<(), ChunkParseError>
-        ensures size { OnOk result (FIXED_SIZE ≤ length value.now) }
-        ensures short { OnErr result (length value.now < FIXED_SIZE) }
+        ensures size { OnOk result (12 ≤ length value.now) }
+        ensures short { OnErr result (length value.now < 12) }
         ensures fault { IfErr result (λ e. e ≡ ChunkParseError.InvalidLength) }
     {
-        if value.len() < FIXED_SIZE {
+        if value.len() < DataNumbers::SIZE {
             return Err(ChunkParseError::InvalidLength);
         }
         Ok(())
@@ -97,16 +151,16 @@ impl DataChunk {
         ensures tight { IfOk result
             (λ x. vec_capacity x.user_data.payload ≡ vec_len x.user_data.payload) }
     {
-        let stream = StreamId(read_u16_be(&value[4..]));
+        let numbers = DataNumbers::read(value);
         Ok(DataChunk {
-            tsn: Tsn(read_u32_be(value)),
+            tsn: numbers.tsn,
             user_data: Data {
-                stream_key: StreamKey::new(is_set(flags, 2), stream),
-                ssn: Ssn(read_u16_be(&value[6..])),
+                stream_key: StreamKey::new(is_set(flags, 2), numbers.stream_id),
+                ssn: numbers.ssn,
                 mid: Mid(0),
                 fsn: Fsn(0),
-                ppid: PpId(read_u32_be(&value[8..])),
-                payload: copied(alloc, &value[FIXED_SIZE..])?,
+                ppid: numbers.ppid,
+                payload: copied(alloc, &value[DataNumbers::SIZE..])?,
                 is_beginning: is_set(flags, 1),
                 is_end: is_set(flags, 0),
             },
@@ -114,17 +168,17 @@ impl DataChunk {
         })
     }
 
-    /// The value before its payload, as it is written.
-    fn fixed(&self) -> [u8; FIXED_SIZE]
+    /// Returns the value before its payload, as it is written.
+    fn fixed(&self) -> [u8; DataNumbers::SIZE]
         ensures { result ≡ kind.fixed (kind.view self.now) }
     {
-        let content = &self.user_data;
-        let mut bytes = [0; FIXED_SIZE];
-        put_u32(&mut bytes, 0, self.tsn.0);
-        put_u16(&mut bytes, 4, content.stream_key.id().0);
-        put_u16(&mut bytes, 6, content.ssn.0);
-        put_u32(&mut bytes, 8, content.ppid.0);
-        bytes
+        DataNumbers {
+            tsn: self.tsn,
+            stream_id: self.user_data.stream_key.id(),
+            ssn: self.user_data.ssn,
+            ppid: self.user_data.ppid,
+        }
+        .bytes()
     }
 }
 
@@ -143,11 +197,11 @@ impl SerializableTlv for DataChunk {
     }
 
     fn value_size(&self) -> usize {
-        FIXED_SIZE + self.user_data.payload.len()
+        DataNumbers::SIZE + self.user_data.payload.len()
     }
 
     fn encodable(&self) -> bool {
-        self.user_data.payload.len() <= MAX_VALUE_SIZE - FIXED_SIZE
+        self.user_data.payload.len() <= MAX_VALUE_SIZE - DataNumbers::SIZE
     }
 
     fn has_widths(&self) {

@@ -12,9 +12,9 @@
 //! +-+-+-+-+-+-+-+-+-+-+-+-+-+-+-+-+-+-+-+-+-+-+-+-+-+-+-+-+-+-+-+-+
 //! ```
 
-ghost use Rattle.std.specs.Prelude.{◌≡◌, ◌≢◌, ◌↔◌, false, Some, IsOk, IsErrOf, IfOk, Ok, vec_len, vec_capacity};
+ghost use Rattle.std.specs.Prelude.{◌≡◌, ◌≢◌, ◌↔◌, ◌≤◌, false, length, Some, IsOk, IsErrOf, IfOk, Ok, vec_len, vec_capacity};
 ghost use Rattle.dcsctp_tlv.specs.Reading.{Exactly, reading, checking, Tested};
-ghost use Rattle.dcsctp_chunk.specs.SkippedStreams.{SkippedStreamTree, is_by_mid, skipped_stream_view};
+ghost use Rattle.dcsctp_chunk.specs.SkippedStreams.{SkippedStreamTree, is_by_mid, numbers_at, number_bytes, skipped_stream_view};
 ghost use Rattle.dcsctp_chunk.specs.ForwardTsn as kind;
 
 use crate::raw_chunk::RawChunk;
@@ -34,12 +34,44 @@ use std::fmt;
 /// The type of FORWARD-TSN.
 pub const CHUNK_TYPE: u8 = 192;
 
-/// Bytes of the value before the skipped streams.
-const FIXED_SIZE: usize = 4;
+/// The number at the front of a FORWARD-TSN's or an I-FORWARD-TSN's value, before its skipped
+/// streams (RFC 3758 section 3.2, RFC 8260 section 2.3.1).
+#[derive(Clone, Copy, Debug)]
+pub struct ForwardTsnNumbers {
+    /// The TSN up to which all is to be taken as received.
+    pub new_cumulative_tsn: Tsn,
+}
 
-/// How a stream that is skipped by a sequence number is laid out: two bytes of stream id, and two
-/// of the number.
-struct SsnStreamField;
+impl ForwardTsnNumbers {
+    /// Its bytes.
+    pub const SIZE: usize = 4;
+
+    /// The offset of the new cumulative TSN in the value.
+    pub const NEW_CUMULATIVE_TSN: usize = 0;
+
+    /// Reads the number of a value, which has at least `SIZE` bytes.
+    #[inline(always)]
+    pub fn read(value: &[u8]) -> ForwardTsnNumbers
+        requires { 4 ≤ length value.now }
+        ensures { result ≡ numbers_at value.now }
+    {
+        ForwardTsnNumbers {
+            new_cumulative_tsn: Tsn(read_u32_be(value)),
+        }
+    }
+
+    /// Returns the number as it is written.
+    #[inline(always)]
+    pub fn bytes(self) -> [u8; ForwardTsnNumbers::SIZE]
+        ensures { result ≡ number_bytes self }
+    {
+        self.new_cumulative_tsn.0.to_be_bytes()
+    }
+}
+
+/// How a stream that is skipped by a sequence number is laid out (RFC 3758 section 3.2): two bytes
+/// of stream id, and two of the number.
+pub struct SsnStreamField;
 
 impl Field for SsnStreamField {
     type Value = SkippedStream;
@@ -58,6 +90,7 @@ impl Field for SsnStreamField {
 
     const SIZE: usize = 4;
 
+    #[inline(always)]
     fn read(bytes: &[u8]) -> SkippedStream {
         SkippedStream::ForwardTsn(StreamId(read_u16_be(bytes)), Ssn(read_u16_be(&bytes[2..])))
     }
@@ -113,7 +146,7 @@ impl ForwardTsnChunk {
     pub(crate) fn check(value: &[u8]) -> Result<(), ChunkParseError>
         ensures { Exactly checking (λ u. u) (Tested (kind.read value.now)) result }
     {
-        if value.len() < FIXED_SIZE {
+        if value.len() < ForwardTsnNumbers::SIZE {
             return Err(ChunkParseError::InvalidLength);
         }
         if !value.len().is_multiple_of(4) {
@@ -129,14 +162,14 @@ impl ForwardTsnChunk {
         ensures tight { IfOk result
             (λ x. vec_capacity x.skipped_streams ≡ vec_len x.skipped_streams) }
     {
-        let count = (value.len() - FIXED_SIZE) / 4;
+        let count = (value.len() - ForwardTsnNumbers::SIZE) / 4;
         let skipped_streams = fields_from_bytes::<SsnStreamField>(
             alloc,
-            &value[FIXED_SIZE..],
+            &value[ForwardTsnNumbers::SIZE..],
             count,
         )?;
         Ok(ForwardTsnChunk {
-            new_cumulative_tsn: Tsn(read_u32_be(value)),
+            new_cumulative_tsn: ForwardTsnNumbers::read(value).new_cumulative_tsn,
             skipped_streams,
         })
     }
@@ -161,14 +194,14 @@ impl SerializableTlv for ForwardTsnChunk {
     }
 
     fn value_size(&self) -> usize {
-        FIXED_SIZE + 4 * self.skipped_streams.len()
+        ForwardTsnNumbers::SIZE + 4 * self.skipped_streams.len()
     }
 
     fn encodable(&self) -> bool {
         if !are_by_mid(false, &self.skipped_streams) {
             return false;
         }
-        self.skipped_streams.len() <= (MAX_VALUE_SIZE - FIXED_SIZE) / 4
+        self.skipped_streams.len() <= (MAX_VALUE_SIZE - ForwardTsnNumbers::SIZE) / 4
     }
 
     fn has_widths(&self) {

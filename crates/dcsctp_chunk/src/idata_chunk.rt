@@ -40,10 +40,65 @@ use std::fmt;
 pub const CHUNK_TYPE: u8 = 64;
 
 /// Bytes of an I-DATA chunk before its payload.
-pub const HEADER_SIZE: usize = TLV_HEADER_SIZE + FIXED_SIZE;
+pub const HEADER_SIZE: usize = TLV_HEADER_SIZE + IDataNumbers::SIZE;
 
-/// Bytes of the value before the payload.
-const FIXED_SIZE: usize = 16;
+/// The numbers at the front of an I-DATA chunk's value, before its payload (RFC 8260 section 2.1).
+/// Two bytes that are ignored, and written as 0, lie after the stream id.
+#[derive(Clone, Copy, Debug)]
+pub struct IDataNumbers {
+    /// The chunk's place in its association.
+    pub tsn: Tsn,
+    /// The stream of the message.
+    pub stream_id: StreamId,
+    /// The message's place in its stream.
+    pub mid: Mid,
+    /// What the payload is for, where the message begins; elsewhere the fragment's place in it.
+    pub ppid_or_fsn: u32,
+}
+
+impl IDataNumbers {
+    /// Their bytes.
+    pub const SIZE: usize = 16;
+
+    /// The offset of the TSN in the value.
+    pub const TSN: usize = 0;
+
+    /// The offset of the stream id in the value.
+    pub const STREAM_ID: usize = 4;
+
+    /// The offset of the MID in the value.
+    pub const MID: usize = 8;
+
+    /// The offset of the payload protocol identifier, or else the FSN, in the value.
+    pub const PPID_OR_FSN: usize = 12;
+
+    /// Reads the numbers of a value, which has at least `SIZE` bytes.
+    #[inline(always)]
+    pub fn read(value: &[u8]) -> IDataNumbers
+        requires { 16 ≤ length value.now }
+        ensures { result ≡ kind.numbers_at value.now }
+    {
+        IDataNumbers {
+            tsn: Tsn(read_u32_be(value)),
+            stream_id: StreamId(read_u16_be(&value[IDataNumbers::STREAM_ID..])),
+            mid: Mid(read_u32_be(&value[IDataNumbers::MID..])),
+            ppid_or_fsn: read_u32_be(&value[IDataNumbers::PPID_OR_FSN..]),
+        }
+    }
+
+    /// Returns the numbers as they are written.
+    #[inline(always)]
+    pub fn bytes(self) -> [u8; IDataNumbers::SIZE]
+        ensures { result ≡ kind.number_bytes self }
+    {
+        let mut bytes = [0; IDataNumbers::SIZE];
+        put_u32(&mut bytes, IDataNumbers::TSN, self.tsn.0);
+        put_u16(&mut bytes, IDataNumbers::STREAM_ID, self.stream_id.0);
+        put_u32(&mut bytes, IDataNumbers::MID, self.mid.0);
+        put_u32(&mut bytes, IDataNumbers::PPID_OR_FSN, self.ppid_or_fsn);
+        bytes
+    }
+}
 
 /// I-DATA (RFC 8260 section 2.1).
 ///
@@ -60,8 +115,10 @@ pub struct IDataChunk {
     pub immediate_ack: bool,
 }
 
-/// What the number before the payload says; what it doesn't say is 0.
-fn ppid_and_fsn(is_beginning: bool, number: u32) -> (PpId, Fsn)
+/// Returns the payload protocol identifier and the FSN that the number before the payload says; the
+/// one that it doesn't say is 0.
+#[inline(always)]
+pub fn ppid_and_fsn(is_beginning: bool, number: u32) -> (PpId, Fsn)
     ensures ppid { result.0.0 ≡ (if is_beginning then number else 0) }
     ensures fsn { result.1.0 ≡ (if is_beginning then 0 else number) }
 {
@@ -72,7 +129,7 @@ fn ppid_and_fsn(is_beginning: bool, number: u32) -> (PpId, Fsn)
     }
 }
 
-/// The number before the payload.
+/// Returns the number before the payload.
 fn ppid_or_fsn(content: &Data) -> u32
     ensures { result ≡ kind.ppid_or_fsn (user_data_view content.now) }
 {
@@ -109,11 +166,11 @@ impl IDataChunk {
 
     /// `InvalidLength` if and only if the value has fewer than 16 bytes.
     pub(crate) fn check(value: &[u8]) -> Result<(), ChunkParseError>
-        ensures size { OnOk result (FIXED_SIZE ≤ length value.now) }
-        ensures short { OnErr result (length value.now < FIXED_SIZE) }
+        ensures size { OnOk result (16 ≤ length value.now) }
+        ensures short { OnErr result (length value.now < 16) }
         ensures fault { IfErr result (λ e. e ≡ ChunkParseError.InvalidLength) }
     {
-        if value.len() < FIXED_SIZE {
+        if value.len() < IDataNumbers::SIZE {
             return Err(ChunkParseError::InvalidLength);
         }
         Ok(())
@@ -127,17 +184,17 @@ impl IDataChunk {
             (λ x. vec_capacity x.user_data.payload ≡ vec_len x.user_data.payload) }
     {
         let is_beginning = is_set(flags, 1);
-        let stream = StreamId(read_u16_be(&value[4..]));
-        let (ppid, fsn) = ppid_and_fsn(is_beginning, read_u32_be(&value[12..]));
+        let numbers = IDataNumbers::read(value);
+        let (ppid, fsn) = ppid_and_fsn(is_beginning, numbers.ppid_or_fsn);
         Ok(IDataChunk {
-            tsn: Tsn(read_u32_be(value)),
+            tsn: numbers.tsn,
             user_data: Data {
-                stream_key: StreamKey::new(is_set(flags, 2), stream),
+                stream_key: StreamKey::new(is_set(flags, 2), numbers.stream_id),
                 ssn: Ssn(0),
-                mid: Mid(read_u32_be(&value[8..])),
+                mid: numbers.mid,
                 fsn,
                 ppid,
-                payload: copied(alloc, &value[FIXED_SIZE..])?,
+                payload: copied(alloc, &value[IDataNumbers::SIZE..])?,
                 is_beginning,
                 is_end: is_set(flags, 0),
             },
@@ -145,18 +202,17 @@ impl IDataChunk {
         })
     }
 
-    /// The value before its payload, as it is written.
-    fn fixed(&self) -> [u8; FIXED_SIZE]
+    /// Returns the value before its payload, as it is written.
+    fn fixed(&self) -> [u8; IDataNumbers::SIZE]
         ensures { result ≡ kind.fixed (kind.view self.now) }
     {
-        let content = &self.user_data;
-        let mut bytes = [0; FIXED_SIZE];
-        put_u32(&mut bytes, 0, self.tsn.0);
-        put_u16(&mut bytes, 4, content.stream_key.id().0);
-        put_u16(&mut bytes, 6, 0);
-        put_u32(&mut bytes, 8, content.mid.0);
-        put_u32(&mut bytes, 12, ppid_or_fsn(content));
-        bytes
+        IDataNumbers {
+            tsn: self.tsn,
+            stream_id: self.user_data.stream_key.id(),
+            mid: self.user_data.mid,
+            ppid_or_fsn: ppid_or_fsn(&self.user_data),
+        }
+        .bytes()
     }
 }
 
@@ -175,11 +231,11 @@ impl SerializableTlv for IDataChunk {
     }
 
     fn value_size(&self) -> usize {
-        FIXED_SIZE + self.user_data.payload.len()
+        IDataNumbers::SIZE + self.user_data.payload.len()
     }
 
     fn encodable(&self) -> bool {
-        self.user_data.payload.len() <= MAX_VALUE_SIZE - FIXED_SIZE
+        self.user_data.payload.len() <= MAX_VALUE_SIZE - IDataNumbers::SIZE
     }
 
     fn has_widths(&self) {

@@ -21,6 +21,7 @@ ghost use Rattle.dcsctp_tlv.specs.Reading.{Exactly, reading, checking, Tested};
 ghost use Rattle.dcsctp_chunk.specs.SkippedStreams.{SkippedStreamTree, is_by_mid, skipped_stream_view};
 ghost use Rattle.dcsctp_chunk.specs.IForwardTsn as kind;
 
+use crate::forward_tsn_chunk::ForwardTsnNumbers;
 use crate::raw_chunk::RawChunk;
 use crate::skipped_streams::{are_by_mid, streams_have_widths};
 use dcsctp_tlv::error::ChunkParseError;
@@ -38,12 +39,9 @@ use std::fmt;
 /// The type of I-FORWARD-TSN.
 pub const CHUNK_TYPE: u8 = 194;
 
-/// Bytes of the value before the skipped streams.
-const FIXED_SIZE: usize = 4;
-
-/// How a stream that is skipped by a message id is laid out: two bytes of stream id, two whose
-/// lowest bit says unordered, and four of message id.
-struct MidStreamField;
+/// How a stream that is skipped by a message id is laid out (RFC 8260 section 2.3.1): two bytes of
+/// stream id, two whose lowest bit says unordered, and four of message id.
+pub struct MidStreamField;
 
 impl Field for MidStreamField {
     type Value = SkippedStream;
@@ -62,6 +60,7 @@ impl Field for MidStreamField {
 
     const SIZE: usize = 8;
 
+    #[inline(always)]
     fn read(bytes: &[u8]) -> SkippedStream {
         let id = StreamId(read_u16_be(bytes));
         let is_unordered = read_u16_be(&bytes[2..]) % 2 == 1;
@@ -122,10 +121,10 @@ impl IForwardTsnChunk {
     pub(crate) fn check(value: &[u8]) -> Result<(), ChunkParseError>
         ensures { Exactly checking (λ u. u) (Tested (kind.read value.now)) result }
     {
-        if value.len() < FIXED_SIZE {
+        if value.len() < ForwardTsnNumbers::SIZE {
             return Err(ChunkParseError::InvalidLength);
         }
-        if !(value.len() - FIXED_SIZE).is_multiple_of(8) {
+        if !(value.len() - ForwardTsnNumbers::SIZE).is_multiple_of(8) {
             return Err(ChunkParseError::InvalidLength);
         }
         Ok(())
@@ -138,14 +137,14 @@ impl IForwardTsnChunk {
         ensures tight { IfOk result
             (λ x. vec_capacity x.skipped_streams ≡ vec_len x.skipped_streams) }
     {
-        let count = (value.len() - FIXED_SIZE) / 8;
+        let count = (value.len() - ForwardTsnNumbers::SIZE) / 8;
         let skipped_streams = fields_from_bytes::<MidStreamField>(
             alloc,
-            &value[FIXED_SIZE..],
+            &value[ForwardTsnNumbers::SIZE..],
             count,
         )?;
         Ok(IForwardTsnChunk {
-            new_cumulative_tsn: Tsn(read_u32_be(value)),
+            new_cumulative_tsn: ForwardTsnNumbers::read(value).new_cumulative_tsn,
             skipped_streams,
         })
     }
@@ -170,14 +169,14 @@ impl SerializableTlv for IForwardTsnChunk {
     }
 
     fn value_size(&self) -> usize {
-        FIXED_SIZE + 8 * self.skipped_streams.len()
+        ForwardTsnNumbers::SIZE + 8 * self.skipped_streams.len()
     }
 
     fn encodable(&self) -> bool {
         if !are_by_mid(true, &self.skipped_streams) {
             return false;
         }
-        self.skipped_streams.len() <= (MAX_VALUE_SIZE - FIXED_SIZE) / 8
+        self.skipped_streams.len() <= (MAX_VALUE_SIZE - ForwardTsnNumbers::SIZE) / 8
     }
 
     fn has_widths(&self) {

@@ -16,5 +16,5 @@ pub mod sack_chunk;
 pub mod shutdown_ack_chunk;
 pub mod shutdown_chunk;
 pub mod shutdown_complete_chunk;
-mod skipped_streams;
+pub mod skipped_streams;
 pub mod unknown_chunk;

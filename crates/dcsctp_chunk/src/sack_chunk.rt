@@ -18,15 +18,15 @@
 //! +-+-+-+-+-+-+-+-+-+-+-+-+-+-+-+-+-+-+-+-+-+-+-+-+-+-+-+-+-+-+-+-+
 //! ```
 
-ghost use Rattle.std.specs.{Prelude.{◌≡◌, ◌≢◌, ◌↔◌, ◌<◌, ◌^◌, Some, IsOk, IsErrOf, length, refl, IfOk, Ok, vec_len, vec_capacity}, List.{AllByRecursion}};
-ghost use Rattle.dcsctp_tlv.specs.Reading.{Exactly, reading, checking, Tested};
+ghost use Rattle.std.specs.{Prelude.{◌≡◌, ◌≢◌, ◌↔◌, ◌<◌, ◌≤◌, ◌^◌, Some, IsOk, IsErrOf, length, drop, refl, IfOk, Ok, vec_len, vec_capacity}, List.{AllByRecursion}};
+ghost use Rattle.dcsctp_tlv.specs.{Number.{number16}, Reading.{Exactly, reading, checking, Tested}};
 ghost use Rattle.dcsctp_chunk.specs.Sack as kind;
 
 use crate::raw_chunk::RawChunk;
 use dcsctp_tlv::error::ChunkParseError;
 use dcsctp_tlv::fields::{Field, fields_from_bytes, put_fields};
 use dcsctp_tlv::frame::{MAX_VALUE_SIZE, TLV_HEADER_SIZE, put_bytes, put_header};
-use dcsctp_tlv::number::{put_u16, put_u32, read_u16_be, read_u32_be, write_u16_be};
+use dcsctp_tlv::number::{put_u16, put_u32, read_u32_be, write_u16_be};
 use dcsctp_tlv::tlv::SerializableTlv;
 use dcsctp_tlv::widths::{Widths, are_in_width};
 use dcsctp_types::types::Tsn;
@@ -36,8 +36,86 @@ use std::fmt;
 /// The type of SACK.
 pub const CHUNK_TYPE: u8 = 3;
 
-/// Bytes of the value before the gap ack blocks.
-const FIXED_SIZE: usize = 12;
+/// The numbers at the front of a SACK's value, before its gap ack blocks and duplicate TSNs (RFC
+/// 9260 section 3.3.4).
+#[derive(Clone, Copy, Debug)]
+pub struct SackNumbers {
+    /// The last TSN that was received in sequence.
+    pub cumulative_tsn_ack: Tsn,
+    /// Bytes that the receiver has room for.
+    pub a_rwnd: u32,
+    /// How many gap ack blocks follow, of four bytes each.
+    pub gap_ack_block_count: u16,
+    /// How many duplicate TSNs follow the blocks, of four bytes each.
+    pub duplicate_tsn_count: u16,
+}
+
+impl SackNumbers {
+    /// Their bytes.
+    pub const SIZE: usize = 12;
+
+    /// The offset of the cumulative TSN ack in the value.
+    pub const CUMULATIVE_TSN_ACK: usize = 0;
+
+    /// The offset of the advertised receiver window credit in the value.
+    pub const A_RWND: usize = 4;
+
+    /// The offset of the number of gap ack blocks in the value.
+    pub const GAP_ACK_BLOCK_COUNT: usize = 8;
+
+    /// The offset of the number of duplicate TSNs in the value.
+    pub const DUPLICATE_TSN_COUNT: usize = 10;
+
+    /// Reads the numbers of a value, which has at least `SIZE` bytes.
+    #[inline(always)]
+    pub fn read(value: &[u8]) -> SackNumbers
+        requires { 12 ≤ length value.now }
+        ensures { result ≡ kind.numbers_at value.now }
+    {
+        let counts = two_numbers(&value[SackNumbers::GAP_ACK_BLOCK_COUNT..]);
+        SackNumbers {
+            cumulative_tsn_ack: Tsn(read_u32_be(value)),
+            a_rwnd: read_u32_be(&value[SackNumbers::A_RWND..]),
+            gap_ack_block_count: counts.0,
+            duplicate_tsn_count: counts.1,
+        }
+    }
+
+    /// Returns the bytes of a value with so many blocks and duplicates.
+    #[inline(always)]
+    pub fn value_size(self) -> usize
+        ensures { result ≡ kind.size_of_value self }
+    {
+        SackNumbers::SIZE
+            + 4 * self.gap_ack_block_count as usize
+            + 4 * self.duplicate_tsn_count as usize
+    }
+
+    /// Returns the numbers as they are written.
+    #[inline(always)]
+    pub fn bytes(self) -> [u8; SackNumbers::SIZE]
+        ensures { result ≡ kind.number_bytes self }
+    {
+        let mut bytes = [0; SackNumbers::SIZE];
+        put_u32(&mut bytes, SackNumbers::CUMULATIVE_TSN_ACK, self.cumulative_tsn_ack.0);
+        put_u32(&mut bytes, SackNumbers::A_RWND, self.a_rwnd);
+        put_u16(&mut bytes, SackNumbers::GAP_ACK_BLOCK_COUNT, self.gap_ack_block_count);
+        put_u16(&mut bytes, SackNumbers::DUPLICATE_TSN_COUNT, self.duplicate_tsn_count);
+        bytes
+    }
+}
+
+/// Returns the two numbers at the front, of two bytes each.
+// One load serves both.
+#[inline(always)]
+fn two_numbers(bytes: &[u8]) -> (u16, u16)
+    requires { 4 ≤ length bytes.now }
+    ensures first { result.0 ≡ number16 bytes.now }
+    ensures second { result.1 ≡ number16 (drop 2 bytes.now) }
+{
+    let both = read_u32_be(bytes);
+    ((both / 65536) as u16, (both % 65536) as u16)
+}
 
 /// A run of TSNs that came in beyond the first one that is missing (RFC 9260 section 3.3.4). Laid
 /// out as a struct of C.
@@ -80,11 +158,10 @@ impl Field for GapAckBlock {
 
     const SIZE: usize = 4;
 
+    #[inline(always)]
     fn read(bytes: &[u8]) -> GapAckBlock {
-        GapAckBlock {
-            start: read_u16_be(bytes),
-            end: read_u16_be(&bytes[2..]),
-        }
+        let (start, end) = two_numbers(bytes);
+        GapAckBlock { start, end }
     }
 
     fn write(value: &GapAckBlock, output: &mut [u8]) {
@@ -137,12 +214,10 @@ impl SackChunk {
     pub(crate) fn check(value: &[u8]) -> Result<(), ChunkParseError>
         ensures { Exactly checking (λ u. u) (Tested (kind.read value.now)) result }
     {
-        if value.len() < FIXED_SIZE {
+        if value.len() < SackNumbers::SIZE {
             return Err(ChunkParseError::InvalidLength);
         }
-        let blocks = read_u16_be(&value[8..]) as usize;
-        let duplicates = read_u16_be(&value[10..]) as usize;
-        if value.len() != FIXED_SIZE + 4 * blocks + 4 * duplicates {
+        if value.len() != SackNumbers::read(value).value_size() {
             return Err(ChunkParseError::InvalidLength);
         }
         Ok(())
@@ -155,29 +230,31 @@ impl SackChunk {
         ensures tight { IfOk result (λ x. (vec_capacity x.gap_ack_blocks ≡ vec_len x.gap_ack_blocks)
             × (vec_capacity x.duplicate_tsns ≡ vec_len x.duplicate_tsns)) }
     {
-        let blocks = read_u16_be(&value[8..]) as usize;
-        let duplicates = read_u16_be(&value[10..]) as usize;
-        let after_blocks = FIXED_SIZE + 4 * blocks;
+        let numbers = SackNumbers::read(value);
+        let blocks = numbers.gap_ack_block_count as usize;
+        let duplicates = numbers.duplicate_tsn_count as usize;
+        let lists = &value[SackNumbers::SIZE..];
         Ok(SackChunk {
-            cumulative_tsn_ack: Tsn(read_u32_be(value)),
-            a_rwnd: read_u32_be(&value[4..]),
-            gap_ack_blocks: fields_from_bytes::<GapAckBlock>(alloc, &value[FIXED_SIZE..], blocks)?,
-            duplicate_tsns: fields_from_bytes::<Tsn>(alloc, &value[after_blocks..], duplicates)?,
+            cumulative_tsn_ack: numbers.cumulative_tsn_ack,
+            a_rwnd: numbers.a_rwnd,
+            gap_ack_blocks: fields_from_bytes::<GapAckBlock>(alloc, lists, blocks)?,
+            duplicate_tsns: fields_from_bytes::<Tsn>(alloc, &lists[4 * blocks..], duplicates)?,
         })
     }
 
-    /// The value before its lists, as it is written.
-    fn fixed(&self) -> [u8; FIXED_SIZE]
+    /// Returns the value before its lists, as it is written.
+    fn fixed(&self) -> [u8; SackNumbers::SIZE]
         requires blocks { length self.now.gap_ack_blocks.items < 2 ^ 16 }
         requires duplicates { length self.now.duplicate_tsns.items < 2 ^ 16 }
         ensures { result ≡ kind.fixed (kind.view self.now) }
     {
-        let mut bytes = [0; FIXED_SIZE];
-        put_u32(&mut bytes, 0, self.cumulative_tsn_ack.0);
-        put_u32(&mut bytes, 4, self.a_rwnd);
-        put_u16(&mut bytes, 8, self.gap_ack_blocks.len() as u16);
-        put_u16(&mut bytes, 10, self.duplicate_tsns.len() as u16);
-        bytes
+        SackNumbers {
+            cumulative_tsn_ack: self.cumulative_tsn_ack,
+            a_rwnd: self.a_rwnd,
+            gap_ack_block_count: self.gap_ack_blocks.len() as u16,
+            duplicate_tsn_count: self.duplicate_tsns.len() as u16,
+        }
+        .bytes()
     }
 }
 
@@ -188,20 +265,20 @@ impl SerializableTlv for SackChunk {
     fn serialize_to(&self, output: &mut [u8]) {
         put_header(CHUNK_TYPE, 0, self.value_size(), output);
         put_bytes(output, TLV_HEADER_SIZE, &self.fixed());
-        let place = TLV_HEADER_SIZE + FIXED_SIZE;
+        let place = TLV_HEADER_SIZE + SackNumbers::SIZE;
         put_fields::<GapAckBlock>(output, place, &self.gap_ack_blocks);
         let after_blocks = place + 4 * self.gap_ack_blocks.len();
         put_fields::<Tsn>(output, after_blocks, &self.duplicate_tsns);
     }
 
     fn value_size(&self) -> usize {
-        FIXED_SIZE + 4 * self.gap_ack_blocks.len() + 4 * self.duplicate_tsns.len()
+        SackNumbers::SIZE + 4 * self.gap_ack_blocks.len() + 4 * self.duplicate_tsns.len()
     }
 
     fn encodable(&self) -> bool {
         let blocks = self.gap_ack_blocks.len();
         let duplicates = self.duplicate_tsns.len();
-        blocks.saturating_add(duplicates) <= (MAX_VALUE_SIZE - FIXED_SIZE) / 4
+        blocks.saturating_add(duplicates) <= (MAX_VALUE_SIZE - SackNumbers::SIZE) / 4
     }
 
     fn has_widths(&self) {

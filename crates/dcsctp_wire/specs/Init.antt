@@ -1,6 +1,7 @@
 -- INIT (RFC 9260 section 3.3.2): type 1.
 use Rattle.std.specs.Prelude.{codes}
 use Rattle.dcsctp_tlv.specs.{Format.{Format}, Kinds.{Kind}}
+use Rattle.dcsctp_tlv.specs.Parameter as parameter
 use Rattle.dcsctp_wire.specs.InitFields as fields
 use Rattle.dcsctp_wire.specs.declared.packet.init_chunk.InitChunk.{InitChunk}
 
@@ -17,5 +18,4 @@ view c = fields.view (record {
   nbr_outbound_streams = c.nbr_outbound_streams;
   nbr_inbound_streams = c.nbr_inbound_streams;
   initial_tsn = c.initial_tsn;
-  parameters = c.parameters;
-})
+}) (parameter.views c.parameters.items)

@@ -1,6 +1,7 @@
 -- INIT ACK (RFC 9260 section 3.3.3): type 2.
 use Rattle.std.specs.Prelude.{codes}
 use Rattle.dcsctp_tlv.specs.{Format.{Format}, Kinds.{Kind}}
+use Rattle.dcsctp_tlv.specs.Parameter as parameter
 use Rattle.dcsctp_wire.specs.InitFields as fields
 use Rattle.dcsctp_wire.specs.declared.packet.init_ack_chunk.InitAckChunk.{InitAckChunk}
 
@@ -17,5 +18,4 @@ view c = fields.view (record {
   nbr_outbound_streams = c.nbr_outbound_streams;
   nbr_inbound_streams = c.nbr_inbound_streams;
   initial_tsn = c.initial_tsn;
-  parameters = c.parameters;
-})
+}) (parameter.views c.parameters.items)

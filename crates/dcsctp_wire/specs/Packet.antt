@@ -2,7 +2,7 @@
 -- section 5.2).
 --
 --   | source port u16 | destination port u16 | verification tag u32 | checksum u32 | chunks .. |
-use Rattle.std.specs.Prelude.{◌≡◌, ◌≢◌, ℕ, ◌≤◌, ◌+◌, Bool, List, Result, Ok, Err, true, length, drop, nat_lt, if◌then◌else◌}
+use Rattle.std.specs.{Prelude.{◌≡◌, ◌≢◌, ℕ, ◌≤◌, ◌+◌, ◌++◌, Bool, List, Result, Ok, Err, true, length, drop, nat_lt, if◌then◌else◌}, Int.{w16, w32, to_be_bytes}}
 use Rattle.dcsctp_tlv.specs.{Fault.{Fault}, Number.{number16, number32}, Level.{MeansTrees, HasFault}, Reading.{Errors, Unplaced, error_of}, declared.error.ChunkParseError.TheVariants.{OutOfMemory}}
 use Rattle.dcsctp_wire.specs.{declared.packet.sctp_packet.PacketParseError.{PacketParseError}, declared.packet.sctp_packet.PacketParseError.TheVariants.{InvalidPacketSize, InvalidChecksum, FailedParseChunk}, declared.packet.sctp_packet.ChecksumPolicy.{ChecksumPolicy}, declared.packet.common_header.CommonHeader.{CommonHeader}, declared.packet.sctp_packet.SctpPacket.{SctpPacket}, Chunk.{ChunkTree, chunks, views}}
 
@@ -63,6 +63,12 @@ header_of bytes = record {
   verification_tag = number32 (drop 4 bytes);
   checksum = checksum_field bytes;
 }
+
+-- the header as it is written
+abbrev pub header_bytes : CommonHeader → List ℕ
+header_bytes h =
+    to_be_bytes w16 h.source_port ++ (to_be_bytes w16 h.destination_port
+    ++ (to_be_bytes w32 h.verification_tag ++ to_be_bytes w32 h.checksum))
 
 -- a packet with this header, and these chunks
 abbrev pub with_header : CommonHeader → List ChunkTree → PacketTree

@@ -10,7 +10,6 @@ pub mod heartbeat_ack_chunk;
 pub mod heartbeat_request_chunk;
 pub mod init_ack_chunk;
 pub mod init_chunk;
-mod init_fields;
 mod parameter_list;
 pub mod re_config_chunk;
 pub mod sctp_packet;

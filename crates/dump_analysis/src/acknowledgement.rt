@@ -6,6 +6,7 @@ ghost use Rattle.dump_analysis.specs.Acknowledged.{IsAcknowledged};
 use crate::chunk_type::{NR_SACK, SACK, SHUTDOWN};
 use crate::serial::is_after;
 use dcsctp_borrowed::part::Item;
+use dcsctp_wire::packet::sack_chunk::SackNumbers;
 use dcsctp_wire::packet::{read_u16_be, read_u32_be};
 
 /// The TSNs that a chunk acknowledges, as far as it was captured.
@@ -28,11 +29,11 @@ impl<'a> Acknowledgement<'a> {
         }
         let cumulative = read_u32_be(value);
         match chunk.first {
-            SACK if value.len() >= 12 => {
+            SACK if value.len() >= SackNumbers::SIZE => {
                 Some(Acknowledgement {
                     cumulative,
-                    blocks: &value[12..],
-                    count: read_u16_be(&value[8..]) as usize,
+                    blocks: &value[SackNumbers::SIZE..],
+                    count: SackNumbers::read(value).gap_ack_block_count as usize,
                 })
             }
             NR_SACK if value.len() >= 16 => {

@@ -12,6 +12,10 @@ use crate::chunk_type;
 use crate::fields::{is_u16, is_u32};
 use crate::parameters::{has_no_cookie, has_no_heartbeat_info};
 use dcsctp_borrowed::part::{Item, Part};
+use dcsctp_wire::packet::data_chunk::DataNumbers;
+use dcsctp_wire::packet::idata_chunk::IDataNumbers;
+use dcsctp_wire::packet::init_chunk::InitNumbers;
+use dcsctp_wire::packet::sack_chunk::SackNumbers;
 use dcsctp_wire::packet::{read_u16_be, read_u32_be};
 
 /// What is asked of a chunk.
@@ -107,7 +111,7 @@ fn has_small_window(value: Part<'_>) -> bool
     ensures { let v = part_of value.entry in
         result ≡ (nat_le 8 (length v.bytes) && nat_lt (number32 (after 4 v).bytes) 1500) }
 {
-    value.bytes.len() >= 8 && read_u32_be(&value.bytes[4..]) < 1500
+    value.bytes.len() >= 8 && read_u32_be(&value.bytes[InitNumbers::A_RWND..]) < 1500
 }
 
 /// Returns whether it is user data with this payload protocol identifier, which every DATA has, and
@@ -116,8 +120,11 @@ fn has_ppid(chunk: Item<'_>, ppid: u32) -> bool
     ensures { result ≡ has_ppid ppid (item_of chunk.entry) }
 {
     match chunk.first {
-        chunk_type::DATA => is_u32(chunk.value.after(8), ppid),
-        chunk_type::I_DATA => chunk.second / 2 % 2 == 1 && is_u32(chunk.value.after(12), ppid),
+        chunk_type::DATA => is_u32(chunk.value.after(DataNumbers::PPID), ppid),
+        chunk_type::I_DATA => {
+            let place = IDataNumbers::PPID_OR_FSN;
+            chunk.second / 2 % 2 == 1 && is_u32(chunk.value.after(place), ppid)
+        }
         _ => false,
     }
 }
@@ -151,7 +158,9 @@ fn has_wrong_blocks(chunk: Item<'_>) -> bool
 {
     let value = chunk.value;
     match chunk.first {
-        chunk_type::SACK => has_wrong_list(value, 8, 12),
+        chunk_type::SACK => {
+            has_wrong_list(value, SackNumbers::GAP_ACK_BLOCK_COUNT, SackNumbers::SIZE)
+        }
         chunk_type::NR_SACK => {
             let numbers = value.after(8).bytes;
             if numbers.len() < 2 {

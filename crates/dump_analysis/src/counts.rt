@@ -9,6 +9,7 @@ use crate::chunk_type::{DATA, FORWARD_TSN, HEARTBEAT, I_DATA, I_FORWARD_TSN, INI
 use crate::packet_number::PacketNumber;
 use dcsctp_borrowed::checksum::Checksum;
 use dcsctp_borrowed::part::{Item, Items, Part};
+use dcsctp_wire::packet::sack_chunk::SackNumbers;
 use dcsctp_wire::packet::sctp_packet::COMMON_HEADER_SIZE;
 use dcsctp_wire::packet::{read_u16_be, read_u32_be};
 use dump_capture::frame::{Addresses, FoundPacket};
@@ -224,11 +225,11 @@ impl Counts {
         ensures { self.new ≡ with_sack number self.old value.now }
     {
         increase(&mut self.sacks);
-        if value.len() < 12 {
+        if value.len() < SackNumbers::SIZE {
             return;
         }
-        let has_gaps = read_u16_be(&value[8..]) > 0;
-        self.count_report(number, read_u32_be(&value[4..]), has_gaps);
+        let numbers = SackNumbers::read(value);
+        self.count_report(number, numbers.a_rwnd, numbers.gap_ack_block_count > 0);
     }
 
     /// Counts an NR-SACK with this value, as far as it was captured.

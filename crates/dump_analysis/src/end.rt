@@ -19,6 +19,7 @@ use crate::tsns::{Step, Tsns};
 use crate::unanswered::{Unanswered, digest};
 use dcsctp_borrowed::part::Item;
 use dcsctp_wire::packet::read_u32_be;
+use dcsctp_wire::packet::sack_chunk::SackNumbers;
 use std::net::IpAddr;
 
 /// How many addresses of an end are kept.
@@ -171,7 +172,7 @@ impl End {
                 return Some(self.note_tsn(packet, read_u32_be(value)));
             }
             SACK | NR_SACK if value.len() >= 8 => {
-                self.note_window(read_u32_be(&value[4..]), packet.number);
+                self.note_window(read_u32_be(&value[SackNumbers::A_RWND..]), packet.number);
             }
             FORWARD_TSN | I_FORWARD_TSN if value.len() >= 4 => {
                 self.note_skipped(read_u32_be(value), packet.number);

@@ -8,28 +8,17 @@ use dcsctp_borrowed::forward_tsn_ref::ForwardTsnRef;
 use dcsctp_borrowed::part::{Item, Part};
 use dcsctp_borrowed::user_data::UserData;
 use dcsctp_wire::packet::chunk::RawChunk;
-use dcsctp_wire::packet::read_u16_be;
+use dcsctp_wire::packet::data_chunk::DataNumbers;
+use dcsctp_wire::packet::forward_tsn_chunk::ForwardTsnNumbers;
+use dcsctp_wire::packet::idata_chunk::IDataNumbers;
+use dcsctp_wire::packet::init_chunk::InitNumbers;
+use dcsctp_wire::packet::sack_chunk::SackNumbers;
 use dump_text::names::Level;
 use dump_text::registry::payload_protocol;
 use std::fmt;
 
-/// Bytes of INIT and INIT ACK before the parameters.
-pub const INIT_SIZE: usize = 20;
-
-/// Bytes of SACK before the gap ack blocks and the duplicate TSNs.
-const SACK_SIZE: usize = 16;
-
 /// Bytes of a gap ack block, and of a duplicate TSN.
 const SACK_ENTRY_SIZE: usize = 4;
-
-/// Bytes of DATA before the payload.
-const DATA_SIZE: usize = 16;
-
-/// Bytes of I-DATA before the payload.
-const IDATA_SIZE: usize = 20;
-
-/// Bytes of FORWARD-TSN and I-FORWARD-TSN before the streams.
-const FORWARD_TSN_SIZE: usize = 8;
 
 /// Hands over each chunk of a packet's list, as far as there are chunks.
 pub fn walk_chunks<F: Fields>(list: Part<'_>, fields: &mut F) -> fmt::Result {
@@ -58,9 +47,9 @@ fn walk_meaning<F: Fields>(chunk: &Item<'_>, fields: &mut F) -> Result<bool, fmt
         // DATA, I-DATA
         0 | 64 => return walk_data(chunk, fields),
         // INIT, INIT ACK
-        1 | 2 if size >= INIT_SIZE - HEADER_SIZE => {
+        1 | 2 if size >= InitNumbers::SIZE => {
             walk_init(chunk, fields)?;
-            walk_parameters(value.after(INIT_SIZE - HEADER_SIZE), fields)?;
+            walk_parameters(value.after(InitNumbers::SIZE), fields)?;
         }
         // SACK
         3 => return walk_sack(chunk, fields),
@@ -98,37 +87,37 @@ fn tag_reflected(chunk: &Item<'_>) -> Flag {
 
 /// Hands over the numbers of an INIT or an INIT ACK.
 fn walk_init<F: Fields>(chunk: &Item<'_>, fields: &mut F) -> fmt::Result {
-    let tag = Number::read(": tag ", "tag", chunk, 4, 4);
+    let (outbound, inbound) = (InitNumbers::NBR_OUTBOUND_STREAMS, InitNumbers::NBR_INBOUND_STREAMS);
+    let tag = Number::at(": tag ", "tag", chunk, InitNumbers::INITIATE_TAG, 4);
     fields.number(&tag.in_form(Form::Hexadecimal))?;
-    fields.number(&Number::read(", a_rwnd ", "a_rwnd", chunk, 8, 4))?;
-    fields.number(&Number::read(", outbound streams ", "outbound_streams", chunk, 12, 2))?;
-    fields.number(&Number::read(", inbound streams ", "inbound_streams", chunk, 14, 2))?;
-    fields.number(&Number::read(", initial tsn ", "initial_tsn", chunk, 16, 4))
+    fields.number(&Number::at(", a_rwnd ", "a_rwnd", chunk, InitNumbers::A_RWND, 4))?;
+    fields.number(&Number::at(", outbound streams ", "outbound_streams", chunk, outbound, 2))?;
+    fields.number(&Number::at(", inbound streams ", "inbound_streams", chunk, inbound, 2))?;
+    fields.number(&Number::at(", initial tsn ", "initial_tsn", chunk, InitNumbers::INITIAL_TSN, 4))
 }
 
 /// Hands over a SACK, as far as its lists were captured, as `walk_meaning` does.
 fn walk_sack<F: Fields>(chunk: &Item<'_>, fields: &mut F) -> Result<bool, fmt::Error> {
     let bytes = chunk.value.bytes;
-    if bytes.len() < SACK_SIZE - HEADER_SIZE {
+    if bytes.len() < SackNumbers::SIZE {
         return Ok(false);
     }
-    let tsn = Number::read(": cumulative tsn ", "cumulative_tsn", chunk, 4, 4);
-    let blocks = read_u16_be(&bytes[8..]) as usize;
-    let duplicates = read_u16_be(&bytes[10..]) as usize;
-    let lists_size = SACK_ENTRY_SIZE * (blocks + duplicates);
-    if chunk.value.size != SACK_SIZE - HEADER_SIZE + lists_size {
+    let numbers = SackNumbers::read(bytes);
+    if chunk.value.size != numbers.value_size() {
         return Ok(false);
     }
-    fields.number(&tsn)?;
-    fields.number(&Number::read(", a_rwnd ", "a_rwnd", chunk, 8, 4))?;
-    let captured = (bytes.len() - (SACK_SIZE - HEADER_SIZE)) / SACK_ENTRY_SIZE;
+    let cumulative = SackNumbers::CUMULATIVE_TSN_ACK;
+    fields.number(&Number::at(": cumulative tsn ", "cumulative_tsn", chunk, cumulative, 4))?;
+    fields.number(&Number::at(", a_rwnd ", "a_rwnd", chunk, SackNumbers::A_RWND, 4))?;
+    let captured = (bytes.len() - SackNumbers::SIZE) / SACK_ENTRY_SIZE;
+    let blocks = numbers.gap_ack_block_count as usize;
     let blocks_captured = blocks.min(captured);
-    walk_blocks(blocks_captured, tsn.value, chunk, fields)?;
-    let first_duplicate = Number::read(
+    walk_blocks(blocks_captured, numbers.cumulative_tsn_ack.0, chunk, fields)?;
+    let first_duplicate = Number::at(
         "\n  duplicate tsn ",
         "tsn",
         chunk,
-        SACK_SIZE + SACK_ENTRY_SIZE * blocks,
+        SackNumbers::SIZE + SACK_ENTRY_SIZE * blocks,
         4,
     );
     walk_numbers(
@@ -149,7 +138,7 @@ fn walk_blocks<F: Fields>(
     fields: &mut F,
 ) -> fmt::Result {
     fields.begin_list("blocks", count == 0)?;
-    let mut start = Number::read("", "start", chunk, SACK_SIZE, 2);
+    let mut start = Number::at("", "start", chunk, SackNumbers::SIZE, 2);
     for _ in 0..count {
         let end = start.next(chunk);
         fields.block(&Block {
@@ -170,11 +159,12 @@ fn walk_forward_tsn<F: Fields>(chunk: &Item<'_>, fields: &mut F) -> Result<bool,
         return Ok(false);
     };
     let words = ": new cumulative tsn ";
-    fields.number(&Number::read(words, "new_cumulative_tsn", chunk, 4, 4))?;
+    let place = ForwardTsnNumbers::NEW_CUMULATIVE_TSN;
+    fields.number(&Number::at(words, "new_cumulative_tsn", chunk, place, 4))?;
     let count = forward.skipped_stream_count();
     let size = if typ == 192 { 4 } else { 8 };
     fields.begin_list("streams", count == 0)?;
-    let mut offset = FORWARD_TSN_SIZE;
+    let mut offset = HEADER_SIZE + ForwardTsnNumbers::SIZE;
     for _ in 0..count {
         walk_stream(offset, size, chunk, fields)?;
         offset = offset.saturating_add(size);
@@ -210,23 +200,25 @@ fn walk_data<F: Fields>(chunk: &Item<'_>, fields: &mut F) -> Result<bool, fmt::E
     let Some(data) = UserData::from_raw(&RawChunk { typ, flags, value }) else {
         return Ok(false);
     };
-    fields.number(&Number::read(": tsn ", "tsn", chunk, 4, 4))?;
-    fields.number(&Number::read(", stream ", "stream", chunk, 8, 2))?;
-    let offset = if typ == 0 {
-        fields.number(&Number::read(", ssn ", "ssn", chunk, 10, 2))?;
-        walk_ppid(12, chunk, fields)?;
-        DATA_SIZE
+    // (both kinds have these two at the same places)
+    fields.number(&Number::at(": tsn ", "tsn", chunk, DataNumbers::TSN, 4))?;
+    fields.number(&Number::at(", stream ", "stream", chunk, DataNumbers::STREAM_ID, 2))?;
+    let size = if typ == 0 {
+        fields.number(&Number::at(", ssn ", "ssn", chunk, DataNumbers::SSN, 2))?;
+        walk_ppid(DataNumbers::PPID, chunk, fields)?;
+        DataNumbers::SIZE
     } else {
-        fields.number(&Number::read(", mid ", "mid", chunk, 12, 4))?;
+        fields.number(&Number::at(", mid ", "mid", chunk, IDataNumbers::MID, 4))?;
         if data.is_beginning {
-            walk_ppid(16, chunk, fields)?;
+            walk_ppid(IDataNumbers::PPID_OR_FSN, chunk, fields)?;
         } else {
-            fields.number(&Number::read(", fsn ", "fsn", chunk, 16, 4))?;
+            fields.number(&Number::at(", fsn ", "fsn", chunk, IDataNumbers::PPID_OR_FSN, 4))?;
         }
-        IDATA_SIZE
+        IDataNumbers::SIZE
     };
     walk_bits(&data, fields)?;
-    let payload = chunk.value.after(offset - HEADER_SIZE);
+    let offset = HEADER_SIZE + size;
+    let payload = chunk.value.after(size);
     let is_message = data.is_beginning && data.is_end && payload.is_whole();
     fields.payload(payload, offset, is_message && data.ppid.0 == 51)?;
     if is_message && data.ppid.0 == 50 {
@@ -235,9 +227,9 @@ fn walk_data<F: Fields>(chunk: &Item<'_>, fields: &mut F) -> Result<bool, fmt::E
     Ok(true)
 }
 
-/// Hands over a payload protocol identifier.
-fn walk_ppid<F: Fields>(offset: usize, chunk: &Item<'_>, fields: &mut F) -> fmt::Result {
-    let ppid = Number::read(", ppid ", "ppid", chunk, offset, 4);
+/// Hands over a payload protocol identifier, which is at a place in the value.
+fn walk_ppid<F: Fields>(place: usize, chunk: &Item<'_>, fields: &mut F) -> fmt::Result {
+    let ppid = Number::at(", ppid ", "ppid", chunk, place, 4);
     fields.named(&ppid, payload_protocol(ppid.value))
 }
 

@@ -1,8 +1,9 @@
 //! Why bytes are no packet, and where, as text.
 
-use crate::chunks::INIT_SIZE;
 use crate::fields::HEADER_SIZE;
 use dcsctp_borrowed::part::{Item, Part};
+use dcsctp_wire::packet::init_chunk::InitNumbers;
+use dcsctp_wire::packet::sack_chunk::SackNumbers;
 use dcsctp_wire::packet::sctp_packet::{COMMON_HEADER_SIZE, FirstFault, PacketParseError};
 use dcsctp_wire::packet::{ChunkParseError, read_u16_be, read_u32_be};
 use dump_text::names::{ItemName, Level};
@@ -234,7 +235,7 @@ impl<'a> Place<'a> {
     /// The place in a chunk's list, where it has one, and the offset is in it.
     fn within(self, chunk: Item<'a>) -> Place<'a> {
         let (level, start) = match chunk.first {
-            1 | 2 => (Level::Parameter, INIT_SIZE - HEADER_SIZE),
+            1 | 2 => (Level::Parameter, InitNumbers::SIZE),
             4 | 5 | 130 => (Level::Parameter, 0),
             6 | 9 => (Level::Cause, 0),
             _ => return self,
@@ -325,9 +326,9 @@ fn sizes(name: ItemName, bytes: &[u8]) -> (usize, u8) {
     match (name.level, name.code) {
         (Level::Chunk, code) => {
             let typ = code.to_be_bytes()[0];
-            if typ == 3 && bytes.len() >= 16 {
-                let (blocks, duplicates) = (read_u16_be(&bytes[12..]), read_u16_be(&bytes[14..]));
-                return (16 + 4 * (blocks as usize + duplicates as usize), 0);
+            if typ == 3 && bytes.len() >= HEADER_SIZE + SackNumbers::SIZE {
+                let numbers = SackNumbers::read(&bytes[HEADER_SIZE..]);
+                return (HEADER_SIZE + numbers.value_size(), 0);
             }
             least_chunk(typ)
         }

@@ -66,6 +66,18 @@ impl Number {
         }
     }
 
+    /// Reads a number at a place in an item's value, as `read` does.
+    #[inline(always)]
+    pub fn at(
+        words: &'static str,
+        key: &'static str,
+        item: &Item<'_>,
+        place: usize,
+        size: usize,
+    ) -> Number {
+        Number::read(words, key, item, place.saturating_add(HEADER_SIZE), size)
+    }
+
     /// Returns it in another form.
     #[inline(always)]
     pub fn in_form(self, form: Form) -> Number {

@@ -6,7 +6,7 @@ ghost use Rattle.dcsctp_tlv.specs.{Frame.{round_up_to_4}, Image.{size_of, image_
 ghost use Rattle.dcsctp_wire.specs.{Chunk.{ChunkTree, tlv as chunk_tlv, IsChunkEncodable, view, all_kept as kept_chunks, IsWellFormed as IsChunkWellFormed}, Canonical.{padded_chunk, padded_size}, Builder.{Holds, IsHeaderInWidth, meaning_with, room, begun, built}, Packet.{IsAccepted, checksum_field, Answer}, declared.packet.sctp_packet.ChecksumPolicy.{ChecksumPolicy}};
 
 use crate::packet::chunk::{Chunk, chunk_has_widths};
-use crate::packet::common_header::{COMMON_HEADER_SIZE, header_bytes};
+use crate::packet::common_header::{COMMON_HEADER_SIZE, CommonHeader};
 use dcsctp_tlv::copy::copied_with_room;
 use dcsctp_tlv::number::{put_u32, round_up_to_4};
 use dcsctp_tlv::tlv::SerializableTlv;
@@ -157,7 +157,13 @@ impl SctpPacketBuilder {
         ensures succeeds { self.old.bytes ≢ [] → IsOk result }
     {
         if self.bytes.is_empty() {
-            let header = header_bytes(self.source_port, self.dest_port, self.verification_tag);
+            let header = CommonHeader {
+                source_port: self.source_port,
+                destination_port: self.dest_port,
+                verification_tag: self.verification_tag,
+                checksum: 0,
+            }
+            .bytes();
             let alloc = *self.bytes.allocator();
             self.bytes = copied_with_room(alloc, &header, self.max_packet_size)?;
         }

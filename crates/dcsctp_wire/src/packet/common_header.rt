@@ -13,7 +13,7 @@
 //! ```
 
 ghost use Rattle.std.specs.Prelude.{◌≡◌, ◌↔◌, ◌≤◌, [], Some, IsSome, IfSome, length};
-ghost use Rattle.dcsctp_wire.specs.{Packet.{header_of}, Canonical.{canonical}, PacketText.{header_text}};
+ghost use Rattle.dcsctp_wire.specs.{Packet.{header_bytes, header_of}, Canonical.{canonical}, PacketText.{header_text}};
 
 use dcsctp_tlv::number::{put_u32, read_u16_be, read_u32_be};
 use std::fmt;
@@ -22,7 +22,7 @@ use std::fmt;
 pub const COMMON_HEADER_SIZE: usize = 12;
 
 /// What comes before the chunks of a packet (RFC 9260 section 3.1).
-#[derive(Debug, Drop)]
+#[derive(Clone, Copy, Debug)]
 pub struct CommonHeader {
     /// The sender's port, as the sender sees it.
     pub source_port: u16,
@@ -35,6 +35,18 @@ pub struct CommonHeader {
 }
 
 impl CommonHeader {
+    /// The offset of the source port in the packet.
+    pub const SOURCE_PORT: usize = 0;
+
+    /// The offset of the destination port in the packet.
+    pub const DESTINATION_PORT: usize = 2;
+
+    /// The offset of the verification tag in the packet.
+    pub const VERIFICATION_TAG: usize = 4;
+
+    /// The offset of the checksum field in the packet.
+    pub const CHECKSUM: usize = 8;
+
     /// Reads the first 12 bytes of a packet; returns `None` of fewer bytes. It looks at nothing
     /// else: neither the packet's size, nor its checksum, nor its chunks. For programs that only
     /// sort packets by port and tag.
@@ -45,7 +57,45 @@ impl CommonHeader {
         if bytes.len() < COMMON_HEADER_SIZE {
             return None;
         }
-        Some(read_header(bytes))
+        Some(CommonHeader::read(bytes))
+    }
+
+    /// Reads the header of a packet, which has at least 12 bytes.
+    // A part of the readers of packets.
+    #[inline(always)]
+    pub fn read(bytes: &[u8]) -> CommonHeader
+        requires { 12 ≤ length bytes.now }
+        ensures { result ≡ header_of bytes.now }
+    {
+        CommonHeader {
+            source_port: read_u16_be(bytes),
+            destination_port: read_u16_be(&bytes[CommonHeader::DESTINATION_PORT..]),
+            verification_tag: read_u32_be(&bytes[CommonHeader::VERIFICATION_TAG..]),
+            checksum: read_u32_be(&bytes[CommonHeader::CHECKSUM..]),
+        }
+    }
+
+    /// Returns the header as it is written; with a checksum of 0 it is the canonical packet of no
+    /// chunks.
+    #[inline(always)]
+    #[tactic(auto, unfolding(crate::specs::Canonical::canonical))]
+    pub fn bytes(self) -> [u8; COMMON_HEADER_SIZE]
+        ensures bytes { result ≡ header_bytes self }
+        ensures canonical { self.checksum ≡ 0 → result ≡ canonical (record {
+          source = self.source_port;
+          destination = self.destination_port;
+          tag = self.verification_tag;
+          chunks = [];
+        }) }
+    {
+        let mut header = [0; COMMON_HEADER_SIZE];
+        // As one number: two side by side are fetched by one wide load, which waits where the
+        // packet has only just been stored.
+        let ports = self.source_port as u32 * 65536 + self.destination_port as u32;
+        put_u32(&mut header, CommonHeader::SOURCE_PORT, ports);
+        put_u32(&mut header, CommonHeader::VERIFICATION_TAG, self.verification_tag);
+        put_u32(&mut header, CommonHeader::CHECKSUM, self.checksum);
+        header
     }
 }
 
@@ -60,42 +110,4 @@ impl fmt::Display for CommonHeader {
             self.source_port, self.destination_port, self.verification_tag, self.checksum
         )
     }
-}
-
-/// The header that these bytes begin with.
-// A part of the readers of packets.
-#[inline(always)]
-pub(crate) fn read_header(bytes: &[u8]) -> CommonHeader
-    requires { 12 ≤ length bytes.now }
-    ensures { result ≡ header_of bytes.now }
-{
-    CommonHeader {
-        source_port: read_u16_be(bytes),
-        destination_port: read_u16_be(&bytes[2..]),
-        verification_tag: read_u32_be(&bytes[4..]),
-        checksum: read_u32_be(&bytes[8..]),
-    }
-}
-
-/// The common header with a checksum of 0: the canonical packet of no chunks.
-#[tactic(auto, unfolding(crate::specs::Canonical::canonical))]
-pub(crate) fn header_bytes(
-    source_port: u16,
-    destination_port: u16,
-    verification_tag: u32,
-) -> [u8; COMMON_HEADER_SIZE]
-    ensures { result ≡ canonical (record {
-      source = source_port;
-      destination = destination_port;
-      tag = verification_tag;
-      chunks = [];
-    }) }
-{
-    let mut header = [0; COMMON_HEADER_SIZE];
-    // As one number: two side by side are fetched by one wide load, which waits where the packet
-    // has only just been stored.
-    let ports = source_port as u32 * 65536 + destination_port as u32;
-    put_u32(&mut header, 0, ports);
-    put_u32(&mut header, 4, verification_tag);
-    header
 }

@@ -23,7 +23,7 @@ ghost use Rattle.dcsctp_tlv.{specs.Frame.{lenient}, specs.Level.{HasMeaning}, sp
 ghost use Rattle.dcsctp_wire.specs.InitAck as kind;
 ghost use Rattle.dcsctp_wire.specs.InitFields as init_fields;
 
-use crate::packet::init_fields::{FIXED_SIZE, InitFields, init_bytes, init_check, init_numbers};
+use crate::packet::init_chunk::{InitNumbers, init_check};
 use dcsctp_chunk::raw_chunk::RawChunk;
 use dcsctp_tlv::error::{ChunkParseError, LocatedFault};
 use dcsctp_tlv::kind::Kind;
@@ -77,21 +77,6 @@ impl InitAckChunk {
         }
         InitAckChunk::read(alloc, raw.flags, raw.value)
     }
-
-    /// The chunk that holds these.
-    pub(crate) fn of_fields(fields: InitFields) -> Self
-        ensures fields { kind.view result ≡ init_fields.view fields }
-        ensures parameters { result.parameters ≡ fields.parameters }
-    {
-        InitAckChunk {
-            initiate_tag: fields.initiate_tag,
-            a_rwnd: fields.a_rwnd,
-            nbr_outbound_streams: fields.nbr_outbound_streams,
-            nbr_inbound_streams: fields.nbr_inbound_streams,
-            initial_tsn: fields.initial_tsn,
-            parameters: fields.parameters,
-        }
-    }
 }
 
 impl Kind for InitAckChunk {
@@ -113,11 +98,19 @@ impl Kind for InitAckChunk {
     }
 
     fn begin(alloc: Global, _flags: u8, value: &[u8]) -> Self {
-        InitAckChunk::of_fields(init_numbers(alloc, value))
+        let numbers = InitNumbers::read(value);
+        InitAckChunk {
+            initiate_tag: numbers.initiate_tag,
+            a_rwnd: numbers.a_rwnd,
+            nbr_outbound_streams: numbers.nbr_outbound_streams,
+            nbr_inbound_streams: numbers.nbr_inbound_streams,
+            initial_tsn: numbers.initial_tsn,
+            parameters: Vec::new(alloc),
+        }
     }
 
     fn fill(&mut self, alloc: Global, _flags: u8, value: &[u8]) -> Result<(), AllocError> {
-        parameters_fill(&mut self.parameters, alloc, &value[FIXED_SIZE..])
+        parameters_fill(&mut self.parameters, alloc, &value[InitNumbers::SIZE..])
     }
 }
 
@@ -125,26 +118,27 @@ impl SerializableTlv for InitAckChunk {
     ghost format = { λ c. kind.format (kind.view c) };
 
     fn serialize_to(&self, output: &mut [u8]) {
-        let numbers = init_bytes(
-            self.initiate_tag,
-            self.a_rwnd,
-            self.nbr_outbound_streams,
-            self.nbr_inbound_streams,
-            self.initial_tsn,
-        );
+        let numbers = InitNumbers {
+            initiate_tag: self.initiate_tag,
+            a_rwnd: self.a_rwnd,
+            nbr_outbound_streams: self.nbr_outbound_streams,
+            nbr_inbound_streams: self.nbr_inbound_streams,
+            initial_tsn: self.initial_tsn,
+        }
+        .bytes();
         put_listed(CHUNK_TYPE, 0, &numbers, &self.parameters, output);
     }
 
     fn value_size(&self) -> usize {
-        listed_size(FIXED_SIZE, &self.parameters)
+        listed_size(InitNumbers::SIZE, &self.parameters)
     }
 
     fn encodable(&self) -> bool {
-        listed_encodable(FIXED_SIZE, &self.parameters)
+        listed_encodable(InitNumbers::SIZE, &self.parameters)
     }
 
     fn encoded_size(&self) -> Option<usize> {
-        listed_encoded_size(FIXED_SIZE, &self.parameters)
+        listed_encoded_size(InitNumbers::SIZE, &self.parameters)
     }
 
     fn has_widths(&self) {

@@ -18,17 +18,18 @@
 //! +-+-+-+-+-+-+-+-+-+-+-+-+-+-+-+-+-+-+-+-+-+-+-+-+-+-+-+-+-+-+-+-+
 //! ```
 
-ghost use Rattle.std.specs.Prelude.{◌≡◌, ◌≢◌, ◌↔◌, [], drop, Some, IfOk, IsErrOf, vec_capacity, All, vec_len};
-ghost use Rattle.dcsctp_tlv.{specs.Frame.{lenient}, specs.Level.{HasMeaning}, specs.Reading.{Exactly, reading, RowAnswer, Unplaced}, specs.Parameter.{IsTight as IsTightParameter}, proofs.Laws.{listed_lawful}, proofs.ParameterLaws.{parameters_lawful}};
+ghost use Rattle.std.specs.Prelude.{◌≡◌, ◌≢◌, ◌↔◌, ◌≤◌, ◌+◌, ◌*◌, [], drop, length, Some, IfOk, IfErr, IsErrOf, vec_capacity, All, vec_len};
+ghost use Rattle.dcsctp_tlv.{specs.Frame.{lenient}, specs.Level.{HasMeaning}, specs.Reading.{Answers, Exactly, reading, locating, RowAnswer, Counted, Unplaced}, specs.Parameter.{IsTight as IsTightParameter}, proofs.Laws.{listed_lawful}, proofs.ParameterLaws.{parameters_lawful}};
 ghost use Rattle.dcsctp_wire.specs.Init as kind;
 ghost use Rattle.dcsctp_wire.specs.InitFields as init_fields;
 
-use crate::packet::init_fields::{FIXED_SIZE, InitFields, init_bytes, init_check, init_numbers};
 use dcsctp_chunk::raw_chunk::RawChunk;
 use dcsctp_tlv::error::{ChunkParseError, LocatedFault};
 use dcsctp_tlv::kind::Kind;
 use dcsctp_tlv::list::{listed_encodable, listed_encoded_size, listed_size, put_listed};
+use dcsctp_tlv::number::{put_u16, put_u32, read_u16_be, read_u32_be};
 use dcsctp_tlv::parameter::{Parameter, parameters_fill};
+use dcsctp_tlv::reader::listed_check;
 use dcsctp_tlv::tlv::SerializableTlv;
 use dcsctp_tlv::widths::{Widths, are_in_width};
 use dcsctp_types::types::Tsn;
@@ -37,6 +38,88 @@ use std::fmt;
 
 /// The type of INIT.
 pub const CHUNK_TYPE: u8 = 1;
+
+/// The numbers at the front of an INIT's or an INIT ACK's value, before its parameters (RFC 9260
+/// sections 3.3.2 and 3.3.3).
+#[derive(Clone, Copy, Debug)]
+pub struct InitNumbers {
+    /// The verification tag that the other side is to use.
+    pub initiate_tag: u32,
+    /// The bytes that the sender has room for.
+    pub a_rwnd: u32,
+    /// How many streams the sender wants to send on.
+    pub nbr_outbound_streams: u16,
+    /// How many streams the sender can receive on.
+    pub nbr_inbound_streams: u16,
+    /// The TSN that the sender begins with.
+    pub initial_tsn: Tsn,
+}
+
+impl InitNumbers {
+    /// Their bytes.
+    pub const SIZE: usize = 16;
+
+    /// The offset of the initiate tag in the value.
+    pub const INITIATE_TAG: usize = 0;
+
+    /// The offset of the advertised receiver window in the value.
+    pub const A_RWND: usize = 4;
+
+    /// The offset of the number of outbound streams in the value.
+    pub const NBR_OUTBOUND_STREAMS: usize = 8;
+
+    /// The offset of the number of inbound streams in the value.
+    pub const NBR_INBOUND_STREAMS: usize = 10;
+
+    /// The offset of the initial TSN in the value.
+    pub const INITIAL_TSN: usize = 12;
+
+    /// Reads the numbers of a value, which has at least `SIZE` bytes.
+    #[inline(always)]
+    pub fn read(value: &[u8]) -> InitNumbers
+        requires { 16 ≤ length value.now }
+        ensures { result ≡ init_fields.numbers_at value.now }
+    {
+        InitNumbers {
+            initiate_tag: read_u32_be(value),
+            a_rwnd: read_u32_be(&value[InitNumbers::A_RWND..]),
+            nbr_outbound_streams: read_u16_be(&value[InitNumbers::NBR_OUTBOUND_STREAMS..]),
+            nbr_inbound_streams: read_u16_be(&value[InitNumbers::NBR_INBOUND_STREAMS..]),
+            initial_tsn: Tsn(read_u32_be(&value[InitNumbers::INITIAL_TSN..])),
+        }
+    }
+
+    /// Returns the numbers as they are written.
+    #[inline(always)]
+    pub fn bytes(self) -> [u8; InitNumbers::SIZE]
+        ensures { result ≡ init_fields.number_bytes self }
+    {
+        let mut bytes = [0; InitNumbers::SIZE];
+        put_u32(&mut bytes, InitNumbers::INITIATE_TAG, self.initiate_tag);
+        put_u32(&mut bytes, InitNumbers::A_RWND, self.a_rwnd);
+        put_u16(&mut bytes, InitNumbers::NBR_OUTBOUND_STREAMS, self.nbr_outbound_streams);
+        put_u16(&mut bytes, InitNumbers::NBR_INBOUND_STREAMS, self.nbr_inbound_streams);
+        put_u32(&mut bytes, InitNumbers::INITIAL_TSN, self.initial_tsn.0);
+        bytes
+    }
+}
+
+/// Counts the parts: the chunk and its parameters. `InvalidLength` where the value has fewer than
+/// 16 bytes; else the first fault of the parameters from the left. Does not allocate.
+///
+/// A fault's offset counts from the chunk's first byte; it is 0 where the value has fewer than 16
+/// bytes.
+pub(crate) fn init_check(value: &[u8], strict: bool) -> Result<usize, LocatedFault>
+    ensures found { Answers locating (λ n. n)
+        (Counted init_fields.parts (RowAnswer (init_fields.row strict) value.now)) result }
+    ensures few { IfOk result (λ n. 4 * n ≤ 4 + length value.now) }
+    ensures within { IfErr result (λ found. found.offset ≤ 4 + length value.now) }
+{
+    if value.len() < InitNumbers::SIZE {
+        return Err(LocatedFault::at_front(ChunkParseError::InvalidLength));
+    }
+    listed_check::<Parameter>(value, InitNumbers::SIZE, strict)
+}
 
 /// INIT (RFC 9260 section 3.3.2).
 #[derive(Debug, Drop)]
@@ -77,21 +160,6 @@ impl InitChunk {
         }
         InitChunk::read(alloc, raw.flags, raw.value)
     }
-
-    /// The chunk that holds these.
-    pub(crate) fn of_fields(fields: InitFields) -> Self
-        ensures fields { kind.view result ≡ init_fields.view fields }
-        ensures parameters { result.parameters ≡ fields.parameters }
-    {
-        InitChunk {
-            initiate_tag: fields.initiate_tag,
-            a_rwnd: fields.a_rwnd,
-            nbr_outbound_streams: fields.nbr_outbound_streams,
-            nbr_inbound_streams: fields.nbr_inbound_streams,
-            initial_tsn: fields.initial_tsn,
-            parameters: fields.parameters,
-        }
-    }
 }
 
 impl Kind for InitChunk {
@@ -113,11 +181,19 @@ impl Kind for InitChunk {
     }
 
     fn begin(alloc: Global, _flags: u8, value: &[u8]) -> Self {
-        InitChunk::of_fields(init_numbers(alloc, value))
+        let numbers = InitNumbers::read(value);
+        InitChunk {
+            initiate_tag: numbers.initiate_tag,
+            a_rwnd: numbers.a_rwnd,
+            nbr_outbound_streams: numbers.nbr_outbound_streams,
+            nbr_inbound_streams: numbers.nbr_inbound_streams,
+            initial_tsn: numbers.initial_tsn,
+            parameters: Vec::new(alloc),
+        }
     }
 
     fn fill(&mut self, alloc: Global, _flags: u8, value: &[u8]) -> Result<(), AllocError> {
-        parameters_fill(&mut self.parameters, alloc, &value[FIXED_SIZE..])
+        parameters_fill(&mut self.parameters, alloc, &value[InitNumbers::SIZE..])
     }
 }
 
@@ -125,26 +201,27 @@ impl SerializableTlv for InitChunk {
     ghost format = { λ c. kind.format (kind.view c) };
 
     fn serialize_to(&self, output: &mut [u8]) {
-        let numbers = init_bytes(
-            self.initiate_tag,
-            self.a_rwnd,
-            self.nbr_outbound_streams,
-            self.nbr_inbound_streams,
-            self.initial_tsn,
-        );
+        let numbers = InitNumbers {
+            initiate_tag: self.initiate_tag,
+            a_rwnd: self.a_rwnd,
+            nbr_outbound_streams: self.nbr_outbound_streams,
+            nbr_inbound_streams: self.nbr_inbound_streams,
+            initial_tsn: self.initial_tsn,
+        }
+        .bytes();
         put_listed(CHUNK_TYPE, 0, &numbers, &self.parameters, output);
     }
 
     fn value_size(&self) -> usize {
-        listed_size(FIXED_SIZE, &self.parameters)
+        listed_size(InitNumbers::SIZE, &self.parameters)
     }
 
     fn encodable(&self) -> bool {
-        listed_encodable(FIXED_SIZE, &self.parameters)
+        listed_encodable(InitNumbers::SIZE, &self.parameters)
     }
 
     fn encoded_size(&self) -> Option<usize> {
-        listed_encoded_size(FIXED_SIZE, &self.parameters)
+        listed_encoded_size(InitNumbers::SIZE, &self.parameters)
     }
 
     fn has_widths(&self) {

@@ -21,7 +21,6 @@ ghost use Rattle.dcsctp_tlv.specs.{Reading.{Answers, Exactly, Counted}, declared
 pub use crate::packet::builder::SctpPacketBuilder;
 use crate::packet::chunk::Chunk;
 pub use crate::packet::common_header::{COMMON_HEADER_SIZE, CommonHeader};
-use crate::packet::common_header::{header_bytes, read_header};
 pub use crate::packet::first_fault::FirstFault;
 use dcsctp_tlv::copy::zeros;
 use dcsctp_tlv::error::ChunkParseError;
@@ -37,7 +36,7 @@ use std::fmt;
 use thiserror::Error;
 
 /// The offset of the checksum field.
-const CHECKSUM_OFFSET: usize = 8;
+const CHECKSUM_OFFSET: usize = CommonHeader::CHECKSUM;
 
 /// The fewest bytes of a packet: the common header and one chunk without value.
 const MIN_PACKET_SIZE: usize = 16;
@@ -367,7 +366,7 @@ fn read_packet(
     let counts = check_packet(bytes, checksum, policy)?;
     let chunks = list_build(alloc, &bytes[COMMON_HEADER_SIZE..], counts.items)?;
     Ok(SctpPacket {
-        common_header: read_header(bytes),
+        common_header: CommonHeader::read(bytes),
         chunks,
     })
 }
@@ -390,10 +389,10 @@ fn write_over_zeros(packet: &SctpPacket, output: &mut [u8])
     ensures { output.new ≡ canonical (meaning_view packet.now) }
 {
     let (header, body) = output.split_at_mut(COMMON_HEADER_SIZE);
-    header.copy_from_slice(&header_bytes(
-        packet.common_header.source_port,
-        packet.common_header.destination_port,
-        packet.common_header.verification_tag,
-    ));
+    let written = CommonHeader {
+        checksum: 0,
+        ..packet.common_header
+    };
+    header.copy_from_slice(&written.bytes());
     put_list(&packet.chunks, body);
 }

@@ -7,7 +7,7 @@ use Rattle.dcsctp_borrowed.proofs.forward_tsn_ref.SkippedStreamsIterator.next.Go
 pub returns-then-self-clause-steps : goal.returns-then-self-clause-steps
 returns-then-self-clause-steps c =
     let bytes = c.self.inside.rest.now in
-    rw (← c.self.view_is, take_rest bytes 8, c.mid_stream-stream.ensures, c.if-self.true)
+    rw (← c.self.view_is, take_rest bytes 8, c.read-stream.ensures, c.if-self.true)
     (first_field iforward_kind.stream_at 8 c.self.inside.count bytes c.if-self-eq0.false)
 
 pub returns-then-self-clause-goes : goal.returns-then-self-clause-goes
@@ -23,7 +23,7 @@ returns-then-self-clause-goes c =
 pub returns-else-self-clause-steps : goal.returns-else-self-clause-steps
 returns-else-self-clause-steps c =
     let bytes = c.self.inside.rest.now in
-    rw (← c.self.view_is, take_rest bytes 4, c.ssn_stream-stream.ensures, c.if-self.false)
+    rw (← c.self.view_is, take_rest bytes 4, c.read-stream.ensures, c.if-self.false)
     (first_field forward_kind.stream_at 4 c.self.inside.count bytes c.if-self-eq0.false)
 
 pub returns-else-self-clause-goes : goal.returns-else-self-clause-goes

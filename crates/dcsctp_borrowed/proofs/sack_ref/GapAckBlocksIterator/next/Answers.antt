@@ -9,8 +9,7 @@ returns-clause-steps c =
     rw (
       ← c.self.view_is,
       take_rest bytes 4,
-      c.two_numbers-start.ensures.first,
-      c.two_numbers-start.ensures.second,
+      c.read-block.ensures,
     )
     (first_field block_at 4 c.self.inside.count bytes c.if-self-eq0.false)
 

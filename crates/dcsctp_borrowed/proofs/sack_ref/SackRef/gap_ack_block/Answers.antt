@@ -8,7 +8,7 @@ returns c =
     let s = c.self.inside in
     let bytes = s.lists.now in
     let blocks = ap (λ (t : Tree). length t.blocks) c.self.view_is in
-    let here : c.args.index < s.block_count =
-    omega (arith, field_count block_at 4 s.block_count bytes, blocks, c.requires) in
-    rw (← c.self.view_is) (field_at_place block_at 4 s.block_count bytes c.args.index here
+    let here : c.args.index < s.numbers.gap_ack_block_count =
+    omega (arith, field_count block_at 4 s.numbers.gap_ack_block_count bytes, blocks, c.requires) in
+    rw (← c.self.view_is) (field_at_place block_at 4 s.numbers.gap_ack_block_count bytes c.args.index here
     ∙ ap Some (sym (c.read.ensures ∙ ap block_at (take_rest bytes (4 * c.args.index)))))

@@ -27,7 +27,7 @@ returns-clause-answer c =
       found.1.0,
       record {
         header = ap (λ (h : CommonHeader). with_header h (views c.in_ok-chunks.chunks.items))
-            c.read_header.ensures;
+            c.read.ensures;
         chunks = built_means c.args.policy.now.strict_padding (body bytes) found.0.meaning.chunks
             (views c.in_ok-chunks.chunks.items) found.1.1.chunks built;
       },

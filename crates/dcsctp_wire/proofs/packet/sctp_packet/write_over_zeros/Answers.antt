@@ -37,4 +37,4 @@ returns c =
     back ∙ ap (λ (x : _). written (list_image (λ y. chunk_tlv (view y)) x) (replicate w 0))
     c.deref.ensures.value in
     ap (λ (x : List ℕ). x ++ c.put_list.new.output) (c.copy_from_slice.ensures.after
-    ∙ c.header_bytes.ensures) ∙ ap (λ (x : List ℕ). header ++ x) (body ∙ body_is cs w refl)
+    ∙ c.bytes.ensures.canonical refl) ∙ ap (λ (x : List ℕ). header ++ x) (body ∙ body_is cs w refl)

@@ -3,4 +3,4 @@ use Rattle.dcsctp_wire.proofs.packet.init_ack_chunk.InitAckChunkSerializableTlv.
 
 pub returns : goal.returns
 returns c =
-    rw (c.put_listed.ensures, c.init_bytes-numbers.ensures, c.deref.ensures.value) refl
+    rw (c.put_listed.ensures, c.bytes-numbers.ensures, c.deref.ensures.value) refl

@@ -1,7 +1,7 @@
 use Rattle.std.proofs.Common.{arith, rules, refl, length, nat_le, le-leb}
 use Rattle.dcsctp_tlv.{specs.Parameter.{parameters}, proofs.Places.{finds_listed, rule_broken}}
 use Rattle.dcsctp_wire.specs.InitFields.{tree_of as init_of, parts as init_parts}
-use Rattle.dcsctp_wire.proofs.packet.init_fields.init_check.Goals as goal
+use Rattle.dcsctp_wire.proofs.packet.init_chunk.init_check.Goals as goal
 
 pub returns-clause-found : goal.returns-clause-found
 returns-clause-found c =

@@ -1,6 +1,6 @@
 use Rattle.std.proofs.Common.{◌/◌, ◌%◌, ap, ◌∙◌}
-use Rattle.dcsctp_borrowed.proofs.NumberPairs.{pair_first, pair_second}
-use Rattle.dcsctp_borrowed.proofs.sack_ref.two_numbers.Goals as goal
+use Rattle.dcsctp_chunk.proofs.NumberPairs.{pair_first, pair_second}
+use Rattle.dcsctp_chunk.proofs.sack_chunk.two_numbers.Goals as goal
 
 pub returns-clause-first : goal.returns-clause-first
 returns-clause-first c =
