@@ -11,7 +11,7 @@ use Rattle.dcsctp_c.specs.declared.structs.{DcsctpChunk.{DcsctpChunk}, DcsctpDat
 
 -- ---- a row
 
--- of a chunk whose value has so many bytes of numbers, all of them 0
+-- of a chunk whose value has `n` bytes of numbers, all of them 0
 abbrev pub row_after : ℕ → DcsctpChunk → DcsctpRow
 row_after n c = record {
   chunk = c;

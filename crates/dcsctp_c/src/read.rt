@@ -141,7 +141,7 @@ fn row_of(chunk: &DcsctpChunk, value: &[u8]) -> DcsctpRow
     }
 }
 
-/// Returns the row of a chunk whose value begins with so many bytes of numbers, all of them 0.
+/// Returns the row of a chunk whose value begins with `size` bytes of numbers, all of them 0.
 #[inline(always)]
 fn row_after(size: usize, chunk: &DcsctpChunk) -> DcsctpRow
     requires { chunk.now.value_offset + chunk.now.value_size < 2 ^ 64 }
