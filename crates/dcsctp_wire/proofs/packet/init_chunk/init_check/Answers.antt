@@ -10,8 +10,7 @@ returns-clause-found c =
     init_parts (λ v ps. refl) v c.listed_check.result (le-leb 16 (length v) (omega arith))
     c.listed_check.ensures.found
 
-pub returns-then-value-lt-FIXED_SIZE-clause-found
-    : goal.returns-then-value-lt-FIXED_SIZE-clause-found
-returns-then-value-lt-FIXED_SIZE-clause-found c =
+pub returns-then-value-lt-SIZE-clause-found : goal.returns-then-value-lt-SIZE-clause-found
+returns-then-value-lt-SIZE-clause-found c =
     rw c.at_front.ensures (rule_broken (λ value. nat_le 16 (length value)) 16
     (parameters c.args.strict) init_of init_parts c.args.value.now (search rules))
