@@ -158,7 +158,7 @@ pub fn is_begun(room: usize, size: usize) -> bool
     size >= COMMON_HEADER_SIZE && is_divisible_by_4(size) && size <= room.min(MAX_SIZE)
 }
 
-/// The common header with a checksum of 0: the canonical packet of no chunks.
+/// Returns the common header with a checksum of 0: the canonical packet of no chunks.
 #[tactic(auto, unfolding(dcsctp_wire::specs::Canonical::canonical))]
 fn header(
     source_port: u16,

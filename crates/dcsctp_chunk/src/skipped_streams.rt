@@ -7,7 +7,7 @@ use dcsctp_tlv::skipped_stream::SkippedStream;
 use dcsctp_types::api::StreamId;
 use dcsctp_types::types::{Mid, Ssn};
 
-/// Whether each stream is skipped by a message id, or each by a sequence number.
+/// Returns whether each stream is skipped by a message id, or each by a sequence number.
 pub(crate) fn are_by_mid(by_mid: bool, streams: &[SkippedStream]) -> bool
     ensures { IsTrue result ↔ AreByMid by_mid (skipped_stream_views streams.now) }
 {
@@ -19,7 +19,7 @@ pub(crate) fn are_by_mid(by_mid: bool, streams: &[SkippedStream]) -> bool
     true
 }
 
-/// A law: the numbers of each lie in their fields' widths. It does nothing.
+/// Proves that the numbers of each stream lie in their fields' widths. Does nothing.
 pub(crate) fn streams_have_widths(streams: &[SkippedStream])
     ensures { AllByRecursion IsSkippedStreamInWidth (skipped_stream_views streams.now) }
 {
@@ -28,7 +28,7 @@ pub(crate) fn streams_have_widths(streams: &[SkippedStream])
     }
 }
 
-/// The same of one.
+/// Proves that the numbers of a skipped stream lie in their fields' widths.
 fn stream_has_widths(stream: &SkippedStream)
     ensures { IsSkippedStreamInWidth (skipped_stream_view stream.now) }
 {
@@ -38,7 +38,7 @@ fn stream_has_widths(stream: &SkippedStream)
     }
 }
 
-/// The same of its numbers.
+/// Proves that a stream id and a sequence number lie in their fields' widths.
 fn ssn_has_widths(id: StreamId, ssn: Ssn)
     ensures { (id.0 < 2 ^ 16) × (ssn.0 < 2 ^ 16) }
 {
@@ -46,7 +46,7 @@ fn ssn_has_widths(id: StreamId, ssn: Ssn)
     let _ssn = ssn.0;
 }
 
-/// The same, where it is skipped by a message id.
+/// Proves that a stream id and a message id lie in their fields' widths.
 fn mid_has_widths(id: StreamId, mid: Mid)
     ensures { (id.0 < 2 ^ 16) × (mid.0 < 2 ^ 32) }
 {

@@ -134,7 +134,7 @@ pub fn listed_check<T: ReadableTlv>(
     }
 }
 
-/// The number of items, where the bytes are known to be items.
+/// Counts the items; requires that the bytes are a list of items.
 fn count_items(bytes: &[u8]) -> usize
     requires { (rule : PaddingRule) × ((items : List Item) × AreItems rule bytes.now items) }
     ensures { (rule : PaddingRule) (items : List Item) → AreItems rule bytes.now items
