@@ -89,9 +89,9 @@ pub struct Association {
     pub transport: Transport,
     /// From where to where its first packet went.
     pub route: Route,
-    /// The end that sent its first packet,
+    /// The end that sent its first packet.
     pub first: End,
-    /// and the other one.
+    /// The end that didn't send its first packet.
     pub second: End,
     /// How it began.
     pub began: Began,

@@ -65,7 +65,7 @@ pub struct Associations {
 }
 
 impl Associations {
-    /// Returns none; at most `most` will be kept, or one if that is 0.
+    /// Returns a table without associations, which keeps at most `most`, or one if that is 0.
     pub fn new(alloc: Global, most: usize) -> Result<Associations, AllocError>
         ensures { IfOk result (λ r. (r.most ≡ max most 1) × (counted r.table.items r.unknown ≡ 0)) }
     {
@@ -153,7 +153,7 @@ impl Associations {
         self.unknown
     }
 
-    /// Returns those that didn't leave the table, in the order in which they began.
+    /// Returns the associations that didn't leave the table, in the order in which they began.
     pub fn into_vec(self) -> Vec<Box<Association>>
         ensures bounded { vec_len result ≤ self.most }
         ensures ordered { IsNonDecreasingBy (λ a. a.value.number) result.items }

@@ -37,9 +37,9 @@ pub struct Filter {
     pub ppid: Option<u32>,
     /// Whether its checksum field is neither what is expected nor 0, and all of it was captured.
     pub wrong: bool,
-    /// The least number of a packet,
+    /// The least number of a packet that passes.
     pub first: u64,
-    /// and the greatest.
+    /// The greatest number of a packet that passes.
     pub last: u64,
 }
 

@@ -52,9 +52,9 @@ pub struct Place {
 pub struct Route {
     /// The transport of a log.
     pub transport: TransportKey,
-    /// From where,
+    /// From where the packet went.
     pub from: Place,
-    /// and to where.
+    /// To where the packet went.
     pub to: Place,
 }
 

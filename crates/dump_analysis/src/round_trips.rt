@@ -32,13 +32,13 @@ const BUCKETS: usize = 192;
 pub struct RoundTrips {
     /// How many there were.
     pub count: u64,
-    /// The least one, in nanoseconds,
+    /// The least round trip, in nanoseconds.
     pub least: u64,
-    /// the greatest one,
+    /// The greatest round trip, in nanoseconds.
     pub greatest: u64,
-    /// its TSN,
+    /// The TSN of the greatest round trip.
     pub greatest_tsn: u32,
-    /// and the first packet that ended it.
+    /// The first packet that ended the greatest round trip.
     pub greatest_packet: Option<PacketNumber>,
     waiting: [Sent; MOST],
     buckets: [u32; BUCKETS],
@@ -85,7 +85,7 @@ impl RoundTrips {
         }
     }
 
-    /// Doesn't wait any longer for a TSN that was sent again.
+    /// Ends the wait for a TSN that was sent again.
     pub fn leave(&mut self, tsn: u32)
         ensures { All (λ sent. sent.tsn ≡ tsn → sent.is_waiting ≡ false) self.new.waiting }
     {
@@ -96,7 +96,7 @@ impl RoundTrips {
         }
     }
 
-    /// Doesn't wait any longer for a TSN up to the new cumulative one of a FORWARD-TSN.
+    /// Ends the wait for the TSNs up to the new cumulative one of a FORWARD-TSN.
     pub fn leave_to(&mut self, cumulative: u32)
         ensures { All (λ sent. ¬ (IsAfter cumulative sent.tsn) → sent.is_waiting ≡ false) self.new.waiting }
     {

@@ -115,7 +115,7 @@ fn dump_all(rt: &HostRuntime, request: &Request<'_>) -> Result<u8, Failure>
     end_of(written, failed, &printer)
 }
 
-/// What a run returns, whose last write ended so.
+/// Returns what a run returns that ended with this last write.
 fn end_of<W: Write>(
     written: Result<(), Failure>,
     failed: bool,
@@ -132,8 +132,8 @@ fn end_of<W: Write>(
     }
 }
 
-/// The status of a run: what failed comes before what was refused, and that before what was warned
-/// of.
+/// Returns the status of a run: what failed comes before what was refused, and that before what was
+/// warned of.
 fn status_of(failed: bool, warned: bool, counts: &Counts) -> u8
     ensures status { result ≡ status failed warned counts.now }
     ensures known { result ≤ 3 }

@@ -59,8 +59,8 @@ impl<'t, 'f, 'a> fmt::Display for SeenLines<'t, 'f, 'a> {
     }
 }
 
-/// The same at the front of a line, in a fixed order: number, time, and both ends with their SCTP
-/// ports, of which `-` stands for what isn't known.
+/// What is known of a packet, at the front of a line, in a fixed order: number, time, and both ends
+/// with their SCTP ports; `-` for what isn't known.
 #[derive(Clone, Copy)]
 pub struct SeenBrief<'t, 'f, 'a>(pub SeenLines<'t, 'f, 'a>);
 
@@ -107,7 +107,7 @@ fn write_end<W: fmt::Write>(
     }
 }
 
-/// The same as keys of a JSON object, of which the packet's number is the first.
+/// What is known of a packet, as keys of a JSON object, of which the packet's number is the first.
 #[derive(Clone, Copy)]
 pub struct SeenJson<'t, 'f, 'a>(pub SeenLines<'t, 'f, 'a>);
 

@@ -22,7 +22,7 @@ impl fmt::Display for SkippedLine {
     }
 }
 
-/// The same as a JSON object, in a line.
+/// A record or a line of text that has no packet, as a JSON object in a line.
 #[derive(Clone, Copy)]
 pub struct SkippedJson(pub SkippedLine);
 
