@@ -118,7 +118,7 @@ fn write_line(alloc: Global, line: &str, out: &mut String) -> Result<(), AllocEr
     out.push('\n')
 }
 
-/// The table with the answer of each row.
+/// Returns the table with the answer of each row.
 pub fn answered(alloc: Global, table: &str) -> Result<String, AllocError> {
     let mut out = String::new(alloc);
     for line in table.lines() {
