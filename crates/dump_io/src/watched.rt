@@ -48,7 +48,7 @@ impl<D> Watched<D> {
         self.flushed
     }
 
-    /// Gives the device back.
+    /// Returns the device.
     pub fn into_device(self) -> D
         ensures { result ≡ device_of self }
     {

@@ -27,10 +27,10 @@ const FAILED: u8 = 2;
 
 const WARNED: u8 = 3;
 
-/// Does what the host's arguments say, and returns the status: 0 if all packets were accepted, 1 if
-/// some were refused, 2 if an input couldn't be read, ends inside a record or has no packet in what
-/// it holds, the output couldn't be written, or memory ran out, 3 if none was refused, but some
-/// break rules that were looked at.
+/// Runs the program with the host's arguments, and returns the status: 0 if all packets were
+/// accepted, 1 if some were refused, 2 if an input couldn't be read, ends inside a record or has no
+/// packet in what it holds, the output couldn't be written, or memory ran out, 3 if none was
+/// refused, but some break rules that were looked at.
 ///
 /// Reports each failure on standard error, but not that whoever read the output reads no more of
 /// it. No clause says what a host is asked for, since none of std does.
@@ -57,7 +57,7 @@ fn report(rt: &HostRuntime, name: Option<&str>, failure: &Failure) {
     };
 }
 
-/// Does what the arguments say, and returns the status.
+/// Runs the program with its arguments, and returns the status.
 fn run_request(rt: &HostRuntime) -> Result<u8, Failure>
     ensures { IfOk result (λ status. status ≤ 3) }
 {
