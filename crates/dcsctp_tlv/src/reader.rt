@@ -2,7 +2,7 @@
 //! nothing again. For every level.
 
 ghost use Rattle.std.specs.Prelude.{◌≡◌, ◌≢◌, ◌≤◌, ◌<◌, ◌+◌, ◌*◌, ℕ, Bool, List, [], length, map, IsOk, IfOk, IfErr, IsErrOf, vec_len, vec_capacity, All};
-ghost use Rattle.dcsctp_tlv.specs.{Frame.{PaddingRule, lenient, Item, AreItems}, Level.{Level, HasMeaning, Grows, MeansTrees, MeansSome, MeansMany}, Reading.{Answers, reading, locating, ListedAnswer, ListAnswer, RowAnswer, Counted, Unplaced, counts}};
+ghost use Rattle.dcsctp_tlv.specs.{Frame.{PaddingRule, lenient, Item, AreItems}, Level.{Level, HasMeaning, Appends, MeansTrees, MeansSome, MeansMany}, Reading.{Answers, reading, locating, ListedAnswer, ListAnswer, RowAnswer, Counted, Unplaced, counts}};
 
 use crate::error::{ChunkParseError, LocatedFault};
 use crate::frame::{TLV_HEADER_SIZE, frame_parts, padding_fault, padding_parts, split_frame};
@@ -43,7 +43,7 @@ pub trait ReadableTlv: Sized + Drop {
     ) -> Result<(), AllocError>
         requires meant { HasMeaning ((level lenient).row first second) value.now }
         requires room { vec_len list.old < vec_capacity list.old }
-        ensures grows { IfOk result (λ _. Grows view is_tight
+        ensures grows { IfOk result (λ _. Appends view is_tight
             ((level lenient).row first second) value.now list.old.items list.new.items) }
         ensures len { IfOk result (λ _. vec_len list.new ≡ vec_len list.old + 1) }
         ensures capacity { IfOk result (λ _. vec_capacity list.new ≡ vec_capacity list.old) };

@@ -1,7 +1,7 @@
 //! A chunk of any kind.
 
 ghost use Rattle.std.specs.Prelude.{◌≡◌, ◌<◌, ◌+◌, Some, IsOk, IfOk, IsErrOf, vec_len, vec_capacity};
-ghost use Rattle.dcsctp_tlv.specs.{Frame.{lenient}, Level.{HasMeaning, Grows}, Reading.{Exactly, reading, RowAnswer, Unplaced}, Table.{IsUnnamed}};
+ghost use Rattle.dcsctp_tlv.specs.{Frame.{lenient}, Level.{HasMeaning, Appends}, Reading.{Exactly, reading, RowAnswer, Unplaced}, Table.{IsUnnamed}};
 ghost use Rattle.dcsctp_wire.specs.Chunk as chunk;
 ghost use Rattle.dcsctp_wire.specs.Chunk.{parts as chunk_parts, ChunkTree, chunk_row, chunks, plain_rows, TakesNoMemory, IsPlaced, text as chunk_text, view, IsInWidth, IsTight};
 
@@ -233,7 +233,7 @@ impl Chunk {
         requires other { IsUnnamed (plain_rows second) first }
         requires meant { HasMeaning (chunk_row lenient first second) value.now }
         requires room { vec_len list.old < vec_capacity list.old }
-        ensures grows { IfOk result (λ _. Grows view IsTight
+        ensures grows { IfOk result (λ _. Appends view IsTight
             (chunk_row lenient first second) value.now list.old.items list.new.items) }
         ensures len { IfOk result (λ _. vec_len list.new ≡ vec_len list.old + 1) }
         ensures capacity { IfOk result (λ _. vec_capacity list.new ≡ vec_capacity list.old) }
