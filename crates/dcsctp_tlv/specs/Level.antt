@@ -88,7 +88,8 @@ front_row level bytes = level.row (slice_index bytes 0) (slice_index bytes 1)
 -- What is wrong at the front: there is no frame; or its value is at fault; or its value means a
 -- tree and its padding isn't accepted, which lies at the first byte that isn't zero, or else at the
 -- first that is missing.
-pub data BeginsWithFault {T : Type 0} (level : Level T) (rest : List ℕ) (f : Fault × ℕ) : Type 0 where
+pub data BeginsWithFault {T : Type 0} (level : Level T) (rest : List ℕ)
+    (f : Fault × ℕ) : Type 0 where
   no_frame : rest ≢ [] → ¬ BeginsWithFrame rest → f ≡ (Length, 0) → BeginsWithFault level rest f
   value : BeginsWithFrame rest → (front_row level rest).faults (frame_value rest) f
       → BeginsWithFault level rest f

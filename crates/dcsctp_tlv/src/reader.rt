@@ -73,7 +73,8 @@ pub struct Counts {
 pub fn list_check<T: ReadableTlv>(bytes: &[u8], strict: bool) -> Result<Counts, LocatedFault>
     ensures found { Answers locating (λ n. n)
         (Counted (counts T.parts) (ListAnswer (T.level strict) bytes.now)) result }
-    ensures few { IfOk result (λ n. (4 * n.items ≤ length bytes.now) × (4 * n.parts ≤ length bytes.now)) }
+    ensures few { IfOk result (λ n. (4 * n.items ≤ length bytes.now)
+        × (4 * n.parts ≤ length bytes.now)) }
     ensures within { IfErr result (λ found. found.offset ≤ length bytes.now) }
 {
     let mut items: usize = 0;

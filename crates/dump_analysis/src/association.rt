@@ -53,8 +53,8 @@ pub struct Established {
     pub packet: PacketNumber,
     /// When it was captured, in nanoseconds since 1970-01-01 00:00:00 UTC.
     pub nanoseconds: Option<u64>,
-    /// The chunk's type: a COOKIE ACK (RFC 9260 section 5.1), or else a SACK or an NR-SACK of an end
-    /// to which DATA was sent.
+    /// The chunk's type: a COOKIE ACK (RFC 9260 section 5.1), or else a SACK or an NR-SACK of an
+    /// end to which DATA was sent.
     pub chunk: u8,
 }
 
@@ -166,9 +166,11 @@ impl Association {
 
     /// Counts a packet that an end sent. Returns how its TSNs follow those before.
     pub fn note(&mut self, sender: Side, packet: &SeenPacket<'_>) -> Sequence
-        ensures sender { CountsPacket (counts_of sender self.old) (packet_of packet.now) (counts_of sender self.new) }
+        ensures sender { CountsPacket (counts_of sender self.old) (packet_of packet.now)
+            (counts_of sender self.new) }
         ensures receiver { counts_of (other sender) self.new ≡ counts_of (other sender) self.old }
-        ensures packets { (counts_of sender self.new).packets ≡ one_more (counts_of sender self.old).packets }
+        ensures packets { (counts_of sender self.new).packets
+            ≡ one_more (counts_of sender self.old).packets }
     {
         let sequence = match sender {
             Side::First => note_between(&mut self.first, &mut self.second, packet),

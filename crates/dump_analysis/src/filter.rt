@@ -61,7 +61,8 @@ impl Filter {
     /// checksum field has to be, and `fault` the offset of the first fault of a refused packet: of
     /// this the chunks are looked at that begin there or before. The last may be the one at fault,
     /// of which all is looked at that can be read, even if its length is impossible. Of other
-    /// packets, also of those that were cut off, all chunks are looked at whose headers can be read.
+    /// packets, also of those that were cut off, all chunks are looked at whose headers can be
+    /// read.
     pub fn passes(
         &self,
         number: u64,

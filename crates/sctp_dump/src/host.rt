@@ -122,7 +122,8 @@ fn end_of<W: Write>(
     printer: &EventPrinter<W>,
 ) -> Result<u8, Failure>
     ensures end { MatchResult written
-        (λ _. result ≡ Ok (status failed (is_warned printer.now.warnings.counts) printer.now.counts))
+        (λ _. result
+        ≡ Ok (status failed (is_warned printer.now.warnings.counts) printer.now.counts))
         (λ failure. result ≡ Err failure) }
     ensures known { IfOk result (λ status. status ≤ 3) }
 {

@@ -88,8 +88,8 @@ impl<'t, 'f, 'a> fmt::Display for SeenBrief<'t, 'f, 'a> {
     }
 }
 
-/// Writes an end with its port (RFC 3986 section 3.2.2: an IPv6 address in brackets), and of the end
-/// that wrote a log the name of its transport.
+/// Writes an end with its port (RFC 3986 section 3.2.2: an IPv6 address in brackets), and of the
+/// end that wrote a log the name of its transport.
 fn write_end<W: fmt::Write>(
     end: End,
     transport: OneWord<'_>,

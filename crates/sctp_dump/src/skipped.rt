@@ -57,7 +57,8 @@ impl Said {
         apart: false,
     };
 
-    /// Returns why a record or a line has no frame, in words, unless that was said, and is said once.
+    /// Returns why a record or a line has no frame, in words, unless that was said, and is said
+    /// once.
     pub fn reason_to_say(&mut self, why: Skipped) -> Option<&'static str> {
         match why {
             Skipped::Unknown if self.unknown => return None,
