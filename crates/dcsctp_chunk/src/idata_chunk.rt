@@ -60,7 +60,8 @@ pub struct IDataChunk {
     pub immediate_ack: bool,
 }
 
-/// What the number before the payload says; what it doesn't say is 0.
+/// Returns the PPID and the FSN that the number before the payload says; 0 for the one that it
+/// doesn't say.
 fn ppid_and_fsn(is_beginning: bool, number: u32) -> (PpId, Fsn)
     ensures ppid { result.0.0 ≡ (if is_beginning then number else 0) }
     ensures fsn { result.1.0 ≡ (if is_beginning then 0 else number) }
@@ -72,7 +73,7 @@ fn ppid_and_fsn(is_beginning: bool, number: u32) -> (PpId, Fsn)
     }
 }
 
-/// The number before the payload.
+/// Returns the number before the payload: the PPID, or the FSN.
 fn ppid_or_fsn(content: &Data) -> u32
     ensures { result ≡ kind.ppid_or_fsn (user_data_view content.now) }
 {
@@ -88,8 +89,8 @@ impl IDataChunk {
     /// Reads the chunk, and copies its payload; flags but the four lowest and the reserved bytes
     /// are ignored.
     ///
-    /// `InvalidType` exactly for another type; `InvalidLength` if and only if the value has fewer
-    /// than 16 bytes; `OutOfMemory` only where the payload can't be copied.
+    /// `InvalidType` if and only if the type is another; `InvalidLength` if and only if the value
+    /// has fewer than 16 bytes; `OutOfMemory` only where the payload can't be copied.
     pub fn try_from(alloc: Global, raw: RawChunk) -> Result<Self, ChunkParseError>
         ensures other { IsErrOf result ChunkParseError.InvalidType ↔ (raw.entry.typ ≢ CHUNK_TYPE) }
         ensures answer { raw.entry.typ ≡ CHUNK_TYPE →
@@ -107,7 +108,7 @@ impl IDataChunk {
         Ok(IDataChunk::build(alloc, raw.flags, raw.value)?)
     }
 
-    /// `InvalidLength` if and only if the value has fewer than 16 bytes.
+    /// Checks the value: `InvalidLength` if and only if it has fewer than 16 bytes.
     pub(crate) fn check(value: &[u8]) -> Result<(), ChunkParseError>
         ensures size { OnOk result (FIXED_SIZE ≤ length value.now) }
         ensures short { OnErr result (length value.now < FIXED_SIZE) }
@@ -119,7 +120,7 @@ impl IDataChunk {
         Ok(())
     }
 
-    /// What the value means, under these flags.
+    /// Builds the chunk that the value means under these flags.
     pub fn build(alloc: Global, flags: u8, value: &[u8]) -> Result<Self, AllocError>
         requires { IsOk (kind.read flags value.now) }
         ensures meant { IfOk result (λ x. kind.read flags value.now ≡ Ok (kind.view x)) }
@@ -145,7 +146,7 @@ impl IDataChunk {
         })
     }
 
-    /// The value before its payload, as it is written.
+    /// Returns the value before its payload, as it is written.
     fn fixed(&self) -> [u8; FIXED_SIZE]
         ensures { result ≡ kind.fixed (kind.view self.now) }
     {
