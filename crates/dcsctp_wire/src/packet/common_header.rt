@@ -62,7 +62,7 @@ impl fmt::Display for CommonHeader {
     }
 }
 
-/// The header that these bytes begin with.
+/// Reads the header that these bytes begin with.
 // A part of the readers of packets.
 #[inline(always)]
 pub(crate) fn read_header(bytes: &[u8]) -> CommonHeader
@@ -77,7 +77,7 @@ pub(crate) fn read_header(bytes: &[u8]) -> CommonHeader
     }
 }
 
-/// The common header with a checksum of 0: the canonical packet of no chunks.
+/// Returns the common header with a checksum of 0: the canonical packet of no chunks.
 #[tactic(auto, unfolding(crate::specs::Canonical::canonical))]
 pub(crate) fn header_bytes(
     source_port: u16,

@@ -58,9 +58,9 @@ pub struct InitAckChunk {
 impl InitAckChunk {
     /// Reads the chunk and its parameters; flags are ignored.
     ///
-    /// `InvalidType` exactly for another type; `InvalidLength` where the value has fewer than 16
-    /// bytes; else the first fault of the parameters from the left; `OutOfMemory` only where there
-    /// is none, and there are parameters.
+    /// `InvalidType` if and only if the type is another; `InvalidLength` where the value has fewer
+    /// than 16 bytes; else the first fault of the parameters from the left; `OutOfMemory` only
+    /// where there is none, and there are parameters.
     pub fn try_from(alloc: Global, raw: RawChunk) -> Result<Self, ChunkParseError>
         ensures other { IsErrOf result ChunkParseError.InvalidType ↔ (raw.entry.typ ≢ CHUNK_TYPE) }
         ensures answer { raw.entry.typ ≡ CHUNK_TYPE →
@@ -78,7 +78,7 @@ impl InitAckChunk {
         InitAckChunk::read(alloc, raw.flags, raw.value)
     }
 
-    /// The chunk that holds these.
+    /// Builds the chunk that holds these fields.
     pub(crate) fn of_fields(fields: InitFields) -> Self
         ensures fields { kind.view result ≡ init_fields.view fields }
         ensures parameters { result.parameters ≡ fields.parameters }

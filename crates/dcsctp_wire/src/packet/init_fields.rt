@@ -42,7 +42,7 @@ pub(crate) fn init_check(value: &[u8], strict: bool) -> Result<usize, LocatedFau
     listed_check::<Parameter>(value, FIXED_SIZE, strict)
 }
 
-/// The numbers of the value, and no parameters. Does not allocate.
+/// Reads the numbers of the value, and no parameters. Does not allocate.
 pub(crate) fn init_numbers(alloc: Global, value: &[u8]) -> InitFields
     requires { 16 ≤ length value.now }
     ensures numbers { init_fields_view result ≡ tree_of value.now [] }
@@ -59,7 +59,7 @@ pub(crate) fn init_numbers(alloc: Global, value: &[u8]) -> InitFields
     }
 }
 
-/// The numbers of the value before the parameters, as they are written.
+/// Returns the numbers of the value before the parameters, as they are written.
 pub(crate) fn init_bytes(
     initiate_tag: u32,
     a_rwnd: u32,
