@@ -68,7 +68,7 @@ impl<'a> ForwardTsnRef<'a> {
         }
     }
 
-    /// What a FORWARD-TSN's value means.
+    /// Builds what the value of a FORWARD-TSN means; `None` if it means nothing.
     #[tactic(auto, unfolding(dcsctp_chunk::specs::ForwardTsn::read))]
     #[inline(always)]
     fn of_forward(value: &'a [u8]) -> Option<ForwardTsnRef<'a>>
@@ -83,7 +83,7 @@ impl<'a> ForwardTsnRef<'a> {
         Some(ForwardTsnRef::of_checked_forward(value))
     }
 
-    /// What a value means that is known to mean a FORWARD-TSN.
+    /// Builds what a value means that is known to mean a FORWARD-TSN.
     #[tactic(auto, unfolding(dcsctp_chunk::specs::ForwardTsn::read))]
     #[inline(always)]
     pub(crate) fn of_checked_forward(value: &'a [u8]) -> ForwardTsnRef<'a>
@@ -98,7 +98,7 @@ impl<'a> ForwardTsnRef<'a> {
         }
     }
 
-    /// What an I-FORWARD-TSN's value means.
+    /// Builds what the value of an I-FORWARD-TSN means; `None` if it means nothing.
     #[tactic(auto, unfolding(dcsctp_chunk::specs::IForwardTsn::read))]
     #[inline(always)]
     fn of_iforward(value: &'a [u8]) -> Option<ForwardTsnRef<'a>>
@@ -113,7 +113,7 @@ impl<'a> ForwardTsnRef<'a> {
         Some(ForwardTsnRef::of_checked_iforward(value))
     }
 
-    /// What a value means that is known to mean an I-FORWARD-TSN.
+    /// Builds what a value means that is known to mean an I-FORWARD-TSN.
     #[tactic(auto, unfolding(dcsctp_chunk::specs::IForwardTsn::read))]
     #[inline(always)]
     pub(crate) fn of_checked_iforward(value: &'a [u8]) -> ForwardTsnRef<'a>
@@ -171,8 +171,8 @@ impl<'a> ForwardTsnRef<'a> {
     }
 }
 
-/// The stream at the front, skipped by a sequence number: two bytes of stream id, and two of the
-/// number.
+/// Returns the stream at the front, skipped by a sequence number: two bytes of stream id, and two
+/// of the number.
 // As `dcsctp_chunk` reads it for itself: to share it, a function of that crate would have to be
 // public.
 #[inline(always)]
@@ -183,8 +183,8 @@ fn ssn_stream(bytes: &[u8]) -> SkippedStream
     SkippedStream::ForwardTsn(StreamId(read_u16_be(bytes)), Ssn(read_u16_be(&bytes[2..])))
 }
 
-/// The stream at the front, skipped by a message id: two bytes of stream id, two whose lowest bit
-/// says unordered, and four of message id.
+/// Returns the stream at the front, skipped by a message id: two bytes of stream id, two whose
+/// lowest bit says unordered, and four of message id.
 // Not shared with `dcsctp_chunk`, for the same reason.
 #[inline(always)]
 fn mid_stream(bytes: &[u8]) -> SkippedStream

@@ -62,7 +62,7 @@ impl<'a> SackRef<'a> {
         SackRef::of_value(raw.value)
     }
 
-    /// What a SACK's value means.
+    /// Builds what the value of a SACK means.
     #[tactic(auto, unfolding(dcsctp_chunk::specs::Sack::read))]
     #[inline(always)]
     fn of_value(value: &'a [u8]) -> Option<SackRef<'a>>
@@ -78,7 +78,7 @@ impl<'a> SackRef<'a> {
         Some(SackRef::of_checked(value))
     }
 
-    /// What a value means that is known to mean a SACK.
+    /// Builds what a value means that is known to mean a SACK.
     #[tactic(auto, unfolding(dcsctp_chunk::specs::Sack::read))]
     #[inline(always)]
     pub(crate) fn of_checked(value: &'a [u8]) -> SackRef<'a>
@@ -193,8 +193,8 @@ impl<'a> SackRef<'a> {
     }
 }
 
-/// The two numbers at the front, of two bytes each: how many blocks and how many duplicates there
-/// are, or where a block starts and ends.
+/// Returns the two numbers at the front, of two bytes each: how many blocks and how many duplicates
+/// there are, or where a block starts and ends.
 // One load serves both.
 #[inline(always)]
 fn two_numbers(bytes: &[u8]) -> (u16, u16)

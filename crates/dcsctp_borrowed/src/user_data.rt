@@ -68,7 +68,7 @@ impl<'a> UserData<'a> {
         UserData::read(raw.typ, raw.flags, raw.value)
     }
 
-    /// What a value of this type means. Proves only the kinds' readings.
+    /// Builds what a value of this type means. Proves only the kinds' readings.
     #[inline(always)]
     fn read(typ: u8, flags: u8, value: &'a [u8]) -> Option<UserData<'a>>
         ensures read { option_map user_data_view result ≡ read_user_data typ flags value.now }
@@ -81,7 +81,7 @@ impl<'a> UserData<'a> {
         }
     }
 
-    /// What a DATA chunk's value means, under these flags.
+    /// Builds what the value of a DATA chunk means under these flags.
     #[inline(always)]
     #[tactic(auto, unfolding(dcsctp_chunk::specs::DataChunk::read))]
     fn of_data(flags: u8, value: &'a [u8]) -> Option<UserData<'a>>
@@ -95,7 +95,7 @@ impl<'a> UserData<'a> {
         Some(UserData::of_checked_data(flags, value))
     }
 
-    /// What a value means that is known to mean a DATA chunk.
+    /// Builds what a value means that is known to mean a DATA chunk.
     #[inline(always)]
     #[tactic(auto, unfolding(dcsctp_chunk::specs::DataChunk::read))]
     pub(crate) fn of_checked_data(flags: u8, value: &'a [u8]) -> UserData<'a>
@@ -117,7 +117,7 @@ impl<'a> UserData<'a> {
         }
     }
 
-    /// What an I-DATA chunk's value means, under these flags.
+    /// Builds what the value of an I-DATA chunk means under these flags.
     #[inline(always)]
     #[tactic(auto, unfolding(dcsctp_chunk::specs::IDataChunk::read))]
     fn of_idata(flags: u8, value: &'a [u8]) -> Option<UserData<'a>>
@@ -131,7 +131,7 @@ impl<'a> UserData<'a> {
         Some(UserData::of_checked_idata(flags, value))
     }
 
-    /// What a value means that is known to mean an I-DATA chunk.
+    /// Builds what a value means that is known to mean an I-DATA chunk.
     #[inline(always)]
     #[tactic(auto, unfolding(dcsctp_chunk::specs::IDataChunk::read))]
     pub(crate) fn of_checked_idata(flags: u8, value: &'a [u8]) -> UserData<'a>
@@ -156,7 +156,7 @@ impl<'a> UserData<'a> {
     }
 }
 
-/// The stream of a chunk with these flags and this value, and whether its U bit is set.
+/// Returns the stream of a chunk with these flags and this value, and whether its U bit is set.
 #[inline(always)]
 fn stream_key_of(flags: u8, value: &[u8]) -> StreamKey
     requires { 6 ≤ length value.now }
@@ -166,7 +166,8 @@ fn stream_key_of(flags: u8, value: &[u8]) -> StreamKey
     StreamKey::new(is_set(flags, 2), StreamId(read_u16_be(&value[4..])))
 }
 
-/// What the number before an I-DATA chunk's payload says; what it doesn't say is 0.
+/// Returns the PPID and the FSN that the number before an I-DATA chunk's payload says; 0 for the
+/// one that it doesn't say.
 #[inline(always)]
 fn ppid_and_fsn(is_beginning: bool, number: u32) -> (PpId, Fsn)
     ensures ppid { result.0.0 ≡ (if is_beginning then number else 0) }
