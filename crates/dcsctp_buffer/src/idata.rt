@@ -42,7 +42,7 @@ pub struct BorrowedIData<'a> {
 }
 
 impl BorrowedIData<'_> {
-    /// The value before the payload, as it is written.
+    /// Returns the value before the payload, as it is written.
     fn fixed(&self) -> [u8; FIXED_SIZE]
         ensures bytes { result ≡ fixed_bytes (view self.now) }
         ensures width { IsInWidth (view self.now) }

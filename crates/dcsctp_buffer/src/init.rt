@@ -32,7 +32,7 @@ pub struct BorrowedInit {
 }
 
 impl BorrowedInit {
-    /// The value, as it is written.
+    /// Returns the value, as it is written.
     fn fixed(self) -> [u8; FIXED_SIZE]
         ensures bytes { result ≡ leading (fields self) }
         ensures width { IsInWidth (fields self) }
@@ -59,7 +59,7 @@ impl WritableChunk for BorrowedInit {
     }
 }
 
-/// The type of INIT ACK, or of INIT.
+/// Returns the type of INIT ACK, or of INIT.
 fn chunk_type(is_ack: bool) -> u8
     ensures { result ≡ (if is_ack then 2 else 1) }
 {

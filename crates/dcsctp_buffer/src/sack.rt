@@ -34,7 +34,7 @@ pub struct BorrowedSack<'a> {
 }
 
 impl BorrowedSack<'_> {
-    /// The value before its lists, as it is written.
+    /// Returns the value before its lists, as it is written.
     fn fixed(&self) -> [u8; FIXED_SIZE]
         requires blocks { length self.now.gap_ack_blocks.now < 2 ^ 16 }
         requires duplicates { length self.now.duplicate_tsns.now < 2 ^ 16 }
