@@ -6,8 +6,8 @@ Makes docs/API.md, the list of the libraries' public items, from their sources.
 
   --write    writes the page
   --compare  fails if the page isn't what the sources give, or if a doc comment breaks the house's rules: that of a public
-             function of any crate begins with one of the verbs of this script, and none begins with "The same", since each is
-             read alone
+             function of any crate begins with one of the verbs of this script, and none says "the same" of another, since each
+             is read alone
   --help     prints this
 
 Listed are the public items of the public modules of each library, under the path that a program writes: the signature, the
@@ -445,8 +445,8 @@ def comment_faults(lines):
         if bare.startswith('///'):
             if first is None:
                 first = number, bare[3:].strip()
-                if first[1].startswith('The same'):
-                    yield number, 'begins with "The same", but a doc comment is read alone'
+                if re.match(r'(The|\w+ the) same\b', first[1]):
+                    yield number, 'begins with "The same" or, say, "Returns the same", but a doc comment is read alone'
             continue
         if not bare or bare.startswith(('#[', '// ')):
             continue
