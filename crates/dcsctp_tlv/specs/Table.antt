@@ -4,8 +4,9 @@ use Rattle.std.specs.Prelude.{◌≡◌, ◌≢◌, ◌⊎◌, if◌then◌else�
 use Rattle.dcsctp_tlv.specs.Level.{Row, if_row}
 
 infixr 20 ◌&◌
--- What the values of a kind hold: numbers at fixed places alone; as many bytes or numbers as there
--- are; a text; from a place on, a list of parameters, or one of error causes.
+-- What the values of a kind hold: numbers at fixed places alone; any number of bytes or numbers; a
+-- text; from a place on, a list of parameters, or one of error causes. `Varied` in place of `Fixed`
+-- weakens only `memory` and `heap`: these clauses then let the kind's reader return `OutOfMemory`.
 pub data Content : Type 0 where
   Fixed : Content
   Varied : Content

@@ -170,7 +170,8 @@ pub fn list_build<T: ReadableTlv>(
     Ok(list)
 }
 
-/// Builds the same into a list that has no memory yet.
+/// Builds the items that the bytes mean into a list that has no memory yet, where they are known to
+/// mean `count` items. The memory for the list is taken at once.
 pub fn list_fill<T: ReadableTlv>(
     list: &mut Vec<T>,
     alloc: Global,

@@ -38,7 +38,7 @@ impl Side {
 /// The first packet of an association.
 #[derive(Clone, Copy, Debug)]
 pub struct Began {
-    /// Its number.
+    /// The packet's number.
     pub packet: PacketNumber,
     /// When it was captured, in nanoseconds since 1970-01-01 00:00:00 UTC.
     pub nanoseconds: Option<u64>,
@@ -49,7 +49,7 @@ pub struct Began {
 /// The first packet that shows that an association was established.
 #[derive(Clone, Copy, Debug)]
 pub struct Established {
-    /// Its number.
+    /// The packet's number.
     pub packet: PacketNumber,
     /// When it was captured, in nanoseconds since 1970-01-01 00:00:00 UTC.
     pub nanoseconds: Option<u64>,
@@ -76,7 +76,7 @@ pub struct Ended {
 /// An association, as a capture shows it.
 #[derive(Clone, Debug, Drop)]
 pub struct Association {
-    /// Its number: they are counted from 1 on as they begin.
+    /// The association's number: from 1 on, in order of the first packet.
     pub number: u64,
     /// The number of the association that lived between the same ends when it began (RFC 9260
     /// section 5.2).

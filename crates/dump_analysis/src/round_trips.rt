@@ -53,7 +53,7 @@ struct Sent {
 }
 
 impl RoundTrips {
-    /// Returns none.
+    /// Returns the round trips of an end that sent no TSN.
     pub fn new() -> RoundTrips {
         let none = Sent {
             tsn: 0,

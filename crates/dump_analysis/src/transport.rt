@@ -77,7 +77,7 @@ pub struct TransportNames {
 }
 
 impl TransportNames {
-    /// Returns none.
+    /// Returns a table without names.
     pub fn new(alloc: Global) -> TransportNames {
         TransportNames {
             numbers: HashMap::new(alloc),

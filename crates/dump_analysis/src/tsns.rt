@@ -52,7 +52,7 @@ pub enum Step {
 }
 
 impl Tsns {
-    /// Returns none.
+    /// Returns the TSNs of an end that sent none.
     pub fn new() -> Tsns {
         Tsns {
             span: None,

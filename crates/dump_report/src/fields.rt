@@ -66,7 +66,7 @@ impl Number {
         }
     }
 
-    /// Returns it in another form.
+    /// Returns the number in another form.
     #[inline(always)]
     pub fn in_form(self, form: Form) -> Number {
         Number { form, ..self }

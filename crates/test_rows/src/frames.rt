@@ -24,7 +24,7 @@ fn write_parts(
     write_digits(alloc, rest, out)
 }
 
-/// Writes the same of the chunk at the front, or its fault.
+/// Writes the parts of the chunk at the front, or its fault.
 fn write_chunk_frame(alloc: Global, bytes: &[u8], out: &mut String) -> Result<(), AllocError> {
     match RawChunk::from_bytes_padded(bytes) {
         Ok((raw, padding, rest)) => {
@@ -35,7 +35,7 @@ fn write_chunk_frame(alloc: Global, bytes: &[u8], out: &mut String) -> Result<()
     }
 }
 
-/// Writes the same of the parameter at the front.
+/// Writes the parts of the parameter at the front, or its fault.
 fn write_parameter_frame(alloc: Global, bytes: &[u8], out: &mut String) -> Result<(), AllocError> {
     match RawParameter::from_bytes_padded(bytes) {
         Ok((raw, padding, rest)) => { write_parts(alloc, raw.typ, raw.value, padding, rest, out) }

@@ -191,7 +191,7 @@ fn add_chunk(
     written.resize(written.len().wrapping_add(3) / 4 * 4, 0)
 }
 
-/// Adds the same of all chunks, each of which begins after the one before.
+/// Adds what all chunks print, and how they are written, each of which begins after the one before.
 fn add_chunks(
     alloc: Global,
     chunks: &[u8],

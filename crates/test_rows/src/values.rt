@@ -56,7 +56,7 @@ pub fn write_value<T: SerializableTlv + Debug + Display>(
     write_image(alloc, bytes, value, out)
 }
 
-/// Writes the same of what a reader answered for the bytes, or its fault.
+/// Writes the value that a reader answered for the bytes, as `write_value` does, or its fault.
 pub fn write_read<T: SerializableTlv + Debug + Display + Drop>(
     alloc: Global,
     bytes: &[u8],
