@@ -127,12 +127,12 @@ pub fn least_chunk(typ: u8) -> (usize, u8) {{
 {least_chunks}
 }}
 
-/// Returns the same of a parameter.
+/// Returns the least length and the step of a parameter of this type, as `least_chunk` does.
 pub fn least_parameter(typ: u16) -> (usize, u8) {{
 {least_parameters}
 }}
 
-/// Returns the same of an error cause.
+/// Returns the least length and the step of an error cause of this code, as `least_chunk` does.
 pub fn least_cause(code: u16) -> (usize, u8) {{
 {least_causes}
 }}

@@ -5,7 +5,9 @@
 Makes docs/API.md, the list of the libraries' public items, from their sources.
 
   --write    writes the page
-  --compare  fails if the page isn't what the sources give
+  --compare  fails if the page isn't what the sources give, or if a doc comment breaks the house's rules: that of a public
+             function of any crate begins with one of the verbs of this script, and none says "the same" of another, since each
+             is read alone
   --help     prints this
 
 Listed are the public items of the public modules of each library, under the path that a program writes: the signature, the
@@ -41,6 +43,12 @@ SECTIONS = [
 
 # Traits that say nothing to a caller: what every type has, what the proofs see of a type, and those of the libraries themselves.
 UNLISTED = {'Drop', 'Model', 'Field', 'Kind', 'ListedTlv', 'ReadableTlv', 'Widths'}
+
+# What the doc comment of a public function begins with. One verb says one thing: a call returns, and doesn't give or yield.
+VERBS = set('''
+    Accepts Adds Appends Begins Brings Builds Checks Copies Counts Drops Ends Fills Finds Forgets Hands Keeps Locates Makes Notes Prints
+    Proves Puts Reads Remembers Replaces Returns Runs Sets Shows Splits Takes Verifies Waits Watches Writes
+'''.split())
 
 HEAD = '''# The public items
 
@@ -171,7 +179,7 @@ class Item:
         self.kind, self.name, self.owner, self.lines, self.sentence, self.value = kind, name, owner, lines, sentence, value
 
     def is_law(self):
-        return self.sentence.startswith('A law of ')
+        return self.sentence.startswith('Proves that ')
 
     def is_number_of_kind(self):
         return self.name in ('CHUNK_TYPE', 'PARAMETER_TYPE', 'CAUSE_CODE')
@@ -354,7 +362,7 @@ def all_modules():
             where = path_in_program(name, paths)
             for item in items_of(path) + passed_on(crate, name, path, public):
                 own = where or path_in_program(f'{name}::{item.owner or item.name}', paths).rpartition('::')[0]
-                if own and item.is_law():
+                if own and item.is_law() and 'laws' not in own.split('::'):
                     own = 'dcsctp_wire::laws'
                 if not own or item.is_internal():
                     unlisted.setdefault(name, []).append(item)
@@ -418,11 +426,47 @@ def page():
     return HEAD + '\n' + '\n'.join(contents + [''] + body) + '\n'
 
 
+def broken_comments():
+    """The doc comments that break the house's rules, each with its file and line."""
+    found = []
+    for place, _, files in sorted(os.walk(os.path.join(ROOT, 'crates'))):
+        for file in sorted(files):
+            path = os.path.join(place, file)
+            if file.endswith('.rt') and '/src' in place:
+                found += [f'{os.path.relpath(path, ROOT)}:{line}: {fault}' for line, fault in comment_faults(lines_of(path))]
+    return found
+
+
+def comment_faults(lines):
+    """The lines of a file whose doc comments break a rule, and which."""
+    first, in_trait = None, False
+    for number, line in enumerate(lines, 1):
+        bare = line.strip()
+        if bare.startswith('///'):
+            if first is None:
+                first = number, bare[3:].strip()
+                if re.match(r'(The|\w+ the) same\b', first[1]):
+                    yield number, 'begins with "The same" or, say, "Returns the same", but a doc comment is read alone'
+            continue
+        if not bare or bare.startswith(('#[', '// ')):
+            continue
+        if not line.startswith((' ', '}', ')', '{')):
+            in_trait = line.startswith('pub trait ')
+        function = re.match(r'(pub(?:\(\w+\))? )?(?:final |const |unsafe |extern "C" )*fn (\w+)', bare)
+        if function and (function[1] or in_trait) and first:
+            word = first[1].partition(' ')[0]
+            if word not in VERBS:
+                yield first[0], f'the comment of {function[2]} begins with "{word}", no verb of VERBS in tools/api.py'
+        first = None
+
+
 def main(words):
     if words == ['--write']:
         with open(PAGE, 'w', encoding='utf-8') as file:
             file.write(page())
     elif words == ['--compare']:
+        if broken := broken_comments():
+            sys.exit('\n'.join(broken))
         with open(PAGE, encoding='utf-8') as file:
             if file.read() != page():
                 sys.exit("docs/API.md isn't what the sources give: tools/api.py --write makes it anew")

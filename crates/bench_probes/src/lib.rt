@@ -27,7 +27,7 @@ pub const ANY_CHECKSUM: ChecksumPolicy = ChecksumPolicy {
     strict_padding: false,
 };
 
-/// A law of the policy: it accepts every checksum field, and looks at no padding. It does nothing.
+/// Proves that the policy accepts every checksum field, and looks at no padding. Does nothing.
 pub fn any_checksum()
     ensures accepts { (field word : ℕ) → IsAccepted ANY_CHECKSUM field word }
     ensures padding { ANY_CHECKSUM.strict_padding ≡ false }
@@ -118,8 +118,8 @@ pub extern "C" fn probes_build(alloc: Global, bytes: &[u8]) -> usize
     }
 }
 
-/// The number of bytes of the canonical packet, which is built within as many; 0 where it doesn't
-/// fit. Refused where memory runs out.
+/// Builds the canonical packet within its own size, and returns how many bytes it has; 0 if it
+/// doesn't fit. Refused only if memory runs out.
 fn built_size(alloc: Global, packet: &SctpPacket) -> Result<usize, AllocError>
     requires { (meaning_view packet.now).chunks ≢ [] }
     ensures { IfOk result (λ size. (size ≡ 0)

@@ -38,7 +38,7 @@ impl<'a> Model for CheckedChunk<'a> {
 }
 
 impl<'a> CheckedChunk<'a> {
-    /// The chunk that this type, these flags and this value mean.
+    /// Returns the chunk that this type, these flags and this value mean.
     #[inline(always)]
     fn new(raw: RawChunk<'a>) -> CheckedChunk<'a>
         requires { HasMeaning (chunk_row lenient raw.typ raw.flags) raw.value.now }
@@ -172,7 +172,7 @@ impl<'a> Model for CheckedChunks<'a> {
 }
 
 impl<'a> CheckedChunks<'a> {
-    /// The chunks of bytes that mean chunks.
+    /// Returns the chunks of these bytes, each of which means a chunk.
     #[inline(always)]
     pub(crate) fn new(raws: RawChunks<'a>) -> CheckedChunks<'a>
         requires { MeansSome (chunks lenient) raws × AreBytes raws }

@@ -21,8 +21,8 @@ pub enum Checksum {
 }
 
 impl Checksum {
-    /// Returns what is known of the field of a packet of `size` bytes, of which these were captured,
-    /// where a word is expected.
+    /// Returns what is known of the field of a packet of `size` bytes, of which these were
+    /// captured, where a word is expected.
     pub fn of_packet(bytes: &[u8], size: usize, word: u32) -> Checksum
         ensures { result ≡ known_of_packet bytes.now size word }
     {

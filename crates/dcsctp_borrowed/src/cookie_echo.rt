@@ -22,7 +22,7 @@ pub fn cookie<'a>(raw: &RawChunk<'a>) -> Option<&'a [u8]>
     cookie_in(raw.typ, raw.value)
 }
 
-/// What a value of this type means. Proves only the kind's reading.
+/// Returns what a value of this type means as a cookie. Proves only the kind's reading.
 #[inline(always)]
 #[tactic(auto, unfolding(dcsctp_chunk::specs::CookieEcho::read))]
 fn cookie_in(typ: u8, value: &[u8]) -> Option<&[u8]>

@@ -59,7 +59,7 @@ impl<'a> ForwardTsnRef<'a> {
         }
     }
 
-    /// What a FORWARD-TSN's value means.
+    /// Builds what the value of a FORWARD-TSN means; `None` if it means nothing.
     #[tactic(auto, unfolding(dcsctp_chunk::specs::ForwardTsn::read))]
     #[inline(always)]
     fn of_forward(value: &'a [u8]) -> Option<ForwardTsnRef<'a>>
@@ -74,7 +74,7 @@ impl<'a> ForwardTsnRef<'a> {
         Some(ForwardTsnRef::of_checked_forward(value))
     }
 
-    /// What a value means that is known to mean a FORWARD-TSN.
+    /// Builds what a value means that is known to mean a FORWARD-TSN.
     #[tactic(auto, unfolding(dcsctp_chunk::specs::ForwardTsn::read))]
     #[inline(always)]
     pub(crate) fn of_checked_forward(value: &'a [u8]) -> ForwardTsnRef<'a>
@@ -89,7 +89,7 @@ impl<'a> ForwardTsnRef<'a> {
         }
     }
 
-    /// What an I-FORWARD-TSN's value means.
+    /// Builds what the value of an I-FORWARD-TSN means; `None` if it means nothing.
     #[tactic(auto, unfolding(dcsctp_chunk::specs::IForwardTsn::read))]
     #[inline(always)]
     fn of_iforward(value: &'a [u8]) -> Option<ForwardTsnRef<'a>>
@@ -104,7 +104,7 @@ impl<'a> ForwardTsnRef<'a> {
         Some(ForwardTsnRef::of_checked_iforward(value))
     }
 
-    /// What a value means that is known to mean an I-FORWARD-TSN.
+    /// Builds what a value means that is known to mean an I-FORWARD-TSN.
     #[tactic(auto, unfolding(dcsctp_chunk::specs::IForwardTsn::read))]
     #[inline(always)]
     pub(crate) fn of_checked_iforward(value: &'a [u8]) -> ForwardTsnRef<'a>

@@ -22,7 +22,7 @@ pub fn heartbeat_info<'a>(raw: &RawParameter<'a>) -> Option<&'a [u8]>
     info_in(raw.typ, raw.value)
 }
 
-/// What a value of this type means. Proves only the kind's reading.
+/// Returns what a value of this type means as an info. Proves only the kind's reading.
 #[inline(always)]
 #[tactic(auto, unfolding(dcsctp_tlv::specs::HeartbeatInfo::read))]
 fn info_in(typ: u16, value: &[u8]) -> Option<&[u8]>

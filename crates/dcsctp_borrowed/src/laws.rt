@@ -10,22 +10,22 @@ ghost use Rattle.dcsctp_wire.specs.declared.packet.sctp_packet.ChecksumPolicy.{C
 ghost use Rattle.dcsctp_borrowed.specs.Grammar.{whole, items_of_frames};
 ghost use Rattle.dcsctp_borrowed.specs.Part.{AreItems, Item, Part, after};
 
-/// The items that lie in bytes one after the other are one list.
+/// Proves that the items that lie in bytes one after the other are one list.
 pub fn one_list()
     ensures { (p : Part) (items others : List Item) → AreItems p items → AreItems p others
         → items ≡ others }
 {}
 
-/// Those of bytes that are items of the grammar, chunks, parameters or error causes, are these,
-/// with their types, flags and values.
+/// Proves that bytes that are items of the grammar, chunks, parameters or error causes, have these
+/// items, with their types, flags and values.
 pub fn grammar_items()
     ensures { (rule : frame.PaddingRule) (items : List frame.Item) (bytes : List ℕ)
         → AreBytes bytes → frame.AreItems rule bytes items
         → AreItems (whole bytes) (items_of_frames items) }
 {}
 
-/// Those behind the common header of a packet that is accepted are its chunks: one for one, their
-/// types, flags and values mean the packet's trees.
+/// Proves that the items after the common header of an accepted packet are its chunks: one for one,
+/// their types, flags and values mean the packet's trees.
 pub fn packet_items()
     ensures { (bytes : List ℕ) (word : ℕ) (policy : ChecksumPolicy) (p : PacketTree)
         → AreBytes bytes → Answer bytes word policy (Ok p)

@@ -3,8 +3,8 @@
 //! A packet that was checked is a header and an iterator over its chunks, which can't fail; user
 //! data, a SACK, skipped streams, parameters and those of RE-CONFIG, error causes, the types of
 //! missing parameters, a cookie and a heartbeat's info are read where they lie. What is read here
-//! is what `dcsctp_wire` builds, by the same clauses. Of a packet that may have been cut off, `part`
-//! reads the items that are there.
+//! is what `dcsctp_wire` builds, by the same clauses. Of a packet that may have been cut off,
+//! `part` reads the items that are there.
 #![tactic(auto)]
 
 pub mod checked_chunks;

@@ -27,7 +27,7 @@ pub fn missing_parameters<'a>(raw: &RawParameter<'a>) -> Option<Numbers<'a>>
     missing_in(raw.typ, raw.value)
 }
 
-/// What a value of this code means. Proves only the kind's reading.
+/// Returns what a value of this code means as missing parameters. Proves only the kind's reading.
 #[inline(always)]
 #[tactic(auto, unfolding(dcsctp_cause::specs::MissingMandatoryParameter::read))]
 fn missing_in(code: u16, value: &[u8]) -> Option<Numbers>

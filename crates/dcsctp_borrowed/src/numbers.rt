@@ -29,7 +29,7 @@ impl<'a> Model for Numbers<'a> {
 
 #[tactic(auto, using(crate::proofs::FieldLists::field_count))]
 impl<'a> Numbers<'a> {
-    /// The numbers at the front of the bytes.
+    /// Returns the numbers at the front of the bytes.
     #[inline(always)]
     pub(crate) fn new(count: usize, bytes: &'a [u8]) -> Numbers<'a>
         requires { 2 * count ≤ length bytes.now }

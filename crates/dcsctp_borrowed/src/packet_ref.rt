@@ -63,7 +63,7 @@ impl<'a> SctpPacketRef<'a> {
         }
     }
 
-    /// The parts of bytes that are known to be a packet.
+    /// Returns the parts of bytes that are known to be a packet.
     #[inline(always)]
     fn of_packet(bytes: &'a [u8]) -> SctpPacketRef<'a>
         requires size { 12 ≤ length bytes.now }

@@ -53,7 +53,7 @@ impl<'a> RawCauses<'a> {
         }
     }
 
-    /// The causes that these bytes mean.
+    /// Returns the causes that these bytes mean.
     pub(crate) fn new(rest: &'a [u8]) -> RawCauses<'a>
         requires { MeansSome (causes lenient) rest.now }
         ensures { result ≡ rest.now }
@@ -62,7 +62,7 @@ impl<'a> RawCauses<'a> {
     }
 }
 
-/// Where a chunk of this type has its error causes.
+/// Returns the bytes in which a chunk of this type has its error causes.
 #[inline(always)]
 pub(crate) fn cause_bytes(typ: u8, value: &[u8]) -> Option<&[u8]>
     ensures { option_map (λ bytes. bytes.now) result ≡ cause_bytes typ value.now }

@@ -29,7 +29,7 @@ impl<'a> Model for RawChunks<'a> {
 }
 
 impl<'a> RawChunks<'a> {
-    /// The chunks that these bytes mean.
+    /// Returns the chunks that these bytes mean.
     pub(crate) fn new(rest: &'a [u8]) -> RawChunks<'a>
         requires { MeansSome (chunks lenient) rest.now }
         ensures { result ≡ rest.now }

@@ -56,7 +56,7 @@ impl<'a> RawParameters<'a> {
         }
     }
 
-    /// The parameters that these bytes mean.
+    /// Returns the parameters that these bytes mean.
     pub(crate) fn new(rest: &'a [u8]) -> RawParameters<'a>
         requires { MeansSome (parameters lenient) rest.now }
         ensures { result ≡ rest.now }
@@ -65,7 +65,7 @@ impl<'a> RawParameters<'a> {
     }
 }
 
-/// Where a chunk of this type has its parameters.
+/// Returns the bytes in which a chunk of this type has its parameters.
 #[inline(always)]
 pub(crate) fn parameter_bytes(typ: u8, value: &[u8]) -> Option<&[u8]>
     ensures { option_map (λ bytes. bytes.now) result ≡ parameter_bytes typ value.now }
@@ -84,8 +84,8 @@ pub(crate) fn parameter_bytes(typ: u8, value: &[u8]) -> Option<&[u8]>
     }
 }
 
-/// The parameter or cause at the front of bytes that are known to begin with one, and the bytes
-/// after it and its padding.
+/// Returns the parameter or error cause at the front of bytes that are known to begin with one, and
+/// the bytes after it and its padding.
 #[inline(always)]
 pub(crate) fn front_parts(bytes: &[u8]) -> (RawParameter, &[u8])
     requires { BeginsWithFrame bytes.now }

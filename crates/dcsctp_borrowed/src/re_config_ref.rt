@@ -80,7 +80,7 @@ impl<'a> ReConfigRef<'a> {
         ReConfigRef::of_value(raw.typ, raw.value)
     }
 
-    /// What a value of this type means.
+    /// Builds what a value of this type means.
     fn of_value(typ: u16, value: &'a [u8]) -> Option<ReConfigRef<'a>>
         ensures { option_map re_config_view result ≡ read_re_config typ value.now }
     {
@@ -109,7 +109,7 @@ impl<'a> ReConfigRef<'a> {
     }
 }
 
-/// What an Outgoing SSN Reset Request's value means.
+/// Builds what the value of an Outgoing SSN Reset Request means.
 #[tactic(auto, unfolding(dcsctp_tlv::specs::OutgoingSsnResetRequest::read))]
 fn outgoing_request(value: &[u8]) -> Option<ReConfigRef>
     ensures { option_map re_config_view result ≡ option_map parameter.OutgoingSsnResetRequest
@@ -129,7 +129,7 @@ fn outgoing_request(value: &[u8]) -> Option<ReConfigRef>
     })
 }
 
-/// What an Incoming SSN Reset Request's value means.
+/// Builds what the value of an Incoming SSN Reset Request means.
 #[tactic(auto, unfolding(dcsctp_tlv::specs::IncomingSsnResetRequest::read))]
 fn incoming_request(value: &[u8]) -> Option<ReConfigRef>
     ensures { option_map re_config_view result ≡ option_map parameter.IncomingSsnResetRequest

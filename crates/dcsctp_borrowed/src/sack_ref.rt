@@ -58,7 +58,7 @@ impl<'a> SackRef<'a> {
         SackRef::of_value(raw.value)
     }
 
-    /// What a SACK's value means.
+    /// Builds what the value of a SACK means.
     #[tactic(auto, unfolding(dcsctp_chunk::specs::Sack::read))]
     #[inline(always)]
     fn of_value(value: &'a [u8]) -> Option<SackRef<'a>>
@@ -73,7 +73,7 @@ impl<'a> SackRef<'a> {
         Some(SackRef::of_checked(value))
     }
 
-    /// What a value means that is known to mean a SACK.
+    /// Builds what a value means that is known to mean a SACK.
     #[tactic(auto, unfolding(dcsctp_chunk::specs::Sack::read))]
     #[inline(always)]
     pub(crate) fn of_checked(value: &'a [u8]) -> SackRef<'a>

@@ -59,7 +59,7 @@ impl<'a> UserData<'a> {
         UserData::read(raw.typ, raw.flags, raw.value)
     }
 
-    /// What a value of this type means. Proves only the kinds' readings.
+    /// Builds what a value of this type means. Proves only the kinds' readings.
     #[inline(always)]
     fn read(typ: u8, flags: u8, value: &'a [u8]) -> Option<UserData<'a>>
         ensures read { option_map user_data_view result ≡ read_user_data typ flags value.now }
@@ -72,7 +72,7 @@ impl<'a> UserData<'a> {
         }
     }
 
-    /// What a DATA chunk's value means, under these flags.
+    /// Builds what the value of a DATA chunk means under these flags.
     #[inline(always)]
     #[tactic(auto, unfolding(dcsctp_chunk::specs::DataChunk::read))]
     fn of_data(flags: u8, value: &'a [u8]) -> Option<UserData<'a>>
@@ -86,7 +86,7 @@ impl<'a> UserData<'a> {
         Some(UserData::of_checked_data(flags, value))
     }
 
-    /// What a value means that is known to mean a DATA chunk.
+    /// Builds what a value means that is known to mean a DATA chunk.
     #[inline(always)]
     #[tactic(auto, unfolding(dcsctp_chunk::specs::DataChunk::read))]
     pub(crate) fn of_checked_data(flags: u8, value: &'a [u8]) -> UserData<'a>
@@ -109,7 +109,7 @@ impl<'a> UserData<'a> {
         }
     }
 
-    /// What an I-DATA chunk's value means, under these flags.
+    /// Builds what the value of an I-DATA chunk means under these flags.
     #[inline(always)]
     #[tactic(auto, unfolding(dcsctp_chunk::specs::IDataChunk::read))]
     fn of_idata(flags: u8, value: &'a [u8]) -> Option<UserData<'a>>
@@ -123,7 +123,7 @@ impl<'a> UserData<'a> {
         Some(UserData::of_checked_idata(flags, value))
     }
 
-    /// What a value means that is known to mean an I-DATA chunk.
+    /// Builds what a value means that is known to mean an I-DATA chunk.
     #[inline(always)]
     #[tactic(auto, unfolding(dcsctp_chunk::specs::IDataChunk::read))]
     pub(crate) fn of_checked_idata(flags: u8, value: &'a [u8]) -> UserData<'a>

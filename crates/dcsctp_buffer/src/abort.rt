@@ -40,7 +40,7 @@ impl WritableChunk for BorrowedAbort<'_> {
     }
 }
 
-/// The bytes of a text.
+/// Returns the bytes of a text.
 fn text_bytes(text: &str) -> &[u8]
     ensures bytes { result.now ≡ text.now }
     ensures text { IsText text.now }

@@ -72,8 +72,8 @@ impl WritableChunk for BorrowedData<'_> {
 
 // ---- what DATA and I-DATA have in common
 
-/// The bytes of a chunk with as many before its payload; nothing where two bytes can't hold this
-/// number.
+/// Returns how many bytes a chunk has with a header of `header_size` bytes before its payload;
+/// `None` if two bytes can't hold this number.
 pub(crate) fn data_size(header_size: usize, payload: &[u8]) -> Option<usize>
     requires { header_size < 2 ^ 16 }
     ensures { Sizes result (header_size + length payload.now < 2 ^ 16)

@@ -75,7 +75,7 @@ impl<S: AsSkippedStream> WritableChunk for BorrowedForwardTsn<'_, S> {
     }
 }
 
-/// The type of the chunk of this kind.
+/// Returns the type of the chunk of this kind.
 fn chunk_type(by_mid: bool) -> u8
     ensures { result ≡ type_of by_mid }
 {
@@ -86,7 +86,7 @@ fn chunk_type(by_mid: bool) -> u8
     }
 }
 
-/// The bytes of a stream in it.
+/// Returns how many bytes a stream has in it.
 fn stream_size(by_mid: bool) -> usize
     ensures { result ≡ size_of_stream by_mid }
 {
@@ -97,7 +97,7 @@ fn stream_size(by_mid: bool) -> usize
     }
 }
 
-/// Whether each stream has a place in it.
+/// Returns whether each stream has a place in it.
 fn are_by_mid<S: AsSkippedStream>(by_mid: bool, streams: &[S]) -> bool
     ensures { IsTrue result ↔ AreByMid by_mid (map (S.stream by_mid) streams.now) }
 {
@@ -109,7 +109,7 @@ fn are_by_mid<S: AsSkippedStream>(by_mid: bool, streams: &[S]) -> bool
     true
 }
 
-/// Whether the stream is skipped by a message id.
+/// Returns whether the stream is skipped by a message id.
 fn is_by_mid(stream: &SkippedStream) -> bool
     ensures { result ≡ is_tree_by_mid (skipped_stream_view stream.now) }
 {

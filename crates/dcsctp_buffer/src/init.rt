@@ -57,7 +57,7 @@ impl WritableChunk for BorrowedInit {
     }
 }
 
-/// The type of INIT ACK, or of INIT.
+/// Returns the type of INIT ACK, or of INIT.
 fn chunk_type(is_ack: bool) -> u8
     ensures { result ≡ (if is_ack then 2 else 1) }
 {

@@ -94,7 +94,7 @@ pub fn is_last_chunk(buffer: &[u8], size: usize, start: usize) -> bool
     length >= TLV_HEADER_SIZE && round_up_to_4(length) == size - start
 }
 
-/// What the length field of the chunk at a place says.
+/// Returns what the length field of the chunk at a place says.
 fn chunk_length(buffer: &[u8], start: usize) -> usize
     requires { start + 4 ≤ length buffer.now }
     ensures result { result ≡ frame_length (drop start buffer.now) }
@@ -104,7 +104,7 @@ fn chunk_length(buffer: &[u8], start: usize) -> usize
     read_u16_be(&chunk[LENGTH_OFFSET..]) as usize
 }
 
-/// The bytes of an item's value.
+/// Returns how many bytes the item's value has.
 fn item_value_size(leading: &[u8], numbers: &[u16]) -> usize
     ensures { result ≡ length (item_value leading.now numbers.now) }
 {
@@ -144,7 +144,7 @@ fn put_padded_item(
     );
 }
 
-/// The header of a parameter or an error cause.
+/// Returns the header of a parameter or an error cause.
 fn item_header(typ: u16, value_size: usize) -> [u8; TLV_HEADER_SIZE]
     requires { 4 + value_size < 2 ^ 16 }
     ensures { result ≡ typed_header typ value_size }

@@ -6,7 +6,8 @@ ghost use Rattle.dcsctp_buffer.specs.Buffer.{with_item};
 
 use dcsctp_tlv::frame::{MAX_VALUE_SIZE, TLV_HEADER_SIZE, put_header, put_parameter};
 
-/// The bytes of such a chunk, with header; nothing where two bytes can't hold this number.
+/// Returns how many bytes a chunk with one item has, with its header; `None` if two bytes can't
+/// hold this number.
 pub(crate) fn one_item_size(item_value: &[u8]) -> Option<usize>
     ensures { Sizes result (8 + length item_value.now < 2 ^ 16) (8 + length item_value.now) }
 {

@@ -7,13 +7,13 @@ ghost use Rattle.dcsctp_chunk.specs.Sack.{IsBlockInWidth};
 
 use dcsctp_wire::packet::sack_chunk::GapAckBlock;
 
-/// Each is a byte.
+/// Proves that each is a byte.
 #[inline(always)]
 pub(crate) fn bytes_in_width(bytes: &[u8])
     ensures { AreBytes bytes.now }
 {}
 
-/// Each has a start and an end of 16 bits.
+/// Proves that each block has a start and an end of 16 bits.
 #[inline(always)]
 pub(crate) fn blocks_in_width(blocks: &[GapAckBlock])
     ensures { AllByRecursion IsBlockInWidth blocks.now }
@@ -23,7 +23,7 @@ pub(crate) fn blocks_in_width(blocks: &[GapAckBlock])
     }
 }
 
-/// It has a start and an end of 16 bits.
+/// Proves that the block has a start and an end of 16 bits.
 #[inline(always)]
 fn block_in_width(block: &GapAckBlock)
     ensures { IsBlockInWidth block.now }
@@ -32,7 +32,7 @@ fn block_in_width(block: &GapAckBlock)
     let _end = block.end;
 }
 
-/// Each has 32 bits.
+/// Proves that each number has 32 bits.
 #[inline(always)]
 pub(crate) fn words_in_width(words: &[u32])
     ensures { AllByRecursion (λ n. n < 2 ^ 32) words.now }

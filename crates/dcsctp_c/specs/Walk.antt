@@ -2,8 +2,8 @@
 -- 9260 section 3.2), the parameters or the error causes of a chunk (sections 3.2.1 and 3.3.10).
 use Rattle.std.specs.Prelude.{ℕ, List, [], ◌∷◌}
 
--- Each struct is that of the item where the one before it says that the next is; of the first, at an
--- offset.
+-- Each struct is that of the item where the one before it says that the next is; of the first, at
+-- an offset.
 abbrev pub AreFrom : {S : Type 0} → (ℕ → S → Type 0) → (S → ℕ) → ℕ → List S → Type 0
 AreFrom IsAt next offset [] = Unit {0}
 AreFrom IsAt next offset (s ∷ ss) = IsAt offset s × AreFrom IsAt next (next s) ss

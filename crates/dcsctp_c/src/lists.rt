@@ -106,7 +106,7 @@ pub extern "C" fn dcsctp_add_missing_parameters(
 
 // ---- helpers
 
-/// Whether stream ids end a parameter of this type.
+/// Returns whether stream ids end a parameter of this type.
 fn has_streams(typ: u16) -> bool
     ensures { result ≡ has_streams typ }
 {

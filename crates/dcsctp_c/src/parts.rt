@@ -416,7 +416,7 @@ fn read_init(bytes: &[u8], chunk: &DcsctpChunk) -> Option<DcsctpInit>
     init_in(chunk.typ, value_of(bytes, chunk)?)
 }
 
-/// Reads the same of a chunk of this type with this value.
+/// Reads the numbers before the parameters of a chunk of this type with this value.
 #[inline(always)]
 pub(crate) fn init_in(typ: u8, value: &[u8]) -> Option<DcsctpInit>
     ensures { Reads HoldsInit (read_init typ value.now) result }
@@ -447,7 +447,7 @@ fn read_shutdown(bytes: &[u8], chunk: &DcsctpChunk) -> Option<u32>
     shutdown_in(chunk.typ, value_of(bytes, chunk)?)
 }
 
-/// Reads the same of a chunk of this type with this value.
+/// Reads the cumulative TSN ack of a chunk of this type with this value.
 #[inline(always)]
 pub(crate) fn shutdown_in(typ: u8, value: &[u8]) -> Option<u32>
     ensures { result ≡ read_shutdown typ value.now }

@@ -114,7 +114,7 @@ fn re_config_ref<'a>(bytes: &'a [u8], parameter: &DcsctpParameter) -> Option<ReC
     })
 }
 
-/// Returns it as its struct.
+/// Returns what was read of a RE-CONFIG parameter as its C struct.
 #[inline(always)]
 fn re_config_struct(found: &ReConfigRef<'_>) -> DcsctpReConfig
     ensures { HoldsReConfig (re_config_view found.now) result }

@@ -344,7 +344,7 @@ impl AsSkippedStream for DcsctpSkippedStream {
     }
 }
 
-/// The chunk with the struct's numbers.
+/// Builds the chunk with the struct's numbers.
 fn init_chunk(is_ack: bool, init: &DcsctpInit) -> BorrowedInit
     ensures { init_view result ≡ init_of is_ack (init_tree init.now) }
 {

@@ -29,8 +29,8 @@ pub struct CookieReceivedWhileShuttingDownErrorCause {}
 impl CookieReceivedWhileShuttingDownErrorCause {
     /// Reads the cause; no memory is taken.
     ///
-    /// `InvalidType` exactly for another code; `InvalidLength` if and only if the value isn't
-    /// empty.
+    /// `InvalidType` if and only if the code is another; `InvalidLength` if and only if the value
+    /// isn't empty.
     pub fn try_from(raw: RawParameter) -> Result<Self, ChunkParseError>
         ensures other { IsErrOf result ChunkParseError.InvalidType ↔ (raw.entry.typ ≢ CAUSE_CODE) }
         ensures answer { raw.entry.typ ≡ CAUSE_CODE →
@@ -44,7 +44,7 @@ impl CookieReceivedWhileShuttingDownErrorCause {
         Ok(CookieReceivedWhileShuttingDownErrorCause::build(raw.value))
     }
 
-    /// `InvalidLength` if and only if the value isn't empty.
+    /// Checks the value: `InvalidLength` if and only if it isn't empty.
     pub(crate) fn check(value: &[u8]) -> Result<(), ChunkParseError>
         ensures { Exactly checking (λ u. u) (Tested (kind.read value.now)) result }
     {
@@ -54,7 +54,7 @@ impl CookieReceivedWhileShuttingDownErrorCause {
         Ok(())
     }
 
-    /// What the value means.
+    /// Builds the cause that the value means.
     pub(crate) fn build(value: &[u8]) -> Self
         requires { IsOk (kind.read value.now) }
         ensures { kind.read value.now ≡ Ok (kind.view result) }

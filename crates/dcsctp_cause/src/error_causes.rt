@@ -112,7 +112,7 @@ impl ErrorCause {
         ErrorCause::check_kind(code, value)
     }
 
-    /// The check of the code's kind; any value of another code passes.
+    /// Checks the value as its code's kind does; any value of another code passes.
     #[tactic(auto, unfolding(crate::specs::UnrecognizedChunk::read))]
     fn check_kind(code: u16, value: &[u8]) -> Result<(), ChunkParseError>
         ensures { ChecksKind cause.kinds 0 code value.now result }
@@ -120,7 +120,7 @@ impl ErrorCause {
         kinds!(check_arms, code, value)
     }
 
-    /// What the value means.
+    /// Builds the cause that the value means.
     #[tactic(auto, unfolding(crate::specs::UnrecognizedChunk::read, dcsctp_tlv::specs::UnknownParameter::read))]
     fn build(alloc: Global, code: u16, value: &[u8]) -> Result<Self, AllocError>
         requires { HasMeaning (cause.row code) value.now }
@@ -245,9 +245,9 @@ pub fn error_cause_from_bytes(
     list_from_bytes(alloc, bytes)
 }
 
-/// The number of error causes, or the first fault from the left. Does not allocate.
+/// Counts the error causes, or returns the first fault from the left. Does not allocate.
 ///
-/// Where it is strict, `InvalidPadding` is the fault of a cause that has a meaning, and padding
+/// If `strict` is true, `InvalidPadding` is the fault of a cause that has a meaning, and padding
 /// that isn't zero; the last may lack some or all of it.
 pub fn error_cause_check(bytes: &[u8], strict: bool) -> Result<usize, ChunkParseError>
     ensures answer { Exactly checking (λ n. n)

@@ -43,14 +43,14 @@ pub struct MissingMandatoryParameterErrorCause {
 
 #[tactic(auto, unfolding(crate::specs::MissingMandatoryParameter::read))]
 impl MissingMandatoryParameterErrorCause {
-    /// The cause with these types.
+    /// Builds the cause with these types.
     pub fn new(missing_parameters: Vec<u16>) -> MissingMandatoryParameterErrorCause
         ensures { result.missing_parameters ≡ missing_parameters }
     {
         MissingMandatoryParameterErrorCause { missing_parameters }
     }
 
-    /// A cause with the same types; refused only where memory runs out.
+    /// Copies the cause with its types; refused only if memory runs out.
     pub fn clone(&self) -> Result<MissingMandatoryParameterErrorCause, AllocError>
         ensures same { IfOk result
             (λ c. c.missing_parameters.items ≡ self.now.missing_parameters.items) }
@@ -67,9 +67,9 @@ impl MissingMandatoryParameterErrorCause {
 
     /// Reads the cause, and copies its types.
     ///
-    /// `InvalidType` exactly for another code; `InvalidLength` if and only if the value has fewer
-    /// than 4 bytes, or other than 4 and 2 more for each type that it counts; `OutOfMemory` only
-    /// where the types can't be copied.
+    /// `InvalidType` if and only if the code is another; `InvalidLength` if and only if the value
+    /// has fewer than 4 bytes, or other than 4 and 2 more for each type that it counts;
+    /// `OutOfMemory` only where the types can't be copied.
     pub fn try_from(alloc: Global, raw: RawParameter) -> Result<Self, ChunkParseError>
         ensures other { IsErrOf result ChunkParseError.InvalidType ↔ (raw.entry.typ ≢ CAUSE_CODE) }
         ensures answer { raw.entry.typ ≡ CAUSE_CODE →
@@ -86,8 +86,8 @@ impl MissingMandatoryParameterErrorCause {
         Ok(MissingMandatoryParameterErrorCause::build(alloc, raw.value)?)
     }
 
-    /// `InvalidLength` if and only if the value has fewer than 4 bytes, or other than 4 and 2 more
-    /// for each type that it counts.
+    /// Checks the value: `InvalidLength` if and only if it has fewer than 4 bytes, or other than 4
+    /// and 2 more for each type that it counts.
     pub(crate) fn check(value: &[u8]) -> Result<(), ChunkParseError>
         ensures { Exactly checking (λ u. u) (Tested (kind.read value.now)) result }
     {
@@ -101,7 +101,7 @@ impl MissingMandatoryParameterErrorCause {
         Ok(())
     }
 
-    /// What the value means.
+    /// Builds the cause that the value means.
     pub(crate) fn build(alloc: Global, value: &[u8]) -> Result<Self, AllocError>
         requires { IsOk (kind.read value.now) }
         ensures meant { IfOk result (λ x. kind.read value.now ≡ Ok (kind.view x)) }

@@ -37,8 +37,8 @@ pub struct NoUserDataErrorCause {
 impl NoUserDataErrorCause {
     /// Reads the cause; no memory is taken.
     ///
-    /// `InvalidType` exactly for another code; `InvalidLength` if and only if the value hasn't 4
-    /// bytes.
+    /// `InvalidType` if and only if the code is another; `InvalidLength` if and only if the value
+    /// hasn't 4 bytes.
     pub fn try_from(raw: RawParameter) -> Result<Self, ChunkParseError>
         ensures other { IsErrOf result ChunkParseError.InvalidType ↔ (raw.entry.typ ≢ CAUSE_CODE) }
         ensures answer { raw.entry.typ ≡ CAUSE_CODE →
@@ -52,7 +52,7 @@ impl NoUserDataErrorCause {
         Ok(NoUserDataErrorCause::build(raw.value))
     }
 
-    /// `InvalidLength` if and only if the value hasn't 4 bytes.
+    /// Checks the value: `InvalidLength` if and only if it hasn't 4 bytes.
     pub(crate) fn check(value: &[u8]) -> Result<(), ChunkParseError>
         ensures { Exactly checking (λ u. u) (Tested (kind.read value.now)) result }
     {
@@ -62,7 +62,7 @@ impl NoUserDataErrorCause {
         Ok(())
     }
 
-    /// What the value means.
+    /// Builds the cause that the value means.
     pub(crate) fn build(value: &[u8]) -> Self
         requires { IsOk (kind.read value.now) }
         ensures { kind.read value.now ≡ Ok (kind.view result) }

@@ -38,7 +38,8 @@ pub struct UnrecognizedChunkErrorCause {
 impl UnrecognizedChunkErrorCause {
     /// Reads the cause, and copies the chunk.
     ///
-    /// `InvalidType` exactly for another code; `OutOfMemory` only where the chunk can't be copied.
+    /// `InvalidType` if and only if the code is another; `OutOfMemory` only where the chunk can't
+    /// be copied.
     pub fn try_from(alloc: Global, raw: RawParameter) -> Result<Self, ChunkParseError>
         ensures other { IsErrOf result ChunkParseError.InvalidType ↔ (raw.entry.typ ≢ CAUSE_CODE) }
         ensures answer { raw.entry.typ ≡ CAUSE_CODE →

@@ -40,7 +40,8 @@ pub struct UserInitiatedAbortErrorCause {
 impl UserInitiatedAbortErrorCause {
     /// Reads the cause, and copies the text; where the value isn't UTF-8, the text says so.
     ///
-    /// `InvalidType` exactly for another code; `OutOfMemory` only where the text can't be copied.
+    /// `InvalidType` if and only if the code is another; `OutOfMemory` only where the text can't be
+    /// copied.
     pub fn try_from(alloc: Global, raw: RawParameter) -> Result<Self, ChunkParseError>
         ensures other { IsErrOf result ChunkParseError.InvalidType ↔ (raw.entry.typ ≢ CAUSE_CODE) }
         ensures answer { raw.entry.typ ≡ CAUSE_CODE →
@@ -55,7 +56,7 @@ impl UserInitiatedAbortErrorCause {
         Ok(UserInitiatedAbortErrorCause::build(alloc, raw.value)?)
     }
 
-    /// Any value passes.
+    /// Accepts any value.
     pub(crate) fn check(_value: &[u8]) -> Result<(), ChunkParseError>
         ensures { Exactly checking (λ u. u) (Tested (kind.read _value.now)) result }
     {

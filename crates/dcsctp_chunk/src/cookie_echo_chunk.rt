@@ -37,7 +37,7 @@ pub struct CookieEchoChunk {
 
 #[tactic(auto, unfolding(crate::specs::CookieEcho::read))]
 impl CookieEchoChunk {
-    /// The chunk with an empty cookie. Does not allocate.
+    /// Builds the chunk with an empty cookie. Does not allocate.
     pub fn new(alloc: Global) -> CookieEchoChunk
         ensures cookie { result.cookie.items ≡ [] }
         ensures memory { vec_capacity result.cookie ≡ 0 }
@@ -47,7 +47,7 @@ impl CookieEchoChunk {
         }
     }
 
-    /// A chunk with the same cookie; refused only where memory runs out.
+    /// Copies the chunk with its cookie; refused only if memory runs out.
     pub fn clone(&self) -> Result<CookieEchoChunk, AllocError>
         ensures same { IfOk result (λ c. c.cookie.items ≡ self.now.cookie.items) }
         ensures tight { IfOk result (λ c. vec_capacity c.cookie ≡ vec_len c.cookie) }
@@ -59,8 +59,8 @@ impl CookieEchoChunk {
 
     /// Reads the chunk, and copies its cookie; flags are ignored.
     ///
-    /// `InvalidType` exactly for another type; `InvalidLength` if and only if the value is empty;
-    /// `OutOfMemory` only where the cookie can't be copied.
+    /// `InvalidType` if and only if the type is another; `InvalidLength` if and only if the value
+    /// is empty; `OutOfMemory` only where the cookie can't be copied.
     pub fn try_from(alloc: Global, raw: RawChunk) -> Result<Self, ChunkParseError>
         ensures other { IsErrOf result ChunkParseError.InvalidType ↔ (raw.entry.typ ≢ CHUNK_TYPE) }
         ensures answer { raw.entry.typ ≡ CHUNK_TYPE →
@@ -76,7 +76,7 @@ impl CookieEchoChunk {
         Ok(CookieEchoChunk::build(alloc, raw.flags, raw.value)?)
     }
 
-    /// `InvalidLength` if and only if the value is empty.
+    /// Checks the value: `InvalidLength` if and only if it is empty.
     pub(crate) fn check(value: &[u8]) -> Result<(), ChunkParseError>
         ensures { Exactly checking (λ u. u) (Tested (kind.read value.now)) result }
     {

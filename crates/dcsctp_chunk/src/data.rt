@@ -36,8 +36,8 @@ pub struct Data {
 }
 
 impl Data {
-    /// No payload, ordered on stream 0, with all numbers 0, neither a beginning nor an end.
-    /// Does not allocate.
+    /// Builds user data without payload, ordered on stream 0, with all numbers 0, neither a
+    /// beginning nor an end. Does not allocate.
     pub fn new(alloc: Global) -> Data
         ensures fields { user_data_view result ≡ no_data }
         ensures memory { vec_capacity result.payload ≡ 0 }
@@ -54,7 +54,7 @@ impl Data {
         }
     }
 
-    /// The same, with a payload of its own; refused only where memory runs out.
+    /// Copies the user data with its payload; refused only if memory runs out.
     pub fn clone(&self) -> Result<Data, AllocError>
         ensures same { IfOk result (λ d. user_data_view d ≡ user_data_view self.now) }
         ensures tight { IfOk result (λ d. vec_capacity d.payload ≡ vec_len d.payload) }
@@ -71,7 +71,7 @@ impl Data {
         })
     }
 
-    /// The flags of a chunk that holds it.
+    /// Returns the flags of a chunk that holds the user data.
     pub(crate) fn flags(&self, immediate_ack: bool) -> u8
         ensures { result ≡ user_data_flags (user_data_view self.now) immediate_ack }
     {
@@ -83,7 +83,7 @@ impl Data {
         )
     }
 
-    /// How it is delivered, in a word.
+    /// Returns how the user data is delivered, in a word.
     pub(crate) fn order(&self) -> &'static str
         ensures { result.now ≡ order_text (user_data_view self.now) }
     {
@@ -94,7 +94,7 @@ impl Data {
         }
     }
 
-    /// Which part of its message it is, in a word.
+    /// Returns which part of its message the user data is, in a word.
     pub(crate) fn part(&self) -> &'static str
         ensures { result.now ≡ part_text (user_data_view self.now) }
     {
@@ -107,7 +107,7 @@ impl Data {
     }
 }
 
-/// A law: the numbers of a chunk of user data lie in their fields' widths. It does nothing.
+/// Proves that the numbers of a chunk of user data lie in their fields' widths. Does nothing.
 pub(crate) fn data_has_widths(tsn: Tsn, user_data: &Data, immediate_ack: bool)
     ensures { IsInWidth (tree_of tsn user_data.now immediate_ack) }
 {

@@ -3,7 +3,7 @@
 ghost use Rattle.std.specs.Prelude.{◌≡◌, ◌<◌, [], ◌∷◌};
 ghost use Rattle.dcsctp_chunk.specs.Flags as bits;
 
-/// Whether a bit is set: the lowest is bit 0, and the highest bit 7.
+/// Returns whether a bit is set: the lowest is bit 0, and the highest bit 7.
 #[tactic(auto, using(std::proofs::lemmas::Nat::Bits::shr_and_one))]
 pub fn is_set(flags: u8, bit: u32) -> bool
     requires { bit < 8 }
@@ -12,14 +12,15 @@ pub fn is_set(flags: u8, bit: u32) -> bool
     (flags >> bit) & 1 == 1
 }
 
-/// The flags of which bit 0 alone has a meaning, as those of ABORT and SHUTDOWN COMPLETE.
+/// Returns the flags of which bit 0 alone has a meaning, as those of ABORT and SHUTDOWN COMPLETE.
 pub fn one_flag(lowest: bool) -> u8
     ensures { result ≡ bits.flag_byte (lowest ∷ []) }
 {
     lowest as u8
 }
 
-/// The flags of which bits 0 to 3 have a meaning, as those of DATA and I-DATA; the lowest first.
+/// Returns the flags of which bits 0 to 3 have a meaning, as those of DATA and I-DATA; the lowest
+/// first.
 pub fn four_flags(bit_0: bool, bit_1: bool, bit_2: bool, bit_3: bool) -> u8
     ensures { result ≡ bits.flag_byte (bit_0 ∷ bit_1 ∷ bit_2 ∷ bit_3 ∷ []) }
 {

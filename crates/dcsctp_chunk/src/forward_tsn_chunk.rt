@@ -124,8 +124,9 @@ impl ForwardTsnChunk {
     /// Reads the chunk, and copies its skipped streams, each as `SkippedStream::ForwardTsn`; flags
     /// are ignored.
     ///
-    /// `InvalidType` exactly for another type; `InvalidLength` if and only if the value has fewer
-    /// than 4 bytes, or no multiple of 4; `OutOfMemory` only where the streams can't be copied.
+    /// `InvalidType` if and only if the type is another; `InvalidLength` if and only if the value
+    /// has fewer than 4 bytes, or no multiple of 4; `OutOfMemory` only where the streams can't be
+    /// copied.
     pub fn try_from(alloc: Global, raw: RawChunk) -> Result<Self, ChunkParseError>
         ensures other { IsErrOf result ChunkParseError.InvalidType ↔ (raw.entry.typ ≢ CHUNK_TYPE) }
         ensures answer { raw.entry.typ ≡ CHUNK_TYPE →
@@ -142,7 +143,8 @@ impl ForwardTsnChunk {
         Ok(ForwardTsnChunk::build(alloc, raw.flags, raw.value)?)
     }
 
-    /// `InvalidLength` if and only if the value has fewer than 4 bytes, or no multiple of 4.
+    /// Checks the value: `InvalidLength` if and only if it has fewer than 4 bytes, or no multiple
+    /// of 4.
     pub(crate) fn check(value: &[u8]) -> Result<(), ChunkParseError>
         ensures { Exactly checking (λ u. u) (Tested (kind.read value.now)) result }
     {
@@ -155,7 +157,7 @@ impl ForwardTsnChunk {
         Ok(())
     }
 
-    /// What the value means.
+    /// Builds the chunk that the value means.
     pub fn build(alloc: Global, _flags: u8, value: &[u8]) -> Result<Self, AllocError>
         requires { IsOk (kind.read value.now) }
         ensures meant { IfOk result (λ x. kind.read value.now ≡ Ok (kind.view x)) }

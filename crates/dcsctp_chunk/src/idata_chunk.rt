@@ -145,8 +145,8 @@ impl IDataChunk {
     /// Reads the chunk, and copies its payload; flags but the four lowest and the reserved bytes
     /// are ignored.
     ///
-    /// `InvalidType` exactly for another type; `InvalidLength` if and only if the value has fewer
-    /// than 16 bytes; `OutOfMemory` only where the payload can't be copied.
+    /// `InvalidType` if and only if the type is another; `InvalidLength` if and only if the value
+    /// has fewer than 16 bytes; `OutOfMemory` only where the payload can't be copied.
     pub fn try_from(alloc: Global, raw: RawChunk) -> Result<Self, ChunkParseError>
         ensures other { IsErrOf result ChunkParseError.InvalidType ↔ (raw.entry.typ ≢ CHUNK_TYPE) }
         ensures answer { raw.entry.typ ≡ CHUNK_TYPE →
@@ -164,7 +164,7 @@ impl IDataChunk {
         Ok(IDataChunk::build(alloc, raw.flags, raw.value)?)
     }
 
-    /// `InvalidLength` if and only if the value has fewer than 16 bytes.
+    /// Checks the value: `InvalidLength` if and only if it has fewer than 16 bytes.
     pub(crate) fn check(value: &[u8]) -> Result<(), ChunkParseError>
         ensures size { OnOk result (16 ≤ length value.now) }
         ensures short { OnErr result (length value.now < 16) }
@@ -176,7 +176,7 @@ impl IDataChunk {
         Ok(())
     }
 
-    /// What the value means, under these flags.
+    /// Builds the chunk that the value means under these flags.
     pub fn build(alloc: Global, flags: u8, value: &[u8]) -> Result<Self, AllocError>
         requires { IsOk (kind.read flags value.now) }
         ensures meant { IfOk result (λ x. kind.read flags value.now ≡ Ok (kind.view x)) }

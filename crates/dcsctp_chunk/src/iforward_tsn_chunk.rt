@@ -97,9 +97,9 @@ impl IForwardTsnChunk {
     /// Reads the chunk, and copies its skipped streams, each as `SkippedStream::IForwardTsn`;
     /// flags are ignored.
     ///
-    /// `InvalidType` exactly for another type; `InvalidLength` if and only if the value has fewer
-    /// than 4 bytes, or no multiple of 8 after the first 4; `OutOfMemory` only where the streams
-    /// can't be copied.
+    /// `InvalidType` if and only if the type is another; `InvalidLength` if and only if the value
+    /// has fewer than 4 bytes, or no multiple of 8 after the first 4; `OutOfMemory` only where the
+    /// streams can't be copied.
     pub fn try_from(alloc: Global, raw: RawChunk) -> Result<Self, ChunkParseError>
         ensures other { IsErrOf result ChunkParseError.InvalidType ↔ (raw.entry.typ ≢ CHUNK_TYPE) }
         ensures answer { raw.entry.typ ≡ CHUNK_TYPE →
@@ -116,8 +116,8 @@ impl IForwardTsnChunk {
         Ok(IForwardTsnChunk::build(alloc, raw.flags, raw.value)?)
     }
 
-    /// `InvalidLength` if and only if the value has fewer than 4 bytes, or no multiple of 8 after
-    /// the first 4.
+    /// Checks the value: `InvalidLength` if and only if it has fewer than 4 bytes, or no multiple
+    /// of 8 after the first 4.
     pub(crate) fn check(value: &[u8]) -> Result<(), ChunkParseError>
         ensures { Exactly checking (λ u. u) (Tested (kind.read value.now)) result }
     {
@@ -130,7 +130,7 @@ impl IForwardTsnChunk {
         Ok(())
     }
 
-    /// What the value means.
+    /// Builds the chunk that the value means.
     pub fn build(alloc: Global, _flags: u8, value: &[u8]) -> Result<Self, AllocError>
         requires { IsOk (kind.read value.now) }
         ensures meant { IfOk result (λ x. kind.read value.now ≡ Ok (kind.view x)) }

@@ -33,10 +33,10 @@ macro_rules! plain_kinds {
     };
 }
 
-/// Whether the value is one that the chunk's kind reads. Does not allocate.
+/// Checks whether the chunk's kind reads the value. Does not allocate.
 ///
-/// `InvalidLength` if and only if the value has a size that its kind doesn't allow. Each value
-/// passes whose type has no kind of its own, or a kind with a list of parameters or error causes.
+/// `InvalidLength` if and only if the value has a size that its kind doesn't allow. Returns `Ok`
+/// for types without a kind, and for kinds with a list of parameters or error causes.
 #[tactic(auto, unfolding(crate::specs::DataChunk::read, crate::specs::IDataChunk::read, crate::specs::ShutdownComplete::read))]
 pub fn plain_check(raw: RawChunk) -> Result<(), ChunkParseError>
     ensures answer { ChecksKind plain_kinds raw.entry.flags raw.entry.typ raw.entry.value.now

@@ -28,12 +28,13 @@ pub struct RawChunk<'a> {
 }
 
 impl<'a> RawChunk<'a> {
-    /// The chunk at the front of `bytes`, and the bytes after it and its padding.
+    /// Splits `bytes` into the chunk at their front, and the bytes after it and its padding:
+    /// `(chunk, rest)`.
     ///
     /// Value and rest are parts of the input, and no memory is taken. Padding isn't looked at; the
-    /// last chunk of a packet may lack some or all of it, and then nothing is left.
-    /// `InvalidLength` if and only if there are fewer than 4 bytes, or the length field is below 4
-    /// or above the number of bytes.
+    /// last chunk of a packet may lack some or all of it, and then nothing is left. `InvalidLength`
+    /// if and only if there are fewer than 4 bytes, or the length field is below 4 or above the
+    /// number of bytes.
     pub fn from_bytes(bytes: &'a [u8]) -> Result<(Self, &'a [u8]), ChunkParseError>
         ensures frame { IsOk result ↔ BeginsWithFrame bytes.now }
         ensures typ { IfOk result (λ x. x.0.typ ≡ slice_index bytes.now 0) }
@@ -53,7 +54,8 @@ impl<'a> RawChunk<'a> {
         ))
     }
 
-    /// The same, and between them its padding, as far as it is there.
+    /// Splits `bytes` into the chunk at their front, its padding as far as it is there, and the
+    /// bytes after that: `(chunk, padding, rest)`. `InvalidLength` as in `from_bytes`.
     ///
     /// Value, padding and rest are parts of the input, one after the other. A reader that wants
     /// zeros in the padding can look at it.

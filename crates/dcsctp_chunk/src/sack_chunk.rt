@@ -129,8 +129,8 @@ pub struct GapAckBlock {
 }
 
 impl GapAckBlock {
-    /// The block from `start` to `end`, both counted from the cumulative TSN. Any two numbers make
-    /// one, also where it ends before its start.
+    /// Builds the block from `start` to `end`, both counted from the cumulative TSN. Any two
+    /// numbers make one, also if it ends before its start.
     pub fn new(start: u16, end: u16) -> Self
         ensures start { result.start ≡ start }
         ensures end { result.end ≡ end }
@@ -190,9 +190,9 @@ pub struct SackChunk {
 impl SackChunk {
     /// Reads the chunk, and copies its blocks and its duplicate TSNs; flags are ignored.
     ///
-    /// `InvalidType` exactly for another type; `InvalidLength` if and only if the value has fewer
-    /// than 12 bytes, or isn't just as long as its two counts say; `OutOfMemory` only where the
-    /// lists can't be copied.
+    /// `InvalidType` if and only if the type is another; `InvalidLength` if and only if the value
+    /// has fewer than 12 bytes, or isn't just as long as its two counts say; `OutOfMemory` only
+    /// where the lists can't be copied.
     pub fn try_from(alloc: Global, raw: RawChunk) -> Result<Self, ChunkParseError>
         ensures other { IsErrOf result ChunkParseError.InvalidType ↔ (raw.entry.typ ≢ CHUNK_TYPE) }
         ensures answer { raw.entry.typ ≡ CHUNK_TYPE →
@@ -209,8 +209,8 @@ impl SackChunk {
         Ok(SackChunk::build(alloc, raw.flags, raw.value)?)
     }
 
-    /// `InvalidLength` if and only if the value has fewer than 12 bytes, or isn't just as long as
-    /// its two counts say.
+    /// Checks the value: `InvalidLength` if and only if it has fewer than 12 bytes, or isn't just
+    /// as long as its two counts say.
     pub(crate) fn check(value: &[u8]) -> Result<(), ChunkParseError>
         ensures { Exactly checking (λ u. u) (Tested (kind.read value.now)) result }
     {
@@ -223,7 +223,7 @@ impl SackChunk {
         Ok(())
     }
 
-    /// What the value means.
+    /// Builds the chunk that the value means.
     pub fn build(alloc: Global, _flags: u8, value: &[u8]) -> Result<Self, AllocError>
         requires { IsOk (kind.read value.now) }
         ensures meant { IfOk result (λ x. kind.read value.now ≡ Ok (kind.view x)) }
@@ -299,7 +299,7 @@ impl fmt::Display for SackChunk {
     }
 }
 
-/// A law: the numbers of each lie in their fields' widths. It does nothing.
+/// Proves that the numbers of each block lie in their fields' widths. Does nothing.
 fn blocks_have_widths(blocks: &[GapAckBlock])
     ensures { AllByRecursion kind.IsBlockInWidth blocks.now }
 {
@@ -308,7 +308,7 @@ fn blocks_have_widths(blocks: &[GapAckBlock])
     }
 }
 
-/// The same of one.
+/// Proves that the numbers of a block lie in their fields' widths.
 fn block_has_widths(block: &GapAckBlock)
     ensures { kind.IsBlockInWidth block.now }
 {

@@ -29,8 +29,8 @@ pub struct ShutdownAckChunk;
 impl ShutdownAckChunk {
     /// Reads the chunk; flags are ignored, and no memory is taken.
     ///
-    /// `InvalidType` exactly for another type; `InvalidLength` if and only if the value isn't
-    /// empty.
+    /// `InvalidType` if and only if the type is another; `InvalidLength` if and only if the value
+    /// isn't empty.
     pub fn try_from(raw: RawChunk) -> Result<Self, ChunkParseError>
         ensures other { IsErrOf result ChunkParseError.InvalidType ↔ (raw.entry.typ ≢ CHUNK_TYPE) }
         ensures answer { raw.entry.typ ≡ CHUNK_TYPE →
@@ -44,7 +44,7 @@ impl ShutdownAckChunk {
         Ok(ShutdownAckChunk::build(raw.flags, raw.value))
     }
 
-    /// `InvalidLength` if and only if the value isn't empty.
+    /// Checks the value: `InvalidLength` if and only if it isn't empty.
     pub(crate) fn check(value: &[u8]) -> Result<(), ChunkParseError>
         ensures { Exactly checking (λ u. u) (Tested (kind.read value.now)) result }
     {
@@ -54,7 +54,7 @@ impl ShutdownAckChunk {
         Ok(())
     }
 
-    /// What the value means.
+    /// Builds the chunk that the value means.
     pub fn build(_flags: u8, value: &[u8]) -> Self
         requires { IsOk (kind.read value.now) }
         ensures { kind.read value.now ≡ Ok (kind.view result) }

@@ -37,8 +37,8 @@ pub struct ShutdownChunk {
 impl ShutdownChunk {
     /// Reads the chunk; flags are ignored, and no memory is taken.
     ///
-    /// `InvalidType` exactly for another type; `InvalidLength` if and only if the value hasn't 4
-    /// bytes.
+    /// `InvalidType` if and only if the type is another; `InvalidLength` if and only if the value
+    /// hasn't 4 bytes.
     pub fn try_from(raw: RawChunk) -> Result<Self, ChunkParseError>
         ensures other { IsErrOf result ChunkParseError.InvalidType ↔ (raw.entry.typ ≢ CHUNK_TYPE) }
         ensures answer { raw.entry.typ ≡ CHUNK_TYPE →
@@ -52,7 +52,7 @@ impl ShutdownChunk {
         Ok(ShutdownChunk::build(raw.flags, raw.value))
     }
 
-    /// `InvalidLength` if and only if the value hasn't 4 bytes.
+    /// Checks the value: `InvalidLength` if and only if it hasn't 4 bytes.
     pub(crate) fn check(value: &[u8]) -> Result<(), ChunkParseError>
         ensures { Exactly checking (λ u. u) (Tested (kind.read value.now)) result }
     {
@@ -62,7 +62,7 @@ impl ShutdownChunk {
         Ok(())
     }
 
-    /// What the value means.
+    /// Builds the chunk that the value means.
     pub fn build(_flags: u8, value: &[u8]) -> Self
         requires { IsOk (kind.read value.now) }
         ensures { kind.read value.now ≡ Ok (kind.view result) }

@@ -35,8 +35,8 @@ pub struct ShutdownCompleteChunk {
 impl ShutdownCompleteChunk {
     /// Reads the chunk; flags but the T bit are ignored, and no memory is taken.
     ///
-    /// `InvalidType` exactly for another type; `InvalidLength` if and only if the value isn't
-    /// empty.
+    /// `InvalidType` if and only if the type is another; `InvalidLength` if and only if the value
+    /// isn't empty.
     pub fn try_from(raw: RawChunk) -> Result<Self, ChunkParseError>
         ensures other { IsErrOf result ChunkParseError.InvalidType ↔ (raw.entry.typ ≢ CHUNK_TYPE) }
         ensures answer { raw.entry.typ ≡ CHUNK_TYPE →
@@ -51,7 +51,7 @@ impl ShutdownCompleteChunk {
         Ok(ShutdownCompleteChunk::build(raw.flags, raw.value))
     }
 
-    /// `InvalidLength` if and only if the value isn't empty.
+    /// Checks the value: `InvalidLength` if and only if it isn't empty.
     pub(crate) fn check(value: &[u8]) -> Result<(), ChunkParseError>
         ensures size { OnOk result (length value.now ≡ 0) }
         ensures filled { OnErr result (0 < length value.now) }
@@ -63,7 +63,7 @@ impl ShutdownCompleteChunk {
         Ok(())
     }
 
-    /// What a value without bytes means, under these flags.
+    /// Builds the chunk that a value without bytes means under these flags.
     pub fn build(flags: u8, value: &[u8]) -> Self
         requires { IsOk (kind.read flags value.now) }
         ensures { kind.read flags value.now ≡ Ok (kind.view result) }

@@ -10,13 +10,14 @@ Single {T} {F} answer = (a b : Result T F) → answer a → answer b → a ≡ b
 -- each fault has an error of its own, and none is that memory ran out
 pub record Distinct {F E : Type 0} (errors : Errors F E) : Type 0 where
   pub one : (d e : F) → errors.of d ≡ errors.of e → d ≡ e
-  pub apart : (f : F) → errors.lack (errors.of f) → ⊥
+  pub apart : (f : F) → errors.out_of_memory (errors.of f) → ⊥
 
 -- where there is one answer at most, and memory runs out only where it is a value
 pub exactly : {X T E F : Type 0} (errors : Errors F E) → Distinct errors
     → (view : X → T) (answer : Result T F → Type 0) → Single answer → (r : Result X E)
     → Answers errors view answer r
-    → ((e : E) → r ≡ Err e → errors.lack e → (t : T) × answer (Ok t)) → Exactly errors view answer r
+    → ((e : E) → r ≡ Err e → errors.out_of_memory e → (t : T) × answer (Ok t))
+    → Exactly errors view answer r
 exactly errors distinct view answer single (Ok x) a memory = record {
   answers = a;
   value = λ t m. (let h : Ok (view x) ≡ Ok t = single (Ok (view x)) (Ok t) a m in cc);
@@ -40,7 +41,8 @@ exactly errors distinct view answer single (Err e) (inr lacks) memory = record {
   answers = inr lacks;
   value = λ t m. lacks;
   fault = λ f. (
-    (λ h. absurd (let is : e ≡ errors.of f = cc in distinct.apart f (subst errors.lack is lacks))),
+    (λ h. absurd (let is : e ≡ errors.of f = cc in
+        distinct.apart f (subst errors.out_of_memory is lacks))),
     (λ g. absurd (let m = memory e refl lacks in let h : Ok m.0 ≡ Err f = single (Ok m.0) (Err f)
         m.1 g in cc)),
   );

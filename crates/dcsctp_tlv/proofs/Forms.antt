@@ -1,6 +1,6 @@
 -- What is read is well-formed, at every level whose rows read nothing else.
 use Rattle.std.{proofs.Common.{◌≡◌, ℕ, Bool, true, false, List, [], ◌∷◌, refl, ◌∙◌}, specs.List.{flat_map, AllByRecursion}}
-use Rattle.dcsctp_tlv.specs.{Frame.{Item, item_bytes}, Level.{Row, Level, pick, ItemsMean, MeansTrees}}
+use Rattle.dcsctp_tlv.specs.{Frame.{Item, item_bytes}, Level.{Row, Level, if_row, ItemsMean, MeansTrees}}
 
 -- each tree that a row means is well-formed
 pub record FormsTrees {T : Type 0} (level : Level T) (IsFormed : T → Type 0) : Type 0 where
@@ -11,7 +11,7 @@ pub record FormsTrees {T : Type 0} (level : Level T) (IsFormed : T → Type 0) :
 
 -- what holds of the row that is picked: of each, where the test says so
 pub picked : {T : Type 0} (Holds : Row T → Type 0) (b : Bool) (row others : Row T)
-    → (b ≡ true → Holds row) → (b ≡ false → Holds others) → Holds (pick b row others)
+    → (b ≡ true → Holds row) → (b ≡ false → Holds others) → Holds (if_row b row others)
 picked Holds true row others p q = p refl
 picked Holds false row others p q = q refl
 

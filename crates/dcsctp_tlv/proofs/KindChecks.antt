@@ -1,6 +1,6 @@
 -- The check of a kind without a list, at the level of a table that has the kinds' rows.
 use Rattle.std.proofs.Common.{◌≡◌, ℕ, Bool, cond, true, false, List, [], ◌∷◌, Result, Ok, Err, inl, inr, ap, refl, sym, ◌==◌, IsOk}
-use Rattle.dcsctp_tlv.{specs.declared.error.ChunkParseError.{ChunkParseError}, specs.declared.error.LocatedFault.{LocatedFault}, specs.Fault.{Fault}, specs.Level.{Row, plain, pick, map_ok}, specs.Reading.{Answers, checking, locating, Tested, RowAnswer, Counted, Unplaced}, specs.Table.{row_of}, proofs.Places.{fault_at_front}, proofs.Satisfies.{IsAtFixed, AreAtFixed}, specs.Kinds.{Kind, Reader, AtFixed, Nested, TreesOf, rows, row_as, Checks, ChecksKind}}
+use Rattle.dcsctp_tlv.{specs.declared.error.ChunkParseError.{ChunkParseError}, specs.declared.error.LocatedFault.{LocatedFault}, specs.Fault.{Fault}, specs.Level.{Row, plain, if_row, map_ok}, specs.Reading.{Answers, checking, locating, Tested, RowAnswer, Counted, Unplaced}, specs.Table.{row_of}, proofs.Places.{fault_at_front}, proofs.Satisfies.{IsAtFixed, AreAtFixed}, specs.Kinds.{Kind, Reader, AtFixed, Nested, TreesOf, rows, row_as, Checks, ChecksKind}}
 
 -- what the check of a whole item answers, where its value is checked first
 abbrev pub whole : Result (Unit {0}) ChunkParseError → Result ℕ LocatedFault
@@ -39,7 +39,7 @@ other_finds parts row value (Err e) means p = absurd (let e : false ≡ true = p
 
 choice : {T : Type 0} (parts : T → ℕ) (value : List ℕ) (r : Result (Unit {0}) ChunkParseError)
     (b : Bool) (row others : Row T) (P Q : Type 0) → (P → Finds parts row value r)
-    → (Q → Finds parts others value r) → cond b P Q → Finds parts (pick b row others) value r
+    → (Q → Finds parts others value r) → cond b P Q → Finds parts (if_row b row others) value r
 choice parts value r true row others P Q own rest p = own p
 choice parts value r false row others P Q own rest p = rest p
 

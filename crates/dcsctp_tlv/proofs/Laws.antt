@@ -1,6 +1,6 @@
 -- Each list of bytes has one answer, at every level whose rows have one.
 use Rattle.std.{proofs.Common.{◌≡◌, ℕ, suc, zero, ◌+◌, ◌-◌, ◌<◌, ◌≤◌, Bool, true, false, List, [], ◌∷◌, ◌++◌, length, get_or, drop, refl, sym, ap, subst, ◌∙◌, append_assoc, arith, ◌⊎◌, inl, inr, Result, Ok, Err, append-nil, get_or-drop, get_or-take, length-take, length-drop}, specs.List.{flat_map}, proofs.lemmas.Bool.{cases_lt}, proofs.lemmas.List.{get_or_past}}
-use Rattle.dcsctp_tlv.{specs.Fault.{Fault}, specs.Number.{AreBytes}, specs.Frame.{round_up_to_4, padding_size, any_padding, Item, item_bytes, PaddingRule, frame_length, BeginsWithFrame, frame_value, frame_padding, frame_rest}, specs.Level.{Row, Level, ItemsMean, MeansTrees, HasFault, BeginsWithFault, no_frame, value, padding, front_row, further, plain, as_row, listed}, specs.Decided.{LawfulRow}, proofs.Items.{IsNext, AreBefore, front_item, front_split, front_next, next_one, item_frame, items_before, whole_before}, proofs.Lists.{Progress, begin, step, finish, not_nil, fault}}
+use Rattle.dcsctp_tlv.{specs.Fault.{Fault}, specs.Number.{AreBytes}, specs.Frame.{round_up_to_4, padding_size, any_padding, Item, item_bytes, PaddingRule, frame_length, BeginsWithFrame, frame_value, frame_padding, frame_rest}, specs.Level.{Row, Level, ItemsMean, MeansTrees, HasFault, BeginsWithFault, no_frame, value, padding, front_row, shifted_by, plain, as_row, listed}, specs.Decided.{LawfulRow}, proofs.Items.{IsNext, AreBefore, front_item, front_split, front_next, next_one, item_frame, items_before, whole_before}, proofs.Lists.{Progress, begin, step, finish, not_nil, fault}}
 
 abbrev pub Lawful : {T : Type 0} → Level T → Type 0
 Lawful level = (a b : ℕ) → LawfulRow (level.row a b)
@@ -278,7 +278,7 @@ listed_lawful {T} {U} rule at level tree_of law = record {
   same v d e fits (inl f) (inl g) = f.1 ∙ sym g.1
   same v d e fits (inl f) (inr g) = absurd (let h : false ≡ true = sym f.0 ∙ g.0 in cc)
   same v d e fits (inr f) (inl g) = absurd (let h : true ≡ false = sym f.0 ∙ g.0 in cc)
-  same v d e fits (inr f) (inr g) = f.1.2 ∙ ap (λ (x : Fault × ℕ). further 4 (further at x))
+  same v d e fits (inr f) (inr g) = f.1.2 ∙ ap (λ (x : Fault × ℕ). shifted_by 4 (shifted_by at x))
       (list_same level law (drop at v) f.1.0 g.1.0 (drop_fits at v fits) f.1.1 g.1.1) ∙ sym g.1.2
 
   answered : (v : List ℕ) → AreBytes v → (b : Bool) → rule v ≡ b

@@ -1,6 +1,6 @@
 -- Lists of items: one loop over frames gives the one answer.
 use Rattle.std.{proofs.Common.{◌≡◌, ◌≢◌, ℕ, ◌+◌, ◌-◌, Bool, true, false, List, [], ◌∷◌, ◌++◌, length, refl, sym, ap, subst, ◌∙◌, arith, eqb-true, append-nil, get_or-drop, length-append, ◌==◌}, specs.List.{flat_map}, proofs.lemmas.List.{nil_from_length}}
-use Rattle.dcsctp_tlv.{specs.Fault.{Fault}, specs.Number.{AreBytes}, specs.Frame.{round_up_to_4, padding_size, Item, item_bytes, frame_length, BeginsWithFrame, frame_value, frame_padding, frame_rest}, specs.Level.{Level, ItemsMean, MeansTrees, HasFault, further, BeginsWithFault, no_frame, value, padding, front_row}, proofs.Items.{AreBefore, front_item, front_split, front_next, with_last, before_push, before_end, before_rest}}
+use Rattle.dcsctp_tlv.{specs.Fault.{Fault}, specs.Number.{AreBytes}, specs.Frame.{round_up_to_4, padding_size, Item, item_bytes, frame_length, BeginsWithFrame, frame_value, frame_padding, frame_rest}, specs.Level.{Level, ItemsMean, MeansTrees, HasFault, shifted_by, BeginsWithFault, no_frame, value, padding, front_row}, proofs.Items.{AreBefore, front_item, front_split, front_next, with_last, before_push, before_end, before_rest}}
 
 -- what a loop over the frames has read
 pub record Progress {T : Type 0} (level : Level T) (bytes : List ℕ) (trees : List T)
@@ -63,7 +63,7 @@ not_nil level (b ∷ rest) e f = λ c. cc
 -- what is wrong at the front of what is left is the fault, after the bytes that were gone over
 pub fault : {T : Type 0} (level : Level T) (bytes : List ℕ) (trees : List T) (rest : List ℕ)
     (f : Fault × ℕ) (n : ℕ) → Progress level bytes trees rest → n ≡ length bytes - length rest
-    → BeginsWithFault level rest f → HasFault level bytes (further n f)
+    → BeginsWithFault level rest f → HasFault level bytes (shifted_by n f)
 fault level bytes trees rest f n p h first =
     let ahead : n ≡ length (flat_map item_bytes p.items) = omega (
       arith,
@@ -79,7 +79,7 @@ fault level bytes trees rest f n p h first =
       mean = p.mean;
       first = f;
       fault = first;
-      place = ap (λ (k : ℕ). further k f) ahead;
+      place = ap (λ (k : ℕ). shifted_by k f) ahead;
     }
 
 -- what is_empty says

@@ -1,6 +1,6 @@
 -- Reading is local: after items that fill words, a list goes on as if it began there.
 use Rattle.std.{proofs.Common.{◌≡◌, ℕ, ◌+◌, ◌%◌, List, [], ◌∷◌, ◌++◌, length, sym, ap, subst, ◌∙◌, append_assoc, arith, append-nil, length-append}, specs.List.{flat_map, AllByRecursion}, proofs.lemmas.List.Concat.{flat_map-append}}
-use Rattle.dcsctp_tlv.{specs.Fault.{Fault}, specs.Frame.{Item, item_bytes, PaddingRule, IsWhole, IsLastForm, AreFormed}, specs.Level.{Level, ItemsMean, MeansTrees, HasFault, further}, proofs.Accounts.{length-item}}
+use Rattle.dcsctp_tlv.{specs.Fault.{Fault}, specs.Frame.{Item, item_bytes, PaddingRule, IsWhole, IsLastForm, AreFormed}, specs.Level.{Level, ItemsMean, MeansTrees, HasFault, shifted_by}, proofs.Accounts.{length-item}}
 
 -- ---- items that fill words are whole, the last too
 
@@ -75,7 +75,7 @@ module _ {T : Type 0} (level : Level T) where
   -- the fault of the second, after the bytes of the first
   pub local_fault : (front end : List ℕ) (ts : List T) (e : Fault × ℕ) → length front % 4 ≡ 0
       → MeansTrees level front ts → HasFault level end e
-      → HasFault level (front ++ end) (further (length front) e)
+      → HasFault level (front ++ end) (shifted_by (length front) e)
   local_fault front end ts e words m f =
       let both = ap length (flat_map-append item_bytes m.items f.items)
       ∙ length-append (flat_map item_bytes m.items) (flat_map item_bytes f.items) in
@@ -91,5 +91,5 @@ module _ {T : Type 0} (level : Level T) where
         mean = mean_after m.items f.items ts f.trees m.mean f.mean;
         first = f.first;
         fault = f.fault;
-        place = ap (further (length front)) f.place ∙ ap (λ (n : ℕ). (f.first.0, n)) ahead;
+        place = ap (shifted_by (length front)) f.place ∙ ap (λ (n : ℕ). (f.first.0, n)) ahead;
       }

@@ -1,6 +1,6 @@
 -- The laws of its level that a kind satisfies, in one record; and what follows for a table of kinds.
 use Rattle.std.proofs.Common.{◌≡◌, ℕ, ◌+◌, ◌*◌, ◌≤◌, Bool, true, false, List, [], ◌∷◌, length, Result, Ok, Err, refl, sym, ap, subst, arith, ◌==◌}
-use Rattle.dcsctp_tlv.{specs.Fault.{Fault, Padding}, specs.Format.{Format}, specs.Frame.{lenient}, specs.Image.{zeroed, size_of}, specs.Level.{Row, pick, map_ok}, specs.Table.{Content, row_of}, proofs.Accounts.{SameSpace, same_size}, proofs.FormatLaws.{TypedLaws}, proofs.KindLaws.{KindLaws, IsGood, of_map_ok}, proofs.Places.{AtFront}, specs.Decided.{LawfulRow}, proofs.Laws.{plain_lawful, as_lawful}, proofs.Lenient.{LoosensRow}, proofs.Tables.{EachNamed}, proofs.Unpadded.{Unpadded, NotPadding}, specs.Kinds.{Kind, Reader, AtFixed, Nested, plain_kind, kept_kind, own_row, row_as, TreesOf, rows, Entry, Of, Unnamed, format_of, parts_of}}
+use Rattle.dcsctp_tlv.{specs.Fault.{Fault, Padding}, specs.Format.{Format}, specs.Frame.{lenient}, specs.Image.{zeroed, size_of}, specs.Level.{Row, if_row, map_ok}, specs.Table.{Content, row_of}, proofs.Accounts.{SameSpace, same_size}, proofs.FormatLaws.{TypedLaws}, proofs.KindLaws.{KindLaws, IsGood, of_map_ok}, proofs.Places.{AtFront}, specs.Decided.{LawfulRow}, proofs.Laws.{plain_lawful, as_lawful}, proofs.Lenient.{LoosensRow}, proofs.Tables.{EachNamed}, proofs.Unpadded.{Unpadded, NotPadding}, specs.Kinds.{Kind, Reader, AtFixed, Nested, plain_kind, kept_kind, own_row, row_as, TreesOf, rows, Entry, Of, Unnamed, format_of, parts_of}}
 
 -- ---- what a kind satisfies
 
@@ -149,7 +149,7 @@ all_at_front T strict flags (k ∷ ks) trees fixed = (
 )
 
 pick_looser : {T : Type 0} (b : Bool) (row others loose rest : Row T) → LoosensRow row loose
-    → LoosensRow others rest → LoosensRow (pick b row others) (pick b loose rest)
+    → LoosensRow others rest → LoosensRow (if_row b row others) (if_row b loose rest)
 pick_looser true row others loose rest own other = own
 pick_looser false row others loose rest own other = other
 

@@ -81,7 +81,8 @@ parts_of (Unnamed format) = 1
 -- ---- what a check of a value returns
 
 -- Exactly what the kind says of the value, without the tree. One with a list passes.
-abbrev pub Checks : {X : Type 0} → Reader X → ℕ → List ℕ → Result (Unit {0}) ChunkParseError → Type 0
+abbrev pub Checks : {X : Type 0} → Reader X → ℕ → List ℕ → Result (Unit {0}) ChunkParseError
+    → Type 0
 Checks (AtFixed read) flags value result =
     Exactly checking (λ u. u) (Tested (read flags value)) result
 Checks (Nested row) flags value result = IsOk result

@@ -28,9 +28,9 @@ map_ok f (Ok x) = Ok (f x)
 map_ok f (Err e) = Err e
 
 -- the first row where the test holds, else the others
-abbrev pub pick : {T : Type 0} → Bool → Row T → Row T → Row T
-pick true row others = row
-pick false row others = others
+abbrev pub if_row : {T : Type 0} → Bool → Row T → Row T → Row T
+if_row true row others = row
+if_row false row others = others
 
 -- a kind's row, where its trees are trees of the level
 abbrev pub as_row : {A B : Type 0} → (A → B) → Row A → Row B
@@ -44,7 +44,7 @@ abbrev pub HasMeaning : {T : Type 0} → Row T → List ℕ → Type 0
 HasMeaning row value = (tree : _) × row.means value tree
 
 -- one item more, which the value means, and which has no memory to spare
-pub record Grows {X T : Type 0} (view : X → T) (IsTight : X → Type 0) (row : Row T)
+pub record Appends {X T : Type 0} (view : X → T) (IsTight : X → Type 0) (row : Row T)
     (value : List ℕ) (old new : List X) : Type 0 where
   pub last : X
   pub items : new ≡ old ++ last ∷ []
@@ -88,7 +88,8 @@ front_row level bytes = level.row (slice_index bytes 0) (slice_index bytes 1)
 -- What is wrong at the front: there is no frame; or its value is at fault; or its value means a
 -- tree and its padding isn't accepted, which lies at the first byte that isn't zero, or else at the
 -- first that is missing.
-pub data BeginsWithFault {T : Type 0} (level : Level T) (rest : List ℕ) (f : Fault × ℕ) : Type 0 where
+pub data BeginsWithFault {T : Type 0} (level : Level T) (rest : List ℕ)
+    (f : Fault × ℕ) : Type 0 where
   no_frame : rest ≢ [] → ¬ BeginsWithFrame rest → f ≡ (Length, 0) → BeginsWithFault level rest f
   value : BeginsWithFrame rest → (front_row level rest).faults (frame_value rest) f
       → BeginsWithFault level rest f
@@ -98,8 +99,8 @@ pub data BeginsWithFault {T : Type 0} (level : Level T) (rest : List ℕ) (f : F
       → BeginsWithFault level rest f
 
 -- the same fault, n bytes further on
-abbrev pub further : ℕ → Fault × ℕ → Fault × ℕ
-further n f = (f.0, n + f.1)
+abbrev pub shifted_by : ℕ → Fault × ℕ → Fault × ℕ
+shifted_by n f = (f.0, n + f.1)
 
 -- whole items that each mean a tree, and after them the first fault
 pub record HasFault {T : Type 0} (level : Level T) (bytes : List ℕ) (f : Fault × ℕ) : Type 0 where
@@ -111,14 +112,14 @@ pub record HasFault {T : Type 0} (level : Level T) (bytes : List ℕ) (f : Fault
   pub mean : ItemsMean level items trees
   pub first : Fault × ℕ
   pub fault : BeginsWithFault level rest first
-  pub place : f ≡ further (length (flat_map item_bytes items)) first
+  pub place : f ≡ shifted_by (length (flat_map item_bytes items)) first
 
 -- ---- a kind with a list of another level in its value
 
 -- A fault of the list, after the item's header and the bytes before the list.
 abbrev pub HasListFault : {T : Type 0} → Level T → ℕ → List ℕ → Fault × ℕ → Type 0
 HasListFault level place bytes f = (first : Fault × ℕ) × HasFault level (drop place bytes) first
-    × (f ≡ further 4 (further place first))
+    × (f ≡ shifted_by 4 (shifted_by place first))
 
 -- A value that follows a rule, and after its first bytes is a list. The rule comes first.
 abbrev pub listed : {T U : Type 0} → (List ℕ → Bool) → ℕ → Level U → (List ℕ → List U → T) → Row T

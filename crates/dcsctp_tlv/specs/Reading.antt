@@ -11,7 +11,7 @@ use Rattle.dcsctp_tlv.specs.{declared.error.ChunkParseError.{ChunkParseError}, d
 -- The errors of a call: that of each fault, and those that say that memory ran out.
 pub record Errors (F E : Type 0) : Type 1 where
   pub of : F → E
-  pub lack : E → Type 0
+  pub out_of_memory : E → Type 0
 
 -- What the call gives, the grammar gives: the value that was read, or a fault whose error this is;
 -- or memory ran out.
@@ -19,14 +19,14 @@ abbrev pub Answers : {X T E F : Type 0} → Errors F E → (X → T) → (Result
     → Result X E → Type 0
 Answers errors view answer (Ok x) = answer (Ok (view x))
 Answers errors view answer (Err e) =
-    ((f : _) × (e ≡ errors.of f) × answer (Err f)) ⊎ errors.lack e
+    ((f : _) × (e ≡ errors.of f) × answer (Err f)) ⊎ errors.out_of_memory e
 
 -- The same both ways: a value that the grammar gives, the call gives too, unless memory ran out;
 -- and it gives a fault's error if and only if the grammar gives that fault.
 pub record Exactly {X T E F : Type 0} (errors : Errors F E) (view : X → T)
     (answer : Result T F → Type 0) (result : Result X E) : Type 0 where
   pub answers : Answers errors view answer result
-  pub value : (t : T) → answer (Ok t) → MatchResult result (λ x. view x ≡ t) errors.lack
+  pub value : (t : T) → answer (Ok t) → MatchResult result (λ x. view x ≡ t) errors.out_of_memory
   pub fault : (f : F) → IsErrOf result (errors.of f) ↔ answer (Err f)
 
 -- ---- errors of the readers and the checks of items
@@ -38,17 +38,17 @@ error_of Value = InvalidValue
 
 -- of a reader
 abbrev pub reading : Errors Fault ChunkParseError
-reading = record { of = error_of; lack = λ e. e ≡ OutOfMemory }
+reading = record { of = error_of; out_of_memory = λ e. e ≡ OutOfMemory }
 
 -- of a check, which does not allocate
 abbrev pub checking : Errors Fault ChunkParseError
-checking = record { of = error_of; lack = λ e. ⊥ }
+checking = record { of = error_of; out_of_memory = λ e. ⊥ }
 
 -- of a check that says where the fault lies
 abbrev pub locating : Errors (Fault × ℕ) LocatedFault
 locating = record {
   of = λ f. record { offset = f.1; fault = error_of f.0 };
-  lack = λ e. ⊥;
+  out_of_memory = λ e. ⊥;
 }
 
 -- ---- the grammar's answers: the meaning, or the fault and its offset

@@ -1,11 +1,12 @@
 -- Tables of types, as RFC 9260 sections 3.2, 3.2.1 and 3.3.10 list them: a row for each type that
 -- is named, and one for all others.
 use Rattle.std.specs.Prelude.{◌≡◌, ◌≢◌, ◌⊎◌, if◌then◌else◌, ℕ, Bool, true, false, List, [], ◌∷◌, ◌==◌, drop}
-use Rattle.dcsctp_tlv.specs.Level.{Row, pick}
+use Rattle.dcsctp_tlv.specs.Level.{Row, if_row}
 
 infixr 20 ◌&◌
--- What the values of a kind hold: numbers at fixed places alone; as many bytes or numbers as there
--- are; a text; from a place on, a list of parameters, or one of error causes.
+-- What the values of a kind hold: numbers at fixed places alone; any number of bytes or numbers; a
+-- text; from a place on, a list of parameters, or one of error causes. `Varied` in place of `Fixed`
+-- weakens only `memory` and `heap`: these clauses then let the kind's reader return `OutOfMemory`.
 pub data Content : Type 0 where
   Fixed : Content
   Varied : Content
@@ -26,7 +27,7 @@ a & b = (a, b)
 -- the row of a type: the first that names it, else that of all others
 abbrev pub row_of : {T : Type 0} → List (Named T) → ℕ → Row T → Row T
 row_of [] typ others = others
-row_of (kind ∷ kinds) typ others = pick (typ == kind.typ) kind.row (row_of kinds typ others)
+row_of (kind ∷ kinds) typ others = if_row (typ == kind.typ) kind.row (row_of kinds typ others)
 
 -- a type that the table doesn't name
 abbrev pub IsUnnamed : {T : Type 0} → List (Named T) → ℕ → Type 0

@@ -8,7 +8,8 @@ ghost use Rattle.std.specs.{Prelude.{◌≡◌, IfOk, replicate, vec_len, vec_ca
 
 use std::alloc::{AllocError, Global};
 
-/// Copies the items one by one into memory with room for `room` items, which are as many at least.
+/// Copies the items one by one into memory with room for `room` items, at least as many as there
+/// are.
 #[cold]
 fn copied_one_by_one<T: Copy>(alloc: Global, items: &[T], room: usize) -> Result<Vec<T>, AllocError>
     requires { length items.now ≤ room }
@@ -22,7 +23,7 @@ fn copied_one_by_one<T: Copy>(alloc: Global, items: &[T], room: usize) -> Result
     Ok(copy)
 }
 
-/// Hands a list on, where its memory has room for its items alone; else a copy that has.
+/// Returns the list if its capacity equals its length, else a copy for which it does.
 #[inline(always)]
 fn without_spare<T: Copy>(alloc: Global, list: Vec<T>) -> Result<Vec<T>, AllocError>
     ensures items { IfOk result (λ same. same.items ≡ list.items) }
@@ -34,7 +35,7 @@ fn without_spare<T: Copy>(alloc: Global, list: Vec<T>) -> Result<Vec<T>, AllocEr
     Ok(list)
 }
 
-/// Copies the items into memory with room for them alone; refused only where memory runs out.
+/// Copies the items into memory with room for them alone; refused only if memory runs out.
 #[inline(always)]
 pub fn copied<T: Copy>(alloc: Global, items: &[T]) -> Result<Vec<T>, AllocError>
     ensures items { IfOk result (λ copy. copy.items ≡ items.now) }
@@ -43,8 +44,8 @@ pub fn copied<T: Copy>(alloc: Global, items: &[T]) -> Result<Vec<T>, AllocError>
     without_spare(alloc, Vec::from_slice(alloc, items)?)
 }
 
-/// Copies the items into memory with room for `room` items, which are as many at least; refused
-/// only where memory runs out.
+/// Copies the items into memory with room for `room` items, at least as many as there are; refused
+/// only if memory runs out.
 #[inline(always)]
 pub fn copied_with_room<T: Copy>(
     alloc: Global,
@@ -63,7 +64,7 @@ pub fn copied_with_room<T: Copy>(
     Ok(copy)
 }
 
-/// `size` zeros, in memory with room for them alone; refused only where memory runs out.
+/// Returns `size` zeros, in memory with room for them alone; refused only if memory runs out.
 #[inline(always)]
 pub fn zeros(alloc: Global, size: usize) -> Result<Vec<u8>, AllocError>
     ensures items { IfOk result (λ zeros. zeros.items ≡ replicate size 0) }
@@ -85,7 +86,7 @@ pub fn copied_text(alloc: Global, text: &str) -> Result<String, AllocError>
     Ok(copy)
 }
 
-/// Copies the bytes of a text, which are one again.
+/// Copies the bytes of a text, and returns them as a text.
 #[cold]
 fn copied_text_as_bytes(alloc: Global, text: &str) -> Result<String, AllocError>
     ensures bytes { IfOk result (λ copy. string_bytes copy ≡ text.now) }

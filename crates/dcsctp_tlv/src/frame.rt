@@ -12,7 +12,7 @@ pub const TLV_HEADER_SIZE: usize = 4;
 /// The most bytes that a value can have: two bytes hold its size with the header's.
 pub const MAX_VALUE_SIZE: usize = 65531;
 
-/// What the length field at the front says: the bytes of header and value.
+/// Returns the length field at the front: how many bytes header and value have.
 pub(crate) fn frame_length(bytes: &[u8]) -> usize
     requires { 4 ≤ length bytes.now }
     ensures { result ≡ frame_length bytes.now }
@@ -20,7 +20,8 @@ pub(crate) fn frame_length(bytes: &[u8]) -> usize
     read_u16_be(&bytes[2..]) as usize
 }
 
-/// The value of the frame at the front, and the bytes after it and its padding.
+/// Splits bytes into the value of the frame at their front, and the bytes after it and its padding:
+/// `(value, rest)`.
 ///
 /// Both are parts of the input. The last item of a list may lack padding: then nothing is left.
 /// `InvalidLength` if and only if the bytes don't begin with a frame.
@@ -40,7 +41,8 @@ pub fn split_frame(bytes: &[u8]) -> Result<(&[u8], &[u8]), ChunkParseError>
     Ok(frame_parts(bytes))
 }
 
-/// The same where the bytes are known to begin with a frame; nothing is tested.
+/// Splits bytes that are known to begin with a frame into its value, and the bytes after it and its
+/// padding: `(value, rest)`. Tests nothing.
 pub fn frame_parts(bytes: &[u8]) -> (&[u8], &[u8])
     requires { BeginsWithFrame bytes.now }
     ensures value { result.0.now ≡ frame_value bytes.now }
@@ -53,7 +55,8 @@ pub fn frame_parts(bytes: &[u8]) -> (&[u8], &[u8])
     (value, rest)
 }
 
-/// The padding of the frame at the front: how many bytes there should be, and those that are there.
+/// Returns the padding of the frame at the front: how many bytes there should be, and those that
+/// are there.
 pub fn padding_parts(bytes: &[u8]) -> (usize, &[u8])
     requires { BeginsWithFrame bytes.now }
     ensures size { result.0 ≡ padding_size (length (frame_value bytes.now)) }
@@ -64,7 +67,7 @@ pub fn padding_parts(bytes: &[u8]) -> (usize, &[u8])
     (padded - length, &bytes[length..padded.min(bytes.len())])
 }
 
-/// Every byte is zero, as a sender pads (RFC 9260 section 3.2).
+/// Returns whether every byte is zero, as a sender pads (RFC 9260 section 3.2).
 pub fn are_zeros(bytes: &[u8]) -> bool
     ensures { result ≡ are_zero_bytes bytes.now }
 {

@@ -8,7 +8,8 @@ ghost use Rattle.dcsctp_tlv.specs.Kinds as kinds;
 use crate::error::{ChunkParseError, LocatedFault};
 use std::alloc::{AllocError, Global};
 
-/// The same of every kind of an enum: an arm for each line of its lists of kinds, and `Unknown`'s.
+/// Matches an enum of kinds, and evaluates the same expression in each arm: one for each line of
+/// its lists of kinds, and `Unknown`'s.
 #[macro_export]
 macro_rules! each_arms {
     (
@@ -22,7 +23,8 @@ macro_rules! each_arms {
     };
 }
 
-/// The check of a value, for each kind without a list of items; any value of another type passes.
+/// Checks a value as its kind does, for each kind without a list of items; any value of another
+/// type passes.
 #[macro_export]
 macro_rules! check_arms {
     (
@@ -101,7 +103,7 @@ pub trait Kind: Sized + Drop {
         ensures few { IfOk result (λ n. 4 * n ≤ 4 + length value.now) }
         ensures within { IfErr result (λ found. found.offset ≤ 4 + length value.now) };
 
-    /// The fields of the value, and an empty list. Does not allocate.
+    /// Builds the chunk with the fields of the value, and an empty list. Does not allocate.
     fn begin(alloc: Global, flags: u8, value: &[u8]) -> Self
         requires { HasMeaning (own_row lenient flags kind.reader) value.now }
         ensures { begun flags value.now result };
@@ -115,7 +117,7 @@ pub trait Kind: Sized + Drop {
         ensures heap { IsEmptyList kind.content value.now → IsOk result }
         ensures tight { IfOk result (λ _. is_tight self.new) };
 
-    /// What the value means.
+    /// Builds the chunk that the value means.
     fn build(alloc: Global, flags: u8, value: &[u8]) -> Result<Self, AllocError>
         requires { HasMeaning (own_row lenient flags kind.reader) value.now }
         ensures meant { IfOk result

@@ -8,8 +8,8 @@ use crate::frame::{MAX_VALUE_SIZE, TLV_HEADER_SIZE, frame_length, put_header};
 use crate::number::round_up_to_4;
 use crate::tlv::{ListedTlv, SerializableTlv};
 
-/// The bytes of the list, without padding after its last item; nothing where an item can't be
-/// written, or the list has more than 65,535 bytes.
+/// Returns how many bytes the list has, without padding after its last item; `None` if an item
+/// can't be written, or the list has more than 65,535 bytes.
 pub fn encoded_list_size<T: SerializableTlv>(list: &[T]) -> Option<usize>
     ensures { Sizes result (IsListEncodable (tlv_by T.format) T.placed list.now)
         (list_size (tlv_by T.format) list.now) }
@@ -27,14 +27,14 @@ pub fn encoded_list_size<T: SerializableTlv>(list: &[T]) -> Option<usize>
     Some(total)
 }
 
-/// Each item can be written, and the list has at most 65,535 bytes.
+/// Returns whether each item can be written, and the list has at most 65,535 bytes.
 pub fn list_encodable<T: SerializableTlv>(list: &[T]) -> bool
     ensures { IsTrue result ↔ IsListEncodable (tlv_by T.format) T.placed list.now }
 {
     encoded_list_size(list).is_some()
 }
 
-/// The bytes of the list, without padding after its last item.
+/// Returns how many bytes the list has, without padding after its last item.
 pub fn list_size<T: SerializableTlv>(list: &[T]) -> usize
     requires { IsListEncodable (tlv_by T.format) T.placed list.now }
     ensures { result ≡ list_size (tlv_by T.format) list.now }

@@ -71,7 +71,7 @@ pub fn put_u32(output: &mut [u8], place: usize, value: u32)
     write_u32_be(rest, value);
 }
 
-/// The least multiple of 4 that isn't below `n`.
+/// Returns the least multiple of 4 that isn't below `n`.
 pub fn round_up_to_4(n: usize) -> usize
     requires { round_up_to_4 n < 2 ^ 64 }
     ensures { result ≡ round_up_to_4 n }
@@ -79,14 +79,14 @@ pub fn round_up_to_4(n: usize) -> usize
     n.div_ceil(4) * 4
 }
 
-/// The greatest multiple of 4 that isn't above `n`.
+/// Returns the greatest multiple of 4 that isn't above `n`.
 pub fn round_down_to_4(n: usize) -> usize
     ensures { result ≡ round_down_to_4 n }
 {
     n / 4 * 4
 }
 
-/// Whether `n` is a multiple of 4.
+/// Returns whether `n` is a multiple of 4.
 pub fn is_divisible_by_4(n: usize) -> bool
     ensures { IsTrue result ↔ (n % 4 ≡ 0) }
 {

@@ -163,7 +163,7 @@ impl Parameter {
         Parameter::check_kind(typ, value)
     }
 
-    /// The check of the type's kind; any value of another type passes.
+    /// Checks the value as its type's kind does; any value of another type passes.
     #[tactic(auto, unfolding(crate::specs::HeartbeatInfo::read, crate::specs::StateCookie::read, crate::specs::SupportedExtensions::read))]
     fn check_kind(typ: u16, value: &[u8]) -> Result<(), ChunkParseError>
         ensures { ChecksKind parameter.kinds 0 typ value.now result }
@@ -171,7 +171,7 @@ impl Parameter {
         kinds!(check_arms, typ, value)
     }
 
-    /// What the value means.
+    /// Builds the parameter that the value means.
     #[tactic(auto, unfolding(crate::specs::HeartbeatInfo::read, crate::specs::StateCookie::read, crate::specs::SupportedExtensions::read, crate::specs::UnknownParameter::read))]
     fn build(alloc: Global, typ: u16, value: &[u8]) -> Result<Self, AllocError>
         requires { HasMeaning (parameter.row typ) value.now }
@@ -293,10 +293,10 @@ pub fn parameters_from_bytes(alloc: Global, bytes: &[u8]) -> Result<Vec<Paramete
     list_from_bytes(alloc, bytes)
 }
 
-/// The number of parameters, or the first fault from the left. Does not allocate.
+/// Counts the parameters, or returns the first fault from the left. Does not allocate.
 ///
-/// Where it is strict, `InvalidPadding` is the fault of a parameter that has a meaning, and padding
-/// that isn't zero; the last may lack some or all of it.
+/// If `strict` is true, `InvalidPadding` is the fault of a parameter that has a meaning, and
+/// padding that isn't zero; the last may lack some or all of it.
 pub fn parameters_check(bytes: &[u8], strict: bool) -> Result<usize, ChunkParseError>
     ensures answer { Exactly checking (λ n. n)
         (Counted length (Unplaced (ListAnswer (parameters strict) bytes.now))) result }

@@ -2,7 +2,7 @@
 //! nothing again. For every level.
 
 ghost use Rattle.std.specs.Prelude.{◌≡◌, ◌≢◌, ◌≤◌, ◌<◌, ◌+◌, ◌*◌, ℕ, Bool, List, [], length, map, IsOk, IfOk, IfErr, IsErrOf, vec_len, vec_capacity, All};
-ghost use Rattle.dcsctp_tlv.specs.{Frame.{PaddingRule, lenient, Item, AreItems}, Level.{Level, HasMeaning, Grows, MeansTrees, MeansSome, MeansMany}, Reading.{Answers, reading, locating, ListedAnswer, ListAnswer, RowAnswer, Counted, Unplaced, counts}};
+ghost use Rattle.dcsctp_tlv.specs.{Frame.{PaddingRule, lenient, Item, AreItems}, Level.{Level, HasMeaning, Appends, MeansTrees, MeansSome, MeansMany}, Reading.{Answers, reading, locating, ListedAnswer, ListAnswer, RowAnswer, Counted, Unplaced, counts}};
 
 use crate::error::{ChunkParseError, LocatedFault};
 use crate::frame::{TLV_HEADER_SIZE, frame_parts, padding_fault, padding_parts, split_frame};
@@ -43,7 +43,7 @@ pub trait ReadableTlv: Sized + Drop {
     ) -> Result<(), AllocError>
         requires meant { HasMeaning ((level lenient).row first second) value.now }
         requires room { vec_len list.old < vec_capacity list.old }
-        ensures grows { IfOk result (λ _. Grows view is_tight
+        ensures grows { IfOk result (λ _. Appends view is_tight
             ((level lenient).row first second) value.now list.old.items list.new.items) }
         ensures len { IfOk result (λ _. vec_len list.new ≡ vec_len list.old + 1) }
         ensures capacity { IfOk result (λ _. vec_capacity list.new ≡ vec_capacity list.old) };
@@ -73,7 +73,8 @@ pub struct Counts {
 pub fn list_check<T: ReadableTlv>(bytes: &[u8], strict: bool) -> Result<Counts, LocatedFault>
     ensures found { Answers locating (λ n. n)
         (Counted (counts T.parts) (ListAnswer (T.level strict) bytes.now)) result }
-    ensures few { IfOk result (λ n. (4 * n.items ≤ length bytes.now) × (4 * n.parts ≤ length bytes.now)) }
+    ensures few { IfOk result (λ n. (4 * n.items ≤ length bytes.now)
+        × (4 * n.parts ≤ length bytes.now)) }
     ensures within { IfErr result (λ found. found.offset ≤ length bytes.now) }
 {
     let mut items: usize = 0;
@@ -134,7 +135,7 @@ pub fn listed_check<T: ReadableTlv>(
     }
 }
 
-/// The number of items, where the bytes are known to be items.
+/// Counts the items; requires that the bytes are a list of items.
 fn count_items(bytes: &[u8]) -> usize
     requires { (rule : PaddingRule) × ((items : List Item) × AreItems rule bytes.now items) }
     ensures { (rule : PaddingRule) (items : List Item) → AreItems rule bytes.now items
@@ -169,7 +170,8 @@ pub fn list_build<T: ReadableTlv>(
     Ok(list)
 }
 
-/// Builds the same into a list that has no memory yet.
+/// Builds the items that the bytes mean into a list that has no memory yet, where they are known to
+/// mean `count` items. The memory for the list is taken at once.
 pub fn list_fill<T: ReadableTlv>(
     list: &mut Vec<T>,
     alloc: Global,

@@ -10,24 +10,25 @@ pub trait SerializableTlv {
     /// All that is said of it: how it is written, and how it is printed.
     ghost format: { Self → Format };
 
-    /// All that it holds has a place in it. Only skipped streams can be without one.
+    /// Every field has a place in the wire format; false only of a skipped stream of the other
+    /// variant.
     ghost placed: { Self → Type 0 } = { λ _. Unit {0} };
 
     /// Writes it at the front of `output`: header and value. The bytes between the items of a
-    /// list in it, and those past it, stay as they stood.
+    /// list in it, and those past it, stay as they were.
     fn serialize_to(&self, output: &mut [u8])
         requires placed { placed self.now }
         requires encodable { IsEncodable (format self.now).tlv }
         requires room { size_of (format self.now).tlv ≤ length output.old }
         ensures { output.new ≡ written (image_of (format self.now).tlv) output.old };
 
-    /// The bytes of its value.
+    /// Returns how many bytes its value has.
     fn value_size(&self) -> usize
         requires placed { placed self.now }
         requires encodable { IsEncodable (format self.now).tlv }
         ensures { 4 + result ≡ size_of (format self.now).tlv };
 
-    /// The bytes of its header and its value, without padding after it.
+    /// Returns how many bytes its header and its value have, without padding after it.
     fn serialized_size(&self) -> usize
         requires placed { placed self.now }
         requires encodable { IsEncodable (format self.now).tlv }
@@ -36,11 +37,12 @@ pub trait SerializableTlv {
         4 + self.value_size()
     }
 
-    /// It can be written: what it holds has a place, and two bytes can hold its size.
+    /// Returns whether it can be written: each of its fields has a place, and two bytes can hold
+    /// its size.
     fn encodable(&self) -> bool
         ensures { IsTrue result ↔ (placed self.now × IsEncodable (format self.now).tlv) };
 
-    /// Its `serialized_size` where it is `encodable`, and nothing where it isn't.
+    /// Returns its `serialized_size` if it is `encodable`, else `None`.
     fn encoded_size(&self) -> Option<usize>
         ensures { Sizes result (placed self.now × IsEncodable (format self.now).tlv)
             (size_of (format self.now).tlv) }
@@ -51,8 +53,8 @@ pub trait SerializableTlv {
         Some(self.serialized_size())
     }
 
-    /// A law: every number lies in its field's width, and every text is UTF-8, by their types. It
-    /// does nothing.
+    /// Proves that every number lies in its field's width, and every text is UTF-8, by their types.
+    /// Does nothing.
     fn has_widths(&self)
         ensures { (format self.now).IsInWidth };
 }

@@ -16,12 +16,12 @@ pub trait Widths {
     /// Its numbers lie in their fields' widths.
     ghost fits: { Tree → Type 0 };
 
-    /// So do those of each that there is.
+    /// Proves that its numbers lie in their fields' widths.
     fn is_in_width(&self)
         ensures { fits (view self.now) };
 }
 
-/// The same of each item of a list.
+/// Proves that the numbers of each item of a list lie in their fields' widths.
 pub fn are_in_width<T: Widths>(items: &[T])
     ensures { AllByRecursion T.fits (map T.view items.now) }
 {
@@ -30,12 +30,12 @@ pub fn are_in_width<T: Widths>(items: &[T])
     }
 }
 
-/// The same of bytes.
+/// Proves that each byte is below 256.
 pub fn are_bytes(bytes: &[u8])
     ensures { AreBytes bytes.now }
 {}
 
-/// The same of numbers of two bytes.
+/// Proves that numbers of two bytes are below 2^16.
 pub fn are_numbers(numbers: &[u16])
     ensures { AllByRecursion (λ n. n < 2 ^ 16) numbers.now }
 {
@@ -44,7 +44,7 @@ pub fn are_numbers(numbers: &[u16])
     }
 }
 
-/// The same of a TSN that may be there.
+/// Proves that a TSN, if there is one, is below 2^32.
 pub(crate) fn tsn_is_in_width(tsn: Option<Tsn>)
     ensures { IfSome (tsn_number tsn) (λ n. n < 2 ^ 32) }
 {

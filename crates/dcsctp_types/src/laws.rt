@@ -14,8 +14,8 @@ use std::cmp::Ordering;
 use std::time::Duration;
 
 #[tactic(auto, using(crate::proofs::SerialOrder::ordered_in_window, crate::proofs::SerialOrder::greater_one_way))]
-/// The order of serial numbers, seen from a base: of two numbers that are after the base by less
-/// than half of the space, the greater one is further after it (RFC 1982 section 3.2).
+/// Proves the order of serial numbers, seen from a base: of two numbers that are after the base by
+/// less than half of the space, the greater one is further after it (RFC 1982 section 3.2).
 ///
 /// Without such a base the order isn't transitive. But no number is greater than itself, no two are
 /// greater than each other, and at a difference of half of the space neither is greater.
@@ -34,7 +34,7 @@ pub fn window<S: SerialNumber>()
         × (¬ IsGreater S.space (S.position y) (S.position x)) }
 {}
 
-/// The orders of ids, keys and times: stream ids, payload protocol ids and lifecycle ids are
+/// Proves the orders of ids, keys and times: stream ids, payload protocol ids and lifecycle ids are
 /// ordered by their numbers, times by their durations; every ordered key is less than every
 /// unordered one, and keys of one kind are ordered by their stream ids.
 pub fn orders()
@@ -52,8 +52,8 @@ pub fn orders()
         → ⟦<SocketTime as Ord>⟧.cmp a b ≡ ⟦<Duration as Ord>⟧.cmp a b }
 {}
 
-/// Two values are equal if and only if they are the same: serial numbers, keys, ids, times and
-/// methods.
+/// Proves that two values are equal if and only if they are the same: serial numbers, keys, ids,
+/// times and methods.
 pub fn equality()
     ensures tsns { TellsSame ⟦<Tsn as PartialEq>⟧.eq }
     ensures ssns { TellsSame ⟦<Ssn as PartialEq>⟧.eq }
@@ -68,7 +68,7 @@ pub fn equality()
     ensures methods { TellsSame ⟦<ZeroChecksumAlternateErrorDetectionMethod as PartialEq>⟧.eq }
 {}
 
-/// A clone is the value itself: of serial numbers, keys, ids, times and methods.
+/// Proves that a clone is the value itself: of serial numbers, keys, ids, times and methods.
 pub fn clones()
     ensures tsns { IsItself ⟦<Tsn as Clone>⟧.is_clone }
     ensures ssns { IsItself ⟦<Ssn as Clone>⟧.is_clone }
@@ -83,14 +83,14 @@ pub fn clones()
     ensures methods { IsItself ⟦<ZeroChecksumAlternateErrorDetectionMethod as Clone>⟧.is_clone }
 {}
 
-/// The methods of error detection have these numbers.
+/// Proves that the methods of error detection have these numbers.
 pub fn methods()
     ensures none { NONE.0 ≡ 0 }
     ensures dtls { DTLS.0 ≡ 1 }
 {}
 
-/// The payload protocol identifiers of WebRTC data channels have these numbers (RFC 8831 section
-/// 8).
+/// Proves that the payload protocol identifiers of WebRTC data channels have these numbers (RFC
+/// 8831 section 8).
 pub fn webrtc_ppids()
     ensures dcep { PpId.WEBRTC_DCEP.0 ≡ 50 }
     ensures string { PpId.WEBRTC_STRING.0 ≡ 51 }

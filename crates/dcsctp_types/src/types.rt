@@ -35,7 +35,7 @@ pub trait SerialNumber: Sized + Copy + Eq {
     // the count that a distance is
     ghost places: { Self.DistanceType → ℕ };
 
-    /// How many places both are apart, the shorter way round.
+    /// Returns how many places both are apart, the shorter way round.
     fn distance_to(self, other: Self) -> Self::DistanceType
         // every number is at a position of the space
         ensures in_space { (position self < space) × (position other < space) }
@@ -43,25 +43,25 @@ pub trait SerialNumber: Sized + Copy + Eq {
         ensures symmetric { places result ≡ distance space (position other) (position self) }
         ensures zero { (places result ≡ 0) ↔ (position self ≡ position other) };
 
-    /// Whether this number is greater than `base`.
+    /// Returns whether this number is greater than `base`.
     fn greater_than(&self, base: Self) -> bool
         ensures { IsTrue result ↔ IsGreater space (position self.now) (position base) };
 
-    /// Whether `other` is greater than this number.
+    /// Returns whether `other` is greater than this number.
     fn less_than(&self, other: Self) -> bool
         ensures { IsTrue result ↔ IsGreater space (position other) (position self.now) }
     {
         other.greater_than(*self)
     }
 
-    /// Whether both are equal, or `other` is greater.
+    /// Returns whether both are equal, or `other` is greater.
     fn less_than_or_equal(&self, other: Self) -> bool
         ensures { IsTrue result ↔ IsGreaterOrEqual space (position other) (position self.now) }
     {
         *self == other || other.greater_than(*self)
     }
 
-    /// Whether both are equal, or this number is greater.
+    /// Returns whether both are equal, or this number is greater.
     fn greater_than_or_equal(&self, other: Self) -> bool
         ensures { IsTrue result ↔ IsGreaterOrEqual space (position self.now) (position other) }
     {

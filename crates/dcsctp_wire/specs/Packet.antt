@@ -120,11 +120,14 @@ packet_error_of (Chunk e) = FailedParseChunk (error_of e)
 
 -- of a reader
 abbrev pub packet_reading : Errors PacketFault PacketParseError
-packet_reading = record { of = packet_error_of; lack = λ e. e ≡ FailedParseChunk OutOfMemory }
+packet_reading = record {
+  of = packet_error_of;
+  out_of_memory = λ e. e ≡ FailedParseChunk OutOfMemory;
+}
 
 -- of a check, which does not allocate
 abbrev pub packet_checking : Errors PacketFault PacketParseError
-packet_checking = record { of = packet_error_of; lack = λ e. ⊥ }
+packet_checking = record { of = packet_error_of; out_of_memory = λ e. ⊥ }
 
 -- ---- packets of the code
 

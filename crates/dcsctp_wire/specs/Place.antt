@@ -6,7 +6,7 @@ use Rattle.dcsctp_wire.specs.{declared.packet.sctp_packet.ChecksumPolicy.{Checks
 abbrev pub packet_locating : Errors (PacketFault × ℕ) FirstFault
 packet_locating = record {
   of = λ f. record { fault = packet_error_of f.0; offset = f.1 };
-  lack = λ e. ⊥;
+  out_of_memory = λ e. ⊥;
 }
 
 -- the answer and its place, without the packet

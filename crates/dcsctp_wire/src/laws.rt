@@ -60,12 +60,12 @@ use crate::packet::{
 use dcsctp_tlv::frame::MAX_VALUE_SIZE;
 pub use dcsctp_types::laws as types;
 
-/// Each input has exactly one answer, under each checksum word and each policy.
+/// Proves that each input has exactly one answer, under each checksum word and each policy.
 ///
-/// So has each list of chunks, of parameters and of error causes: bytes are split into items in
-/// one way or not at all, and they mean one list of trees or have one fault, never two of either,
-/// never both, and never neither; for a strict reader and for a lenient one. A lenient reader
-/// refuses no list for its padding. A fault, of a packet or of a list, lies at one place.
+/// So has each list of chunks, of parameters and of error causes: bytes are split into items in one
+/// way or not at all, and they mean one list of trees or have one fault, never two of either, never
+/// both, and never neither; for a strict reader and for a lenient one. A lenient reader refuses no
+/// list for its padding. A fault, of a packet or of a list, lies at one place.
 pub fn one_answer()
     ensures one { (bytes : List ℕ) (word : ℕ) (policy : ChecksumPolicy)
         (a b : Result PacketTree (PacketFault × ℕ))
@@ -81,9 +81,9 @@ pub fn one_answer()
         × IgnoresPadding (causes lenient) }
 {}
 
-/// Reading is local. After bytes that fill words of four, and whose chunks mean some trees, the
-/// next chunks are read as if they began there: the answer is the packet with both lists, one
-/// after the other, or the first fault of the second.
+/// Proves that reading is local. After bytes that fill words of four, and whose chunks mean some
+/// trees, the next chunks are read as if they began there: the answer is the packet with both
+/// lists, one after the other, or the first fault of the second.
 pub fn reading_is_local()
     ensures packet { (front end : List ℕ) (word : ℕ) (policy : ChecksumPolicy)
         (ts us : List ChunkTree)
@@ -99,25 +99,25 @@ pub fn reading_is_local()
         → Placed (front ++ end) word policy (Err (Chunk f.0, length front + f.1)) }
 {}
 
-/// What a policy accepts that looks at padding, the same policy accepts where it doesn't, as the
-/// same packet.
+/// Proves that what a policy with `strict_padding` accepts, the same policy without it accepts, as
+/// the same packet.
 pub fn strict_is_lenient()
     ensures { (bytes : List ℕ) (word : ℕ) (policy : ChecksumPolicy) (p : PacketTree)
         → Answer bytes word policy (Ok p)
         → Answer bytes word (record policy { strict_padding = false }) (Ok p) }
 {}
 
-/// Two meanings are the same if and only if their canonical packets are, where both have one that
-/// reads back: where each is well-formed, in width, and fits. What `from_bytes` returns is
+/// Proves that two meanings are the same if and only if their canonical packets are, of those that
+/// have one that reads back: each is well-formed, in width, and fits. What `from_bytes` returns is
 /// well-formed, and in width (`has_widths`); `fits` says the rest.
 pub fn canonical_one()
     ensures { (m n : Meaning) → HasCanonical m → HasCanonical n
         → (canonical m ≡ canonical n) ↔ (m ≡ n) }
 {}
 
-/// A chunk, a parameter or an error cause is written as just `serialized_size` bytes, wherever it
-/// can be written; so is a caller's own type. `serialize_to` leaves the bytes after them as they
-/// were.
+/// Proves that a chunk, a parameter or an error cause is written as just `serialized_size` bytes,
+/// if it can be written; so is a caller's own type. `serialize_to` leaves the bytes after them as
+/// they were.
 pub fn image_size<T: SerializableTlv>()
     ensures size { (item : T)
         → length (image_of (T.format item).tlv) ≡ size_of (T.format item).tlv }
@@ -126,8 +126,8 @@ pub fn image_size<T: SerializableTlv>()
         ≡ drop (size_of (T.format item).tlv) output }
 {}
 
-/// The value of an INIT or an INIT ACK is sixteen bytes of numbers, and its parameters after them
-/// (RFC 9260 sections 3.3.2 and 3.3.3).
+/// Proves that the value of an INIT or an INIT ACK is sixteen bytes of numbers, and its parameters
+/// after them (RFC 9260 sections 3.3.2 and 3.3.3).
 pub fn init_size()
     ensures init { (i : InitTree)
         → (tlv (Init i)).value_size ≡ 16 + list_size parameter_tlv i.parameters }
@@ -135,9 +135,10 @@ pub fn init_size()
         → (tlv (InitAck i)).value_size ≡ 16 + list_size parameter_tlv i.parameters }
 {}
 
-/// Two values are equal if and only if they are the same: errors, first faults, results, gap ack
-/// blocks and skipped streams; and causes of missing parameters if and only if they name the same
-/// ones. (`types::equality` has the serial numbers, ids, keys, times and methods.)
+/// Proves that two values are equal if and only if they are the same: errors, first faults,
+/// results, gap ack blocks and skipped streams; and causes of missing parameters if and only if
+/// they name the same ones. (`types::equality` has the serial numbers, ids, keys, times and
+/// methods.)
 pub fn equality()
     ensures packet_errors { TellsSame ⟦<PacketParseError as PartialEq>⟧.eq }
     ensures first_faults { TellsSame ⟦<FirstFault as PartialEq>⟧.eq }
@@ -150,17 +151,17 @@ pub fn equality()
         ↔ (a.missing_parameters.items ≡ b.missing_parameters.items) }
 {}
 
-/// A clone is the value itself: of results, gap ack blocks and policies. (`types::clones` has the
-/// serial numbers, ids, keys, times and methods.)
+/// Proves that a clone is the value itself: of results, gap ack blocks and policies.
+/// (`types::clones` has the serial numbers, ids, keys, times and methods.)
 pub fn clones()
     ensures results { IsItself ⟦<ReconfigurationResponseResult as Clone>⟧.is_clone }
     ensures blocks { IsItself ⟦<GapAckBlock as Clone>⟧.is_clone }
     ensures policies { IsItself ⟦<ChecksumPolicy as Clone>⟧.is_clone }
 {}
 
-/// The types of chunks and parameters, the codes of error causes, the sizes of headers, the most
-/// bytes of a value, and the policy that accepts every checksum. (`types::methods` has the methods
-/// of error detection.)
+/// Proves which numbers the constants are: the types of chunks and parameters, the codes of error
+/// causes, the sizes of headers, the most bytes of a value; and what the policy is that accepts
+/// every checksum. (`types::methods` has the methods of error detection.)
 pub fn constants()
     ensures data { DATA ≡ 0 }
     ensures init { INIT ≡ 1 }

@@ -117,8 +117,8 @@ has_small_window c =
 abbrev pub reflects_tag : Item → Bool
 reflects_tag c = (is_of_type 6 c || is_of_type 14 c) && c.second % 2 == 1
 
--- Packets with INIT, COOKIE ECHO or ASCONF are sent with a CRC32c, and so are answers to packets out
--- of the blue (RFC 9653 section 5.2).
+-- Packets with INIT, COOKIE ECHO or ASCONF are sent with a CRC32c, and so are answers to packets
+-- out of the blue (RFC 9653 section 5.2).
 abbrev pub needs_checksum : Item → Bool
 needs_checksum c = is_of_type 1 c || is_of_type 10 c || is_of_type 193 c || reflects_tag c
 

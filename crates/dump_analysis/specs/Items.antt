@@ -1,5 +1,5 @@
--- Which items are looked at, as a list: all that lie somewhere; of a refused packet the chunks up to
--- its fault.
+-- Which items are looked at, as a list: all that lie somewhere; of a refused packet the chunks up
+-- to its fault.
 use Rattle.std.specs.Prelude.{◌≡◌, ◌<◌, ◌≤◌, ◌-◌, ◌&&◌, Bool, true, false, ℕ, zero, suc, nat_le, nat_lt, if◌then◌else◌, List, [], ◌∷◌, length, slice_index, Option, Some, None}
 use Rattle.dcsctp_tlv.specs.Frame.{round_up_to_4}
 use Rattle.dcsctp_borrowed.specs.Part.{Part, Item, AreItems, begins_with_item, first_item, after_item, length_field, after}

@@ -1,5 +1,5 @@
--- The packets that break a rule: of the packet, its checksum word, what is known of its association,
--- and its chunks.
+-- The packets that break a rule: of the packet, its checksum word, what is known of its
+-- association, and its chunks.
 use Rattle.std.specs.Prelude.{◌==◌, ◌&&◌, ◌||◌, not, Bool, true, false, ℕ, nat_lt, Option, Some, None, List, length}
 use Rattle.std.specs.List.{list_any}
 use Rattle.dcsctp_borrowed.specs.Part.{Part, Item}

@@ -1,5 +1,5 @@
--- How TSNs of an end follow one another (RFC 9260 sections 2.6 and 3.3.1): of the last 2,048 up to the
--- greatest one, those are seen that are marked, and so are all before them.
+-- How TSNs of an end follow one another (RFC 9260 sections 2.6 and 3.3.1): of the last 2,048 up to
+-- the greatest one, those are seen that are marked, and so are all before them.
 use Rattle.std.specs.Prelude.{◌≡◌, ◌+◌, ◌/◌, ◌%◌, ◌^◌, ◌≤◌, ◌⊎◌, ℕ, List, Option, Some, None, slice_index, bit_and}
 use Rattle.dump_capture.specs.Number.{capped, one_more}
 use Rattle.dump_analysis.specs.Serial.{ahead, IsAfter}
@@ -21,7 +21,8 @@ abbrev pub Follows : Option Span → List ℕ → ℕ → Step → Type 0
 Follows None words tsn (Ahead missing) = missing ≡ 0
 Follows None words tsn Late = ⊥
 Follows None words tsn Repeated = ⊥
-Follows (Some span) words tsn (Ahead missing) = IsAfter span.last tsn × (missing + 1 ≡ ahead span.last tsn)
+Follows (Some span) words tsn (Ahead missing) =
+    IsAfter span.last tsn × (missing + 1 ≡ ahead span.last tsn)
 Follows (Some span) words tsn Late = ¬ (IsAfter span.last tsn) × ¬ (WasSeen span words tsn)
 Follows (Some span) words tsn Repeated = ¬ (IsAfter span.last tsn) × WasSeen span words tsn
 

@@ -57,7 +57,8 @@ impl<'a> Acknowledgement<'a> {
 
     /// Returns whether a TSN is acknowledged.
     pub fn has(self, tsn: u32) -> bool
-        ensures { IsTrue result ↔ IsAcknowledged self.entry.cumulative self.entry.count self.entry.blocks.now tsn }
+        ensures { IsTrue result
+            ↔ IsAcknowledged self.entry.cumulative self.entry.count self.entry.blocks.now tsn }
     {
         if !is_after(tsn, self.cumulative) {
             return true;

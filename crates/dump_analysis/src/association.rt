@@ -38,7 +38,7 @@ impl Side {
 /// The first packet of an association.
 #[derive(Clone, Copy, Debug)]
 pub struct Began {
-    /// Its number.
+    /// The packet's number.
     pub packet: PacketNumber,
     /// When it was captured, in nanoseconds since 1970-01-01 00:00:00 UTC.
     pub nanoseconds: Option<u64>,
@@ -49,12 +49,12 @@ pub struct Began {
 /// The first packet that shows that an association was established.
 #[derive(Clone, Copy, Debug)]
 pub struct Established {
-    /// Its number.
+    /// The packet's number.
     pub packet: PacketNumber,
     /// When it was captured, in nanoseconds since 1970-01-01 00:00:00 UTC.
     pub nanoseconds: Option<u64>,
-    /// The chunk's type: a COOKIE ACK (RFC 9260 section 5.1), or else a SACK or an NR-SACK of an end
-    /// to which DATA was sent.
+    /// The chunk's type: a COOKIE ACK (RFC 9260 section 5.1), or else a SACK or an NR-SACK of an
+    /// end to which DATA was sent.
     pub chunk: u8,
 }
 
@@ -76,7 +76,7 @@ pub struct Ended {
 /// An association, as a capture shows it.
 #[derive(Clone, Debug, Drop)]
 pub struct Association {
-    /// Its number: they are counted from 1 on as they begin.
+    /// The association's number: from 1 on, in order of the first packet.
     pub number: u64,
     /// The number of the association that lived between the same ends when it began (RFC 9260
     /// section 5.2).
@@ -89,9 +89,9 @@ pub struct Association {
     pub transport: Transport,
     /// From where to where its first packet went.
     pub route: Route,
-    /// The end that sent its first packet,
+    /// The end that sent its first packet.
     pub first: End,
-    /// and the other one.
+    /// The end that didn't send its first packet.
     pub second: End,
     /// How it began.
     pub began: Began,
@@ -166,9 +166,11 @@ impl Association {
 
     /// Counts a packet that an end sent. Returns how its TSNs follow those before.
     pub fn note(&mut self, sender: Side, packet: &SeenPacket<'_>) -> Sequence
-        ensures sender { CountsPacket (counts_of sender self.old) (packet_of packet.now) (counts_of sender self.new) }
+        ensures sender { CountsPacket (counts_of sender self.old) (packet_of packet.now)
+            (counts_of sender self.new) }
         ensures receiver { counts_of (other sender) self.new ≡ counts_of (other sender) self.old }
-        ensures packets { (counts_of sender self.new).packets ≡ one_more (counts_of sender self.old).packets }
+        ensures packets { (counts_of sender self.new).packets
+            ≡ one_more (counts_of sender self.old).packets }
     {
         let sequence = match sender {
             Side::First => note_between(&mut self.first, &mut self.second, packet),

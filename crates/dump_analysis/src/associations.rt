@@ -44,12 +44,12 @@ pub struct Noted {
 
 /// The associations of a capture, in bounded memory.
 ///
-/// A packet belongs to the association whose end chose its tag, between the same ports, and of a log
-/// in the same direction and of the same transport. One with an unknown tag belongs to the
+/// A packet belongs to the association whose end chose its tag, between the same ports, and of a
+/// log in the same direction and of the same transport. One with an unknown tag belongs to the
 /// association between the same ends of which no tag of that end is known. A packet of an
 /// association that left is of none, and begins none; so is one between the ends of a living
-/// association of which it has neither tag, unless it begins with an INIT. Packets that are refused,
-/// or have a wrong checksum, belong to one as others do.
+/// association of which it has neither tag, unless it begins with an INIT. Packets that are
+/// refused, or have a wrong checksum, belong to one as others do.
 #[derive(Drop)]
 pub struct Associations {
     alloc: Global,
@@ -65,7 +65,7 @@ pub struct Associations {
 }
 
 impl Associations {
-    /// Returns none; at most `most` will be kept, or one if that is 0.
+    /// Returns a table without associations, which keeps at most `most`, or one if that is 0.
     pub fn new(alloc: Global, most: usize) -> Result<Associations, AllocError>
         ensures { IfOk result (λ r. (r.most ≡ max most 1) × (counted r.table.items r.unknown ≡ 0)) }
     {
@@ -85,9 +85,12 @@ impl Associations {
 
     /// Counts a packet, once: of one end of one association, or as unknown.
     pub fn see(&mut self, packet: &SeenPacket<'_>) -> Result<Noted, AllocError>
-        ensures unknown { IfOk result (λ noted. CountsUnknown noted.of self.old.unknown self.new.unknown) }
+        ensures unknown { IfOk result
+            (λ noted. CountsUnknown noted.of self.old.unknown self.new.unknown) }
         ensures left { IfOk result (λ noted. HasLeft noted.left) }
-        ensures counted { counted self.old.table.items self.old.unknown < 2 ^ 64 - 1 → IfOk result (λ noted. counted self.new.table.items self.new.unknown + packets_left noted.left ≡ counted self.old.table.items self.old.unknown + 1) }
+        ensures counted { counted self.old.table.items self.old.unknown < 2 ^ 64 - 1
+            → IfOk result (λ noted. counted self.new.table.items self.new.unknown
+            + packets_left noted.left ≡ counted self.old.table.items self.old.unknown + 1) }
     {
         let mut of = None;
         match Arrival::of(packet, &self.names) {
@@ -118,7 +121,8 @@ impl Associations {
         association.end(flow.sender.other()).accepts_zero
     }
 
-    /// Returns whether an end of the association of a packet sent DATA, and whether one sent I-DATA.
+    /// Returns whether an end of the association of a packet sent DATA, and whether one sent
+    /// I-DATA.
     pub fn user_data(&self, packet: &SeenPacket<'_>) -> (bool, bool) {
         let Some(arrival) = Arrival::of(packet, &self.names) else {
             return (false, false);
@@ -153,7 +157,7 @@ impl Associations {
         self.unknown
     }
 
-    /// Returns those that didn't leave the table, in the order in which they began.
+    /// Returns the associations that didn't leave the table, in the order in which they began.
     pub fn into_vec(self) -> Vec<Box<Association>>
         ensures bounded { vec_len result ≤ self.most }
         ensures ordered { IsNonDecreasingBy (λ a. a.value.number) result.items }
@@ -230,7 +234,9 @@ impl Associations {
     /// Counts a packet beside an association.
     fn note_beside(&mut self, slot: usize)
         ensures unknown { self.new.unknown ≡ one_more self.old.unknown }
-        ensures counted { counted self.old.table.items self.old.unknown < 2 ^ 64 - 1 → counted self.new.table.items self.new.unknown ≡ counted self.old.table.items self.old.unknown + 1 }
+        ensures counted { counted self.old.table.items self.old.unknown < 2 ^ 64 - 1
+            → counted self.new.table.items self.new.unknown
+            ≡ counted self.old.table.items self.old.unknown + 1 }
     {
         increase(&mut self.unknown);
         count_beside(&mut self.table, slot);
@@ -243,7 +249,9 @@ impl Associations {
         arrival: &Arrival<'_, '_>,
     ) -> Result<Option<Membership>, AllocError>
         ensures unknown { IfOk result (λ of. CountsUnknown of self.old.unknown self.new.unknown) }
-        ensures counted { counted self.old.table.items self.old.unknown < 2 ^ 64 - 1 → IfOk result (λ _. counted self.new.table.items self.new.unknown ≡ counted self.old.table.items self.old.unknown + 1) }
+        ensures counted { counted self.old.table.items self.old.unknown < 2 ^ 64 - 1
+            → IfOk result (λ _. counted self.new.table.items self.new.unknown
+            ≡ counted self.old.table.items self.old.unknown + 1) }
     {
         let (sender, receiver) = (flow.sender, flow.sender.other());
         if let Some(tag) = arrival.initiate_tag() {
@@ -267,7 +275,8 @@ impl Associations {
     /// Notes that a packet came of an association that lived before it.
     fn note_order(&mut self, slot: usize) -> Result<(), AllocError>
         ensures unknown { self.new.unknown ≡ self.old.unknown }
-        ensures counted { counted self.new.table.items self.new.unknown ≡ counted self.old.table.items self.old.unknown }
+        ensures counted { counted self.new.table.items self.new.unknown
+            ≡ counted self.old.table.items self.old.unknown }
     {
         if self.lives(slot) {
             self.order.touch(slot)
@@ -279,7 +288,8 @@ impl Associations {
     /// Notes the tag of an end.
     fn learn(&mut self, slot: usize, side: Side, tag: u32) -> Result<(), AllocError>
         ensures unknown { self.new.unknown ≡ self.old.unknown }
-        ensures counted { counted self.new.table.items self.new.unknown ≡ counted self.old.table.items self.old.unknown }
+        ensures counted { counted self.new.table.items self.new.unknown
+            ≡ counted self.old.table.items self.old.unknown }
     {
         let Some(learned) = learn_tag(&mut self.table, slot, side, tag) else {
             return Ok(());
@@ -299,9 +309,12 @@ impl Associations {
 
     /// Begins an association by a packet.
     fn begin(&mut self, arrival: &Arrival<'_, '_>) -> Result<Noted, AllocError>
-        ensures unknown { IfOk result (λ noted. CountsUnknown noted.of self.old.unknown self.new.unknown) }
+        ensures unknown { IfOk result
+            (λ noted. CountsUnknown noted.of self.old.unknown self.new.unknown) }
         ensures left { IfOk result (λ noted. HasLeft noted.left) }
-        ensures counted { counted self.old.table.items self.old.unknown < 2 ^ 64 - 1 → IfOk result (λ noted. counted self.new.table.items self.new.unknown + packets_left noted.left ≡ counted self.old.table.items self.old.unknown + 1) }
+        ensures counted { counted self.old.table.items self.old.unknown < 2 ^ 64 - 1
+            → IfOk result (λ noted. counted self.new.table.items self.new.unknown
+            + packets_left noted.left ≡ counted self.old.table.items self.old.unknown + 1) }
     {
         let restart_of = self.restarted(arrival);
         self.begun = self.begun.saturating_add(1);
@@ -313,8 +326,8 @@ impl Associations {
         Ok(Noted { of, left })
     }
 
-    /// Returns the number of the association that an INIT restarts: one that was established between
-    /// the same ends, and lives.
+    /// Returns the number of the association that an INIT restarts: one that was established
+    /// between the same ends, and lives.
     fn restarted(&self, arrival: &Arrival<'_, '_>) -> Option<u64> {
         if !arrival.is_init() || !arrival.route.is_exclusive() {
             return None;
@@ -336,7 +349,8 @@ impl Associations {
         requires { packets_of association.value ≡ 0 }
         ensures unknown { self.new.unknown ≡ self.old.unknown }
         ensures left { IfOk result (λ placed. HasLeft placed.1) }
-        ensures counted { IfOk result (λ placed. counted self.new.table.items self.new.unknown + packets_left placed.1 ≡ counted self.old.table.items self.old.unknown) }
+        ensures counted { IfOk result (λ placed. counted self.new.table.items self.new.unknown
+            + packets_left placed.1 ≡ counted self.old.table.items self.old.unknown) }
     {
         if self.table.len() < self.most {
             let slot = self.table.len();
@@ -417,7 +431,8 @@ fn count_of(
 ) -> Option<Membership>
     ensures sender { IfSome result (λ member. member.sender ≡ flow.sender) }
     ensures size { vec_len table.new ≡ vec_len table.old }
-    ensures packets { packets_in table.old.items < 2 ^ 64 - 1 → packets_in table.new.items ≡ packets_in table.old.items + (if is_some result then 1 else 0) }
+    ensures packets { packets_in table.old.items < 2 ^ 64 - 1 → packets_in table.new.items
+        ≡ packets_in table.old.items + (if is_some result then 1 else 0) }
 {
     let association = table.get_mut(flow.slot)?;
     let sequence = association.note(flow.sender, packet);
@@ -438,7 +453,8 @@ fn count_beside(table: &mut Vec<Box<Association>>, slot: usize)
     }
 }
 
-/// Puts an association without packets into a slot. Returns the one that leaves it, if there is one.
+/// Puts an association without packets into a slot. Returns the one that leaves it, if there is
+/// one.
 fn replace(
     table: &mut Vec<Box<Association>>,
     slot: usize,
@@ -447,7 +463,8 @@ fn replace(
     requires { packets_of association.value ≡ 0 }
     ensures size { vec_len table.new ≡ vec_len table.old }
     ensures left { HasLeft result }
-    ensures packets { packets_in table.new.items + packets_left result ≡ packets_in table.old.items }
+    ensures packets { packets_in table.new.items + packets_left result
+        ≡ packets_in table.old.items }
 {
     let place = table.get_mut(slot)?;
     let mut left = mem::replace(place, association);

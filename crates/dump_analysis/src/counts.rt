@@ -87,29 +87,29 @@ pub struct LeastWindow {
 pub struct Counts {
     /// Packets.
     pub packets: u64,
-    /// Those that were refused,
+    /// Packets that were refused.
     pub refused: u64,
-    /// those whose checksum field is zero, where another is expected,
+    /// Packets whose checksum field is zero, if another is expected.
     pub zero: u64,
-    /// and those whose field is wrong.
+    /// Packets whose checksum field is wrong.
     pub wrong: u64,
     /// INIT chunks.
     pub inits: u64,
-    /// DATA and I-DATA chunks,
+    /// DATA and I-DATA chunks.
     pub data_chunks: u64,
-    /// those of them that are I-DATA,
+    /// I-DATA chunks.
     pub i_data_chunks: u64,
-    /// and the bytes of user data in them.
+    /// Bytes of user data in DATA and I-DATA chunks.
     pub data_bytes: u64,
-    /// FORWARD-TSN and I-FORWARD-TSN chunks,
+    /// FORWARD-TSN and I-FORWARD-TSN chunks.
     pub forward_tsns: u64,
-    /// and the streams that they list: a message was abandoned in each.
+    /// Streams that FORWARD-TSNs and I-FORWARD-TSNs list: a message was abandoned in each.
     pub abandoned: u64,
-    /// SACK and NR-SACK chunks,
+    /// SACK and NR-SACK chunks.
     pub sacks: u64,
-    /// those that report a gap,
+    /// SACK and NR-SACK chunks that report a gap.
     pub sacks_with_gaps: u64,
-    /// and the least window in one.
+    /// The least window in a SACK or an NR-SACK.
     pub least_window: Option<LeastWindow>,
     /// HEARTBEAT chunks.
     pub heartbeats: u64,

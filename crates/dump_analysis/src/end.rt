@@ -38,9 +38,9 @@ pub struct Acknowledged {
 /// section 2.3.1).
 #[derive(Clone, Copy, Debug, PartialEq, Eq)]
 pub struct Skipped {
-    /// The greatest new cumulative TSN of its FORWARD-TSNs and I-FORWARD-TSNs,
+    /// The greatest new cumulative TSN of its FORWARD-TSNs and I-FORWARD-TSNs.
     pub tsn: u32,
-    /// and the first packet that had it.
+    /// The number of the first packet with the greatest new cumulative TSN.
     pub packet: PacketNumber,
     /// How many TSNs they skipped, up to 2^64 - 1: for each, how far its new cumulative TSN lies
     /// beyond all that was acknowledged or skipped before; where nothing was, beyond the TSN before
@@ -51,9 +51,9 @@ pub struct Skipped {
 /// The packets in which an end had no room.
 #[derive(Clone, Copy, Debug, PartialEq, Eq)]
 pub struct Closed {
-    /// The number of the first SACK with an a_rwnd of 0,
+    /// The number of the packet of the first SACK with an a_rwnd of 0.
     pub first: PacketNumber,
-    /// and that of the last one.
+    /// The number of the packet of the last SACK with an a_rwnd of 0.
     pub last: PacketNumber,
 }
 
@@ -99,7 +99,7 @@ pub enum Learned {
     Known,
     /// It is new.
     New {
-        /// The one that is known no longer.
+        /// The tag that is known no longer, if two were known.
         forgotten: Option<u32>,
     },
 }

@@ -37,9 +37,9 @@ pub struct Filter {
     pub ppid: Option<u32>,
     /// Whether its checksum field is neither what is expected nor 0, and all of it was captured.
     pub wrong: bool,
-    /// The least number of a packet,
+    /// The least number of a packet that passes.
     pub first: u64,
-    /// and the greatest.
+    /// The greatest number of a packet that passes.
     pub last: u64,
 }
 
@@ -61,7 +61,8 @@ impl Filter {
     /// checksum field has to be, and `fault` the offset of the first fault of a refused packet: of
     /// this the chunks are looked at that begin there or before. The last may be the one at fault,
     /// of which all is looked at that can be read, even if its length is impossible. Of other
-    /// packets, also of those that were cut off, all chunks are looked at whose headers can be read.
+    /// packets, also of those that were cut off, all chunks are looked at whose headers can be
+    /// read.
     pub fn passes(
         &self,
         number: u64,

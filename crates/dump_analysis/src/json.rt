@@ -18,8 +18,8 @@ pub struct AssociationJson<'a> {
     pub association: &'a Association,
     /// How times are written.
     pub style: TimeStyle,
-    /// The names of the files that were read: if there are several, a packet's number has its file's
-    /// name beside it.
+    /// The names of the files that were read: if there are several, a packet's number has its
+    /// file's name beside it.
     pub files: &'a [String],
 }
 

@@ -52,9 +52,9 @@ pub struct Place {
 pub struct Route {
     /// The transport of a log.
     pub transport: TransportKey,
-    /// From where,
+    /// From where the packet went.
     pub from: Place,
-    /// and to where.
+    /// To where the packet went.
     pub to: Place,
 }
 
@@ -183,8 +183,8 @@ impl<'a, 'p> Arrival<'a, 'p> {
         }
     }
 
-    /// Returns the tag of the sender, if the packet is known by it: an INIT, or one whose tag is the
-    /// sender's own.
+    /// Returns the tag of the sender, if the packet is known by it: an INIT, or one whose tag is
+    /// the sender's own.
     pub fn sender_tag(&self) -> Option<u32> {
         if self.is_init() {
             self.initiate_tag()

@@ -25,7 +25,8 @@ pub struct Keys {
 }
 
 impl Keys {
-    /// Returns those of no association; of those that leave, at most `most_gone` are remembered.
+    /// Returns the keys of no association; of associations that leave, at most `most_gone` are
+    /// remembered.
     pub fn new(alloc: Global, most_gone: usize) -> Keys {
         Keys {
             flows: HashMap::new(alloc),

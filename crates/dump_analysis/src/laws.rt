@@ -8,7 +8,8 @@ ghost use Rattle.dump_analysis.specs.Chunks.{has_wrong_blocks};
 ghost use Rattle.dump_analysis.specs.Items.{AreSeen, items_of, chunks_seen};
 ghost use Rattle.dump_analysis.specs.declared.rule.{Rule.{Rule}, TheConstants.Rule.{ALL}};
 
-/// The items that lie somewhere are one list, and so are the chunks of a packet that are looked at.
+/// Proves that the items that lie somewhere are one list, and so are the chunks of a packet that
+/// are looked at.
 pub fn one_list()
     ensures some { (p : Part) → AreItems p (items_of p) }
     ensures one { (p : Part) (items : List Item) → AreItems p items → items ≡ items_of p }
@@ -18,8 +19,8 @@ pub fn one_list()
         → AreSeen fault packet chunks → chunks ≡ chunks_seen fault packet }
 {}
 
-/// The gap ack blocks of a SACK are valid if and only if none is wrong: the rule `gap-blocks` finds
-/// what `validate_sack` of `dcsctp_chunk` refuses.
+/// Proves that the gap ack blocks of a SACK are valid if and only if none is wrong: the rule
+/// `gap-blocks` finds what `validate_sack` of `dcsctp_chunk` refuses.
 pub fn wrong_blocks()
     ensures right { (c : Item) (s : Tree) → c.first ≡ 3 → read c.value.bytes ≡ Ok s
         → (has_wrong_blocks c ≡ false) ↔ AreValid s.blocks }
@@ -27,7 +28,7 @@ pub fn wrong_blocks()
         → (has_wrong_blocks c ≡ true) ↔ (¬ (AreValid s.blocks)) }
 {}
 
-/// `Rule::ALL` has each rule.
+/// Proves that `Rule::ALL` has each rule.
 pub fn every_rule()
     ensures { (rule : Rule) → Contains ALL rule }
 {}

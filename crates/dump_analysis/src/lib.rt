@@ -1,12 +1,12 @@
-//! What is found of a capture's packets beyond their grammar: which a filter passes (`filter`), which
-//! rules of the RFCs each breaks (`rule`, `warnings`), and which associations there were, in bounded
-//! memory (`associations`): how each began and ended, and what each of its ends sent.
+//! What is found of a capture's packets beyond their grammar: which a filter passes (`filter`),
+//! which rules of the RFCs each breaks (`rule`, `warnings`), and which associations there were, in
+//! bounded memory (`associations`): how each began and ended, and what each of its ends sent.
 //!
 //! Every function reads a packet where it lies, as far as it can be read: refused and cut packets
 //! too. What a filter and a rule say is what definitions of `specs/` say of a packet's header and
 //! chunks. What is counted of a packet for an association is what `specs/` defines, and each packet
-//! is counted once: of one end of one association, or as unknown. The rest is proved safe and total:
-//! no clause says which association a packet belongs to, nor what a text is.
+//! is counted once: of one end of one association, or as unknown. The rest is proved safe and
+//! total: no clause says which association a packet belongs to, nor what a text is.
 #![tactic(auto)]
 
 mod acknowledgement;

@@ -11,9 +11,9 @@ use std::fmt;
 /// each (RFC 9260 sections 2.6 and 3.3.1).
 #[derive(Clone, Copy, Debug, PartialEq, Eq)]
 pub struct Sequence {
-    /// How many were seen before,
+    /// How many were seen before.
     pub repeated: u64,
-    /// and how many came after a greater one, for the first time.
+    /// How many came after a greater one, for the first time.
     pub late: u64,
     /// How many weren't seen when a greater one came.
     pub missing: u64,

@@ -28,8 +28,10 @@ impl Order {
 
     /// Notes that the association of a slot lives, and isn't silent.
     pub fn touch(&mut self, slot: usize) -> Result<(), AllocError>
-        ensures living { OnOk result (self.new.living.entries ≡ (slot, tt) ∷ remove_entry (nat_eq slot) self.old.living.entries) }
-        ensures ended { OnOk result (self.new.ended.entries ≡ remove_entry (nat_eq slot) self.old.ended.entries) }
+        ensures living { OnOk result (self.new.living.entries
+            ≡ (slot, tt) ∷ remove_entry (nat_eq slot) self.old.living.entries) }
+        ensures ended { OnOk result (self.new.ended.entries
+            ≡ remove_entry (nat_eq slot) self.old.ended.entries) }
     {
         to_front(&mut self.living, slot)?;
         self.ended.pop(&slot);
@@ -38,16 +40,18 @@ impl Order {
 
     /// Notes that the association of a slot ended.
     pub fn end(&mut self, slot: usize) -> Result<(), AllocError>
-        ensures living { OnOk result (self.new.living.entries ≡ remove_entry (nat_eq slot) self.old.living.entries) }
-        ensures ended { OnOk result (self.new.ended.entries ≡ (slot, tt) ∷ remove_entry (nat_eq slot) self.old.ended.entries) }
+        ensures living { OnOk result (self.new.living.entries
+            ≡ remove_entry (nat_eq slot) self.old.living.entries) }
+        ensures ended { OnOk result (self.new.ended.entries
+            ≡ (slot, tt) ∷ remove_entry (nat_eq slot) self.old.ended.entries) }
     {
         to_front(&mut self.ended, slot)?;
         self.living.pop(&slot);
         Ok(())
     }
 
-    /// Returns the slot that leaves first: the one that ended first, or else the one that was silent
-    /// longest.
+    /// Returns the slot that leaves first: the one that ended first, or else the one that was
+    /// silent longest.
     pub fn first(&self) -> Option<usize>
         ensures { result ≡ first_of self.now.living.entries self.now.ended.entries }
     {
@@ -59,7 +63,8 @@ impl Order {
 /// Puts a slot in front of a list, wherever it was before.
 fn to_front(list: &mut LruCache<usize, ()>, slot: usize) -> Result<(), AllocError>
     requires { list.now.cap ≡ 2 ^ 64 - 1 }
-    ensures entries { OnOk result (list.new.entries ≡ (slot, tt) ∷ remove_entry (nat_eq slot) list.old.entries) }
+    ensures entries { OnOk result (list.new.entries
+        ≡ (slot, tt) ∷ remove_entry (nat_eq slot) list.old.entries) }
     ensures cap { list.new.cap ≡ list.old.cap }
 {
     let length = list.len();

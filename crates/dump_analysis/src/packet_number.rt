@@ -38,9 +38,9 @@ impl<'a> fmt::Display for PacketText<'a> {
 pub struct PacketKeys<'a> {
     /// The packet's number.
     pub packet: PacketNumber,
-    /// The key of the number,
+    /// The key of the number.
     pub key: &'static str,
-    /// and that of the file's name.
+    /// The key of the file's name.
     pub file_key: &'static str,
     /// The files' names.
     pub files: &'a [String],

@@ -17,8 +17,8 @@ pub struct AssociationReport<'a> {
     pub association: &'a Association,
     /// How times are written.
     pub style: TimeStyle,
-    /// The names of the files that were read: if there are several, a packet's number has its file's
-    /// name after it.
+    /// The names of the files that were read: if there are several, a packet's number has its
+    /// file's name after it.
     pub files: &'a [String],
 }
 

@@ -23,7 +23,7 @@ pub struct Requests {
 }
 
 impl Requests {
-    /// Returns none.
+    /// Returns the requests of an end that sent none.
     pub fn new() -> Requests {
         Requests {
             count: 0,

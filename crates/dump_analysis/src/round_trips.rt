@@ -26,19 +26,19 @@ const BUCKETS: usize = 192;
 /// The round trips of one end's DATA, up to 2^64 - 1 of them.
 ///
 /// A TSN that was sent again is no sample (Karn's rule, RFC 9260 section 6.3.1), nor is one that a
-/// FORWARD-TSN skips. At most 16 TSNs are waited for at a time; those that are sent meanwhile are no
-/// samples either.
+/// FORWARD-TSN skips. At most 16 TSNs are waited for at a time; those that are sent meanwhile are
+/// no samples either.
 #[derive(Clone, Debug, Drop)]
 pub struct RoundTrips {
     /// How many there were.
     pub count: u64,
-    /// The least one, in nanoseconds,
+    /// The least round trip, in nanoseconds.
     pub least: u64,
-    /// the greatest one,
+    /// The greatest round trip, in nanoseconds.
     pub greatest: u64,
-    /// its TSN,
+    /// The TSN of the greatest round trip.
     pub greatest_tsn: u32,
-    /// and the first packet that ended it.
+    /// The first packet that ended the greatest round trip.
     pub greatest_packet: Option<PacketNumber>,
     waiting: [Sent; MOST],
     buckets: [u32; BUCKETS],
@@ -53,7 +53,7 @@ struct Sent {
 }
 
 impl RoundTrips {
-    /// Returns none.
+    /// Returns the round trips of an end that sent no TSN.
     pub fn new() -> RoundTrips {
         let none = Sent {
             tsn: 0,
@@ -85,7 +85,7 @@ impl RoundTrips {
         }
     }
 
-    /// Doesn't wait any longer for a TSN that was sent again.
+    /// Ends the wait for a TSN that was sent again.
     pub fn leave(&mut self, tsn: u32)
         ensures { All (λ sent. sent.tsn ≡ tsn → sent.is_waiting ≡ false) self.new.waiting }
     {
@@ -96,9 +96,10 @@ impl RoundTrips {
         }
     }
 
-    /// Doesn't wait any longer for a TSN up to the new cumulative one of a FORWARD-TSN.
+    /// Ends the wait for the TSNs up to the new cumulative one of a FORWARD-TSN.
     pub fn leave_to(&mut self, cumulative: u32)
-        ensures { All (λ sent. ¬ (IsAfter cumulative sent.tsn) → sent.is_waiting ≡ false) self.new.waiting }
+        ensures { All (λ sent. ¬ (IsAfter cumulative sent.tsn) → sent.is_waiting ≡ false)
+            self.new.waiting }
     {
         for sent in self.waiting.iter_mut() {
             if !is_after(sent.tsn, cumulative) {
@@ -107,8 +108,8 @@ impl RoundTrips {
         }
     }
 
-    /// Ends the round trips of the TSNs that are acknowledged in the packet of this number. One that
-    /// would end before it began is no sample.
+    /// Ends the round trips of the TSNs that are acknowledged in the packet of this number. One
+    /// that would end before it began is no sample.
     pub fn acknowledge(
         &mut self,
         acknowledged: Acknowledgement<'_>,
@@ -148,7 +149,8 @@ impl RoundTrips {
     /// Returns the median in nanoseconds, within 1/16 of it, or within 512 ns if it is below 16 us.
     /// If it is above 68 s, returns the greatest.
     pub fn median(&self) -> u64
-        ensures { 0 < self.now.count → IsMedian self.now.buckets self.now.count self.now.least self.now.greatest result }
+        ensures { 0 < self.now.count → IsMedian self.now.buckets self.now.count self.now.least
+            self.now.greatest result }
     {
         let half = self.count / 2 + self.count % 2;
         let mut passed: u64 = 0;

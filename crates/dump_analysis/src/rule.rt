@@ -41,8 +41,9 @@ pub enum Rule {
     GapBlocks,
     /// Flags that are reserved aren't set (RFC 9260 section 3.2).
     ReservedBits,
-    /// A packet with INIT, COOKIE ECHO or ASCONF, an answer to a packet out of the blue, and a packet
-    /// to an end that didn't announce Zero Checksum Acceptable have their CRC32c (RFC 9653 section
+    /// A packet with INIT, COOKIE ECHO or ASCONF, an answer to a packet out of the blue, and a
+    /// packet to an end that didn't announce Zero Checksum Acceptable have their CRC32c (RFC 9653
+    /// section
     /// 5.2).
     ZeroChecksum,
     /// No chunk comes before COOKIE ECHO (RFC 9260 section 5.1), but for AUTH (RFC 4895 section

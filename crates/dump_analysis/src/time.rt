@@ -168,7 +168,8 @@ fn year_of(days: u64) -> (u64, u64)
     (year, rest)
 }
 
-/// Returns the month of a day, given in days that passed of the year, and how many days of it passed.
+/// Returns the month of a day, given in days that passed of the year, and how many days of it
+/// passed.
 fn month_of(year: u64, days: u64) -> (u64, u64)
     requires { days < days_of_year year }
     ensures month { (1 ≤ result.0) × (result.0 ≤ 12) }

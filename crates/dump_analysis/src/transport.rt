@@ -17,8 +17,8 @@ pub enum Transport {
     Unnamed,
     /// It has this one.
     Named(TransportName),
-    /// It has one that isn't kept, since it is longer than 64 bytes, isn't printable ASCII, or since
-    /// there were 1,024 others.
+    /// It has one that isn't kept, since it is longer than 64 bytes, isn't printable ASCII, or
+    /// since there were 1,024 others.
     Other,
 }
 
@@ -57,7 +57,8 @@ impl TransportName {
     }
 }
 
-/// Which transport it is: of those without a name, of those whose names aren't kept, or of one name.
+/// Which transport it is: of those without a name, of those whose names aren't kept, or of one
+/// name.
 #[derive(Clone, Copy, PartialEq, Eq, Hash, Debug)]
 pub enum TransportKey {
     /// Any without a name.
@@ -76,7 +77,7 @@ pub struct TransportNames {
 }
 
 impl TransportNames {
-    /// Returns none.
+    /// Returns a table without names.
     pub fn new(alloc: Global) -> TransportNames {
         TransportNames {
             numbers: HashMap::new(alloc),

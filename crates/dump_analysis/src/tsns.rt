@@ -20,9 +20,9 @@ pub struct Tsns {
     span: Option<Span>,
     /// How many were seen again. One that comes 2,048 TSNs late, or later, counts as such.
     pub repeated: u64,
-    /// The first of them,
+    /// The first TSN that was seen again.
     pub first_repeated_tsn: u32,
-    /// and its packet, if there is one.
+    /// The packet of the first TSN that was seen again, if there is one.
     pub first_repeated: Option<PacketNumber>,
     /// How many between the first and the last one were not seen.
     pub missing: u64,
@@ -52,7 +52,7 @@ pub enum Step {
 }
 
 impl Tsns {
-    /// Returns none.
+    /// Returns the TSNs of an end that sent none.
     pub fn new() -> Tsns {
         Tsns {
             span: None,

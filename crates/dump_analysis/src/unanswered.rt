@@ -33,7 +33,7 @@ struct Question {
 }
 
 impl Unanswered {
-    /// Returns none.
+    /// Returns the questions of an end that asked none.
     pub fn new() -> Unanswered {
         let none = Question {
             key: 0,

@@ -81,8 +81,8 @@ impl Warnings {
         Warnings { counts: [0; RULES] }
     }
 
-    /// Returns which rules are broken by a packet of `size` bytes, of which these were captured, and
-    /// counts them. Of a packet that isn't judged none is asked.
+    /// Returns which rules are broken by a packet of `size` bytes, of which these were captured,
+    /// and counts them. Of a packet that isn't judged none is asked.
     pub fn judge(
         &mut self,
         is_judged: bool,

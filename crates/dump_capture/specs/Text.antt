@@ -1,5 +1,5 @@
--- A text: lines with their line feeds, and what follows the last of these. Which events a line has is
--- not defined.
+-- A text: lines with their line feeds, and what follows the last of these. Which events a line has
+-- is not defined.
 use Rattle.std.specs.Prelude.{◌≡◌, ℕ, List, Option, None}
 use Rattle.dump_capture.specs.Event.{Event, Hands}
 use Rattle.dump_capture.specs.Decoding.{IsLine, fed}

@@ -63,8 +63,8 @@ pub trait Decoder {
     // they can't be read.
     ghost End: { State → List ℕ → List Event → Option Fault → Type 0 };
 
-    /// Says what the bytes begin with, and passes on its events. `at_end` says whether no more
-    /// follow.
+    /// Returns what the bytes begin with, and hands its events to the sink. `at_end` is true if no
+    /// more bytes follow.
     fn next<S: Sink>(&mut self, held: &[u8], at_end: bool, sink: &mut S) -> Next
         ensures { (events : List Event) × Hands S.handed sink.old sink.new events
             × Finds Item End (state self.old) held.now at_end events (state self.new) result };

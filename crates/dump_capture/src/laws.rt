@@ -16,7 +16,8 @@ ghost use Rattle.dump_capture.specs.declared.decoder.Fault.{Fault};
 ghost use Rattle.dump_capture.specs.declared.pcap_decoder.PcapDecoder.{PcapDecoder};
 ghost use Rattle.dump_capture.specs.declared.pcap_decoder.PcapDecoder.TheVariants.{FileHeader as AtHeader};
 
-/// The bytes after a file header are exactly one list of records, and what is cut off after them.
+/// Proves that the bytes after a file header are one list of records, and what is cut off after
+/// them.
 pub fn one_reading()
     ensures some { (order : ByteOrder) (bytes : List ℕ) → ((k : ℕ) → slice_index bytes k < 256)
         → (records : List Record) × (cut : List ℕ) × AreRecords order bytes records cut }
@@ -25,21 +26,21 @@ pub fn one_reading()
         → (records ≡ others) × (cut ≡ left) }
 {}
 
-/// A record that comes before records is the first of them.
+/// Proves that a record that comes before records is the first of them.
 pub fn next_record()
     ensures { (order : ByteOrder) (r : Record) (bytes cut : List ℕ) (records : List Record)
         → Fits r → AreRecords order bytes records cut
         → AreRecords order (record_bytes order r ++ bytes) (r ∷ records) cut }
 {}
 
-/// Bytes that don't begin with a whole record are no records, and all of them are cut off. At the
-/// end of a whole file there are no such bytes.
+/// Proves that bytes that don't begin with a whole record are no records, and all of them are cut
+/// off. At the end of a whole file there are no such bytes.
 pub fn no_record()
     ensures { (order : ByteOrder) (bytes : List ℕ)
         → (BeginsWithRecord order bytes → ⊥) → AreRecords order bytes [] bytes }
 {}
 
-/// A pcap file of a link type that is known has the events of its records, in order.
+/// Proves that a pcap file of a link type that is known has the events of its records, in order.
 pub fn pcap_events()
     ensures { (header : FileHeader) (front bytes cut : List ℕ) (records : List Record)
         → length front ≡ 24 → file_header front ≡ Some header
@@ -49,7 +50,7 @@ pub fn pcap_events()
         (events_from header 1 records cut) None }
 {}
 
-/// Any bytes are read, as some events and as a fault or none.
+/// Proves that any bytes are read, as some events and as a fault or none.
 pub fn some_file()
     ensures pcap { (bytes : List ℕ) → ((k : ℕ) → slice_index bytes k < 256)
         → (events : List Event) × (fault : Option Fault)
@@ -58,7 +59,7 @@ pub fn some_file()
         × Reads pcapng.Item pcapng.End s bytes events fault }
 {}
 
-/// Bytes are read as one list of events at most, and with one fault at most.
+/// Proves that bytes are read as one list of events at most, and with one fault at most.
 pub fn one_file()
     ensures pcap { (s : PcapDecoder) (bytes : List ℕ) (events others : List Event)
         (fault other : Option Fault)
@@ -71,9 +72,9 @@ pub fn one_file()
         → (events ≡ others) × (fault ≡ other) }
 {}
 
-/// An SCTP packet that an IPv4 packet without options carries is found, without what follows it in
-/// the frame, whatever the header's other fields are. If the frame was cut off, it is found as far
-/// as it was captured.
+/// Proves that an SCTP packet that an IPv4 packet without options carries is found, without what
+/// follows it in the frame, whatever the header's other fields are. If the frame was cut off, it is
+/// found as far as it was captured.
 pub fn sent_ipv4()
     ensures { (f : Ipv4Fields) (source destination bytes : List ℕ) (port original size : ℕ)
         → length source ≡ 4 → length destination ≡ 4 → 20 + size < 2 ^ 16
@@ -86,7 +87,8 @@ pub fn sent_ipv4()
         }) }
 {}
 
-/// So is a packet that an IPv6 packet without extension headers carries.
+/// Proves that an SCTP packet that an IPv6 packet without extension headers carries is found,
+/// without what follows it in the frame, and as far as it was captured.
 pub fn sent_ipv6()
     ensures { (source destination bytes : List ℕ) (hop_limit port original size : ℕ)
         → length source ≡ 16 → length destination ≡ 16 → size < 2 ^ 16

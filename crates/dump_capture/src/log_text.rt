@@ -17,7 +17,7 @@ impl<'a> Model for LogText<'a> {
 }
 
 impl<'a> LogText<'a> {
-    /// The word that is written so.
+    /// Returns the word that is written as these bytes.
     pub(crate) fn new(text: &'a [u8]) -> LogText<'a>
         ensures { result ≡ text.now }
     {

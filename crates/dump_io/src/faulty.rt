@@ -129,7 +129,7 @@ impl<'a> Sink<'a> {
         }
     }
 
-    /// Whether this call is the one that fails.
+    /// Returns whether this call is the one that fails.
     fn fails_now(&self) -> bool {
         self.writes.saturating_add(self.flushes) == self.plan.fails_at
     }

@@ -32,23 +32,23 @@ impl<D> Watched<D> {
         }
     }
 
-    /// A call failed.
+    /// Returns whether a call failed.
     pub fn failed(&self) -> bool
         ensures { result ≡ has_failed self.now }
     {
         self.failed
     }
 
-    /// No bytes were written after the last call of `flush` that didn't fail. That such a call
-    /// flushes the device no clause can say, since std's `Write` doesn't; the tests count the
-    /// flushes.
+    /// Returns whether no bytes were written after the last call of `flush` that didn't fail. That
+    /// such a call flushes the device no clause can say, since std's `Write` doesn't; the tests
+    /// count the flushes.
     pub fn is_flushed(&self) -> bool
         ensures { result ≡ is_flushed self.now }
     {
         self.flushed
     }
 
-    /// Gives the device back.
+    /// Returns the device.
     pub fn into_device(self) -> D
         ensures { result ≡ device_of self }
     {

@@ -74,7 +74,7 @@ fn walk_meaning<F: Fields>(chunk: &Item<'_>, fields: &mut F) -> Result<bool, fmt
     Ok(true)
 }
 
-/// The T bit.
+/// Returns the T bit of a chunk.
 fn tag_reflected(chunk: &Item<'_>) -> Flag {
     Flag {
         words: (", tag reflected", ""),
@@ -241,7 +241,7 @@ fn walk_bits<F: Fields>(data: &UserData<'_>, fields: &mut F) -> fmt::Result {
     fields.flag(&data_flag(", immediate", "immediate", data.immediate_ack))
 }
 
-/// A bit of a chunk with user data, of which nothing is said where it isn't set.
+/// Returns a bit of a chunk with user data; of one that isn't set nothing is said.
 fn data_flag(words: &'static str, key: &'static str, is_set: bool) -> Flag {
     Flag {
         words: (words, ""),
@@ -252,7 +252,7 @@ fn data_flag(words: &'static str, key: &'static str, is_set: bool) -> Flag {
     }
 }
 
-/// The U bit, in a byte at an offset.
+/// Returns the U bit, in a byte at an offset.
 fn order_flag(is_set: bool, offset: usize) -> Flag {
     Flag {
         words: (", unordered", ", ordered"),

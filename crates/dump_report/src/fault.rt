@@ -85,7 +85,7 @@ pub struct Fault<'a> {
 }
 
 impl<'a> Fault<'a> {
-    /// The fault that `SctpPacket::first_fault` found in these bytes.
+    /// Returns the fault that `SctpPacket::first_fault` found in these bytes.
     pub fn of(bytes: &'a [u8], found: &FirstFault) -> Fault<'a> {
         let kind = match &found.fault {
             PacketParseError::InvalidPacketSize => FaultKind::Size,
@@ -116,8 +116,8 @@ impl<'a> Fault<'a> {
         }
     }
 
-    /// The fault of a packet that was cut off, if a chunk's length is less than 4 or more than the
-    /// packet has left: all that is known to be a fault there.
+    /// Returns the fault of a packet that was cut off, if a chunk's length is less than 4 or more
+    /// than the packet has left: all that is known to be a fault there.
     pub fn of_cut(packet: Part<'a>) -> Option<Fault<'a>> {
         let place = Place::first(packet, usize::MAX).skip();
         if place.rest.bytes.len() < HEADER_SIZE {
@@ -176,7 +176,7 @@ struct Place<'a> {
 }
 
 impl<'a> Place<'a> {
-    /// The place of an offset of a packet in the list of its chunks.
+    /// Returns the place of an offset of a packet in the list of its chunks.
     fn first(packet: Part<'a>, offset: usize) -> Place<'a> {
         Place {
             level: Level::Chunk,
@@ -232,7 +232,7 @@ impl<'a> Place<'a> {
         })
     }
 
-    /// The place in a chunk's list, where it has one, and the offset is in it.
+    /// Returns the place in a chunk's list, if the chunk has one, and the offset is in it.
     fn within(self, chunk: Item<'a>) -> Place<'a> {
         let (level, start) = match chunk.first {
             1 | 2 => (Level::Parameter, InitNumbers::SIZE),
@@ -319,9 +319,9 @@ fn write_length<W: fmt::Write>(
     write!(f, "{lower} or {upper} are needed")
 }
 
-/// The least length of an item, and by how much it can be longer. Counts in three kinds say their
-/// lengths: of a SACK (RFC 9260 section 3.3.4), a Missing Mandatory Parameter (section 3.3.10.2), and
-/// a Re-configuration Response by its two TSNs or none (RFC 6525 section 4.4).
+/// Returns the least length of an item, and by how much it can be longer. Counts in three kinds say
+/// their lengths: of a SACK (RFC 9260 section 3.3.4), a Missing Mandatory Parameter (section
+/// 3.3.10.2), and a Re-configuration Response by its two TSNs or none (RFC 6525 section 4.4).
 fn sizes(name: ItemName, bytes: &[u8]) -> (usize, u8) {
     match (name.level, name.code) {
         (Level::Chunk, code) => {

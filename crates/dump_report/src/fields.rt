@@ -155,28 +155,28 @@ pub trait Fields {
         Ok(())
     }
 
-    /// An item begins: what comes up to its `end` is in it.
+    /// Begins an item: what comes up to its `end` is in it.
     fn begin(&mut self, level: Level, item: &Item<'_>) -> fmt::Result;
 
-    /// An item ends.
+    /// Ends an item.
     fn end(&mut self, level: Level) -> fmt::Result;
 
-    /// A list begins, of items or of entries.
+    /// Begins a list, of items or of entries.
     fn begin_list(&mut self, _key: &'static str, _is_empty: bool) -> fmt::Result {
         Ok(())
     }
 
-    /// A list ends.
+    /// Ends a list.
     fn end_list(&mut self) -> fmt::Result {
         Ok(())
     }
 
-    /// A list's entry begins.
+    /// Begins a list's entry.
     fn begin_entry(&mut self, _offset: usize, _size: usize) -> fmt::Result {
         Ok(())
     }
 
-    /// A list's entry ends.
+    /// Ends a list's entry.
     fn end_entry(&mut self) -> fmt::Result {
         Ok(())
     }

@@ -2,8 +2,8 @@
 -- bytes the escapes, `\x` and two digits.
 use Rattle.std.specs.{Prelude.{◌≡◌, ◌-◌, ◌/◌, ◌%◌, ◌==◌, ◌||◌, ◌&&◌, ◌⊎◌, not, Bool, true, false, if◌then◌else◌, nat_lt, nat_le, ℕ, zero, suc, List, [], ◌∷◌, ◌++◌, length, take, slice_index, encode_utf8}, Char.{IsScalar}, Int.{is_in_range}, Str.{chars, is_utf8}, Fmt.{digit_glyph}}
 
--- The controls of the direction of text (U+061C, U+200E, U+200F, U+202A to U+202E, U+2066 to U+2069),
--- the ends of a line and a paragraph (U+2028, U+2029), and others that aren't seen.
+-- The controls of the direction of text (U+061C, U+200E, U+200F, U+202A to U+202E, U+2066 to
+-- U+2069), the ends of a line and a paragraph (U+2028, U+2029), and others that aren't seen.
 abbrev pub is_hidden : ℕ → Bool
 is_hidden c =
     c == 0x061C || is_in_range 0x200B 0x200F c || is_in_range 0x2028 0x202E c
@@ -11,7 +11,8 @@ is_hidden c =
     || nat_le 0xE_0000 c
 
 -- A character that stands for itself, in one word or in a text: none is a control character (U+0000
--- to U+001F, U+007F to U+009F), a quotation mark or a backslash; in a word it is ASCII, and no blank.
+-- to U+001F, U+007F to U+009F), a quotation mark or a backslash; in a word it is ASCII, and no
+-- blank.
 abbrev pub is_shown : Bool → ℕ → Bool
 is_shown is_word c =
     if c == 0x22 || c == 0x5C then false else

@@ -5,14 +5,14 @@ ghost use Rattle.dcsctp_tlv.specs.Number.{AreBytes};
 ghost use Rattle.dump_text.specs.JsonString.{IsString, string_of};
 ghost use Rattle.dump_text.specs.Printed.{IsPlain, IsPrinted, printed};
 
-/// What is written of a text is a string of JSON that stands for this text.
+/// Proves that a text is written as a string of JSON that means this text.
 pub fn json_string()
     ensures { (text : List ℕ) → IsUtf8 text → IsString (string_of text) text }
 {}
 
-/// What is printed of a text has its characters, as far as they are shown, and the escapes of all
-/// other bytes: no character but those that are shown, and the backslash. It was printed of these
-/// bytes alone.
+/// Proves that a text is printed as its characters, as far as they are shown, and the escapes of
+/// all other bytes: no character but those that are shown, and the backslash. It was printed of
+/// these bytes alone.
 pub fn printed_text()
     ensures printed { (is_word : Bool) (bytes : List ℕ)
         → IsPrinted is_word bytes (printed is_word bytes) }

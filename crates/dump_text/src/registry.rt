@@ -335,7 +335,7 @@ pub fn least_chunk(typ: u8) -> (usize, u8) {
     }
 }
 
-/// Returns the same of a parameter.
+/// Returns the least length and the step of a parameter of this type, as `least_chunk` does.
 pub fn least_parameter(typ: u16) -> (usize, u8) {
     match typ {
         0x000d => (16, 2),
@@ -347,7 +347,7 @@ pub fn least_parameter(typ: u16) -> (usize, u8) {
     }
 }
 
-/// Returns the same of an error cause.
+/// Returns the least length and the step of an error cause of this code, as `least_chunk` does.
 pub fn least_cause(code: u16) -> (usize, u8) {
     match code {
         0x0002 | 0x0009 => (8, 0),

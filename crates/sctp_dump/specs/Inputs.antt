@@ -68,15 +68,15 @@ OfFormat form left Holds =
     (k : InputFormat) × IfSome left (λ l. k ≡ format_of form l) × Holds k
 
 -- The printer was handed the events of all of an input, up to the end, or to a fault.
-abbrev pub HandsInput : {P : Type 0} → FormatOption → (P → List Event → Type 0) → Option (List ℕ) → P → P
-    → Option Fault → Type 0
+abbrev pub HandsInput : {P : Type 0} → FormatOption → (P → List Event → Type 0)
+    → Option (List ℕ) → P → P → Option Fault → Type 0
 HandsInput form handed left old new fault =
     OfFormat form left (HandsFormat handed left old new fault)
 
 -- What it was handed where reading stopped so: of an input that has a fault all events before it;
 -- of any other one those of a beginning, or all.
-abbrev pub StopsInput : {P : Type 0} → FormatOption → (P → List Event → Type 0) → Option (List ℕ) → P → P
-    → Stop → Type 0
+abbrev pub StopsInput : {P : Type 0} → FormatOption → (P → List Event → Type 0)
+    → Option (List ℕ) → P → P → Stop → Type 0
 StopsInput form handed left old new (stop.Fault fault) =
     HandsInput form handed left old new (Some fault)
 StopsInput form handed left old new _ =

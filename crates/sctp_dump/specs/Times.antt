@@ -17,8 +17,8 @@ unit_of Nanoseconds = 1
 
 -- ---- pcapng
 
--- How many units a second has (if_tsresol, draft-ietf-opsawg-pcapng section 4.2): a power of ten, or
--- one of two where the first bit is set.
+-- How many units a second has (if_tsresol, draft-ietf-opsawg-pcapng section 4.2): a power of ten,
+-- or one of two where the first bit is set.
 abbrev pub units : ℕ → ℕ
 units resolution = if nat_lt resolution 128 then 10 ^ resolution else 2 ^ (resolution - 128)
 

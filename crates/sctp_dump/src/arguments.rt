@@ -124,7 +124,7 @@ pub fn request_of(alloc: Global, words: &[String]) -> Result<Request<'_>, Failur
     }
 }
 
-/// Whether a word isn't the name of a file.
+/// Returns whether a word isn't the name of a file.
 fn is_option(word: &str) -> bool {
     word.starts_with('-') && word.len() > 1
 }

@@ -27,10 +27,10 @@ const FAILED: u8 = 2;
 
 const WARNED: u8 = 3;
 
-/// Does what the host's arguments say, and returns the status: 0 if all packets were accepted, 1 if
-/// some were refused, 2 if an input couldn't be read, ends inside a record or has no packet in what
-/// it holds, the output couldn't be written, or memory ran out, 3 if none was refused, but some
-/// break rules that were looked at.
+/// Runs the program with the host's arguments, and returns the status: 0 if all packets were
+/// accepted, 1 if some were refused, 2 if an input couldn't be read, ends inside a record or has no
+/// packet in what it holds, the output couldn't be written, or memory ran out, 3 if none was
+/// refused, but some break rules that were looked at.
 ///
 /// Reports each failure on standard error, but not that whoever read the output reads no more of
 /// it. No clause says what a host is asked for, since none of std does.
@@ -57,7 +57,7 @@ fn report(rt: &HostRuntime, name: Option<&str>, failure: &Failure) {
     };
 }
 
-/// Does what the arguments say, and returns the status.
+/// Runs the program with its arguments, and returns the status.
 fn run_request(rt: &HostRuntime) -> Result<u8, Failure>
     ensures { IfOk result (λ status. status ≤ 3) }
 {
@@ -115,14 +115,15 @@ fn dump_all(rt: &HostRuntime, request: &Request<'_>) -> Result<u8, Failure>
     end_of(written, failed, &printer)
 }
 
-/// What a run returns, whose last write ended so.
+/// Returns what a run returns that ended with this last write.
 fn end_of<W: Write>(
     written: Result<(), Failure>,
     failed: bool,
     printer: &EventPrinter<W>,
 ) -> Result<u8, Failure>
     ensures end { MatchResult written
-        (λ _. result ≡ Ok (status failed (is_warned printer.now.warnings.counts) printer.now.counts))
+        (λ _. result
+        ≡ Ok (status failed (is_warned printer.now.warnings.counts) printer.now.counts))
         (λ failure. result ≡ Err failure) }
     ensures known { IfOk result (λ status. status ≤ 3) }
 {
@@ -132,8 +133,8 @@ fn end_of<W: Write>(
     }
 }
 
-/// The status of a run: what failed comes before what was refused, and that before what was warned
-/// of.
+/// Returns the status of a run: what failed comes before what was refused, and that before what was
+/// warned of.
 fn status_of(failed: bool, warned: bool, counts: &Counts) -> u8
     ensures status { result ≡ status failed warned counts.now }
     ensures known { result ≤ 3 }

@@ -79,7 +79,8 @@ fn find_format<R: Read, P: Printer>(
 ) -> Result<InputFormat, Stop>
     requires { held window.old ≡ [] }
     ensures format { IfOk result (λ found.
-        IfSome (left window.new (R.remaining (device_of input.new))) (λ l. found ≡ format_of form l)) }
+        IfSome (left window.new (R.remaining (device_of input.new)))
+        (λ l. found ≡ format_of form l)) }
     ensures stream { Keeps (R.remaining (device_of input.old))
         (left window.new (R.remaining (device_of input.new))) }
     ensures handed { Hands P.handed printer.old printer.new [] }

@@ -24,8 +24,8 @@ enum LogTimes {
     Days,
 }
 
-/// Puts the times of a log in one order. A time that goes back is known only where it is known by how
-/// much: past midnight, and past the end of a year.
+/// Puts the times of a log in one order. A time that goes back is known only where it is known by
+/// how much: past midnight, and past the end of a year.
 #[derive(Clone, Copy)]
 pub struct LogClock {
     times: Option<LogTimes>,
@@ -51,8 +51,8 @@ impl LogClock {
     }
 
     /// Reads the next time of a log, as its line says it, and the date and time of the logger, if
-    /// it has them. Returns nanoseconds since a midnight before the first one; `None` where it isn't
-    /// known how long after the first one it is.
+    /// it has them. Returns nanoseconds since a midnight before the first one; `None` where it
+    /// isn't known how long after the first one it is.
     pub fn read(&mut self, time: &[u8], stamp: Option<Stamp>) -> Option<u64> {
         let (times, nanoseconds, period) = match stamp {
             Some(stamp) => (LogTimes::Stamps, of_stamp(stamp), 366 * DAY),

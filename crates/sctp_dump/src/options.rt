@@ -102,7 +102,7 @@ impl Options {
         form: FormatOption::Detected,
     };
 
-    /// Any checksum is accepted, and any padding unless it is looked at.
+    /// Returns the policy that accepts any checksum, and any padding unless `--strict` is given.
     pub fn policy(&self) -> ChecksumPolicy
         ensures { result ≡ policy_of self.now }
     {

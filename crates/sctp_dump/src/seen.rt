@@ -59,8 +59,8 @@ impl<'t, 'f, 'a> fmt::Display for SeenLines<'t, 'f, 'a> {
     }
 }
 
-/// The same at the front of a line, in a fixed order: number, time, and both ends with their SCTP
-/// ports, of which `-` stands for what isn't known.
+/// What is known of a packet, at the front of a line, in a fixed order: number, time, and both ends
+/// with their SCTP ports; `-` for what isn't known.
 #[derive(Clone, Copy)]
 pub struct SeenBrief<'t, 'f, 'a>(pub SeenLines<'t, 'f, 'a>);
 
@@ -88,8 +88,8 @@ impl<'t, 'f, 'a> fmt::Display for SeenBrief<'t, 'f, 'a> {
     }
 }
 
-/// Writes an end with its port (RFC 3986 section 3.2.2: an IPv6 address in brackets), and of the end
-/// that wrote a log the name of its transport.
+/// Writes an end with its port (RFC 3986 section 3.2.2: an IPv6 address in brackets), and of the
+/// end that wrote a log the name of its transport.
 fn write_end<W: fmt::Write>(
     end: End,
     transport: OneWord<'_>,
@@ -107,7 +107,7 @@ fn write_end<W: fmt::Write>(
     }
 }
 
-/// The same as keys of a JSON object, of which the packet's number is the first.
+/// What is known of a packet, as keys of a JSON object, of which the packet's number is the first.
 #[derive(Clone, Copy)]
 pub struct SeenJson<'t, 'f, 'a>(pub SeenLines<'t, 'f, 'a>);
 

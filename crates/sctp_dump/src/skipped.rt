@@ -22,7 +22,7 @@ impl fmt::Display for SkippedLine {
     }
 }
 
-/// The same as a JSON object, in a line.
+/// A record or a line of text that has no packet, as a JSON object in a line.
 #[derive(Clone, Copy)]
 pub struct SkippedJson(pub SkippedLine);
 
@@ -57,7 +57,8 @@ impl Said {
         apart: false,
     };
 
-    /// Returns why a record or a line has no frame, in words, unless that was said, and is said once.
+    /// Returns why a record or a line has no frame, in words, unless that was said, and is said
+    /// once.
     pub fn reason_to_say(&mut self, why: Skipped) -> Option<&'static str> {
         match why {
             Skipped::Unknown if self.unknown => return None,

@@ -16,8 +16,8 @@ use dump_io::watched::Watched;
 use dump_io::window::{MOST_KEPT, Window};
 use std::io::Read;
 
-/// Has the printer show all, and reads once. Returns the number of bytes read, 0 at the end of the
-/// input.
+/// Reads once, after the printer has shown all. Returns the number of bytes read, 0 at the end of
+/// the input.
 pub fn read_more<R: Read, P: Printer>(
     window: &mut Window,
     input: &mut Watched<R>,

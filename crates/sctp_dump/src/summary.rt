@@ -66,9 +66,9 @@ fn write_skipped<W: fmt::Write>(counts: &Counts, f: &mut fmt::Formatter<W>) -> f
 /// What the table of associations didn't keep.
 #[derive(Clone, Copy)]
 pub struct Unkept {
-    /// How many associations left it,
+    /// How many associations left it.
     pub left: u64,
-    /// and how many packets belong to none.
+    /// How many packets belong to none.
     pub unknown: u64,
 }
 
@@ -93,7 +93,7 @@ impl fmt::Display for Unkept {
     }
 }
 
-/// The same as a JSON object, in a line.
+/// What the table of associations didn't keep, as a JSON object in a line.
 #[derive(Clone, Copy)]
 pub struct UnkeptJson(pub Unkept);
 

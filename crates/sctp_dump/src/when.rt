@@ -70,7 +70,7 @@ impl Clock {
         }
     }
 
-    /// Sees a packet at this time, in nanoseconds, and returns from when on its time is printed.
+    /// Notes a packet at this time, in nanoseconds, and returns from when on its time is printed.
     pub fn see(&mut self, nanoseconds: Option<u64>, is_printed: bool) -> Option<u64> {
         let since = self.since.or(nanoseconds);
         match self.form {

@@ -13,8 +13,8 @@ use std::alloc::Global;
 /// An input of more bytes is too long.
 pub const MOST_BYTES: usize = 200_000;
 
-/// The text of the packet that the input says in hexadecimal, or why it says none. Padding is
-/// looked at where it is strict.
+/// Returns the text of the packet that the input says in hexadecimal, or why it says none. Looks at
+/// padding if `strict` is true.
 pub fn answer_to(alloc: Global, strict: bool, input: Vec<u8>) -> Result<String, Failure>
     ensures { MayShow strict input.items (reply_of result) }
 {
@@ -30,7 +30,7 @@ pub fn answer_to(alloc: Global, strict: bool, input: Vec<u8>) -> Result<String, 
     Ok(text_of(alloc, &packet)?)
 }
 
-/// The bytes that a text says in digits of either case, with blanks anywhere.
+/// Reads the bytes that a text says in digits of either case, with blanks anywhere.
 fn bytes_of(alloc: Global, mut text: Vec<u8>) -> Result<Vec<u8>, Failure>
     ensures { MatchResult result (λ bytes. decode_of (without_blanks text.items) ≡ Ok bytes.items)
         (λ e. (e ≡ Failure.OutOfMemory)
@@ -44,7 +44,7 @@ fn bytes_of(alloc: Global, mut text: Vec<u8>) -> Result<Vec<u8>, Failure>
     }
 }
 
-/// A space, a tab, a carriage return or a line feed.
+/// Returns whether a byte is a space, a tab, a carriage return or a line feed.
 fn is_blank(byte: u8) -> bool
     ensures { result ≡ is_blank byte }
 {

@@ -27,8 +27,8 @@ pub fn show<R: Read, W: Write>(alloc: Global, input: &mut Watched<R>, output: &m
     run(alloc, false, input, output)
 }
 
-/// The same under a strict policy: padding that isn't zero, or that the last chunk lacks, is a
-/// fault.
+/// Reads the input, writes its answer, and returns the status, as `show` does, but under a strict
+/// policy: padding that isn't zero, or that the last chunk lacks, is a fault.
 pub fn show_strict<R: Read, W: Write>(
     alloc: Global,
     input: &mut Watched<R>,
@@ -40,7 +40,8 @@ pub fn show_strict<R: Read, W: Write>(
     run(alloc, true, input, output)
 }
 
-/// Both, as the policy says.
+/// Reads the input, writes its answer, and returns the status, under a strict policy if `strict` is
+/// true.
 fn run<R: Read, W: Write>(
     alloc: Global,
     strict: bool,
@@ -54,7 +55,7 @@ fn run<R: Read, W: Write>(
     tell(output, &reply)
 }
 
-/// What the input is answered with, or why it is not.
+/// Returns the answer to the input, or why there is none.
 fn reply_to<R: Read>(alloc: Global, strict: bool, input: &mut Watched<R>) -> Result<String, Failure>
     ensures at_most { TakesAtMost 200001 (R.remaining (device_of input.old))
         (R.remaining (device_of input.new)) }
@@ -66,7 +67,7 @@ fn reply_to<R: Read>(alloc: Global, strict: bool, input: &mut Watched<R>) -> Res
     answer_to(alloc, strict, bytes)
 }
 
-/// The input up to its end, or its first bytes.
+/// Reads the input up to its end, or its first bytes.
 fn read_input<R: Read>(alloc: Global, input: &mut Watched<R>) -> Result<Vec<u8>, Failure>
     ensures read { IfOk result (λ bytes. Consumes (R.remaining (device_of input.old))
         (R.remaining (device_of input.new)) bytes.items) }

@@ -58,7 +58,7 @@ impl From<PacketParseError> for Failure {
     }
 }
 
-/// The line of a packet that is not read.
+/// Returns the line of a packet that is not read.
 fn packet_line(error: &PacketParseError) -> &'static str
     ensures { result.now ≡ packet_error_line error.now }
 {
@@ -70,7 +70,7 @@ fn packet_line(error: &PacketParseError) -> &'static str
     }
 }
 
-/// The line of a chunk that is not read.
+/// Returns the line of a chunk that is not read.
 fn chunk_line(error: &ChunkParseError) -> &'static str
     ensures { result.now ≡ chunk_error_line error.now }
 {

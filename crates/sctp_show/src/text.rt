@@ -6,7 +6,7 @@ ghost use Rattle.sctp_show.specs.Show.{PacketText, CanonicalLine};
 use dcsctp_wire::packet::sctp_packet::SctpPacket;
 use std::alloc::{AllocError, Global};
 
-/// A packet's header line, a line for each chunk, and its canonical line.
+/// Returns a packet's text: its header line, a line for each chunk, and its canonical line.
 pub fn text_of(alloc: Global, packet: &SctpPacket) -> Result<String, AllocError>
     ensures { IfOk result (λ text. PacketText (packet_view packet.now) (string_bytes text)) }
 {
@@ -16,7 +16,7 @@ pub fn text_of(alloc: Global, packet: &SctpPacket) -> Result<String, AllocError>
     Ok(text)
 }
 
-/// The canonical packet in hexadecimal, or that it does not fit.
+/// Writes the canonical packet in hexadecimal, or that it does not fit.
 fn write_canonical(alloc: Global, text: &mut String, packet: &SctpPacket) -> Result<(), AllocError>
     ensures { OnOk result ((line : List ℕ) × CanonicalLine (meaning_view packet.now) line
         × (string_bytes text.new ≡ string_bytes text.old ++ line)) }

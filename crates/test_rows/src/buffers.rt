@@ -25,7 +25,7 @@ use dcsctp_wire::packet::{SkippedStream, state_cookie_parameter, supported_exten
 use dcsctp_wire::types::{Ssn, StreamKey, Tsn};
 use std::alloc::{AllocError, Global};
 
-/// Whether all bytes are as they were.
+/// Returns whether all bytes are as they were.
 fn are_untouched(bytes: &[u8]) -> bool {
     bytes.iter().all(|byte| *byte == 0xee)
 }
@@ -66,7 +66,7 @@ fn add_sack(
     Ok(add(buffer, size, &borrowed).is_ok())
 }
 
-/// A heartbeat with the first of these parameters.
+/// Adds a heartbeat with the first of these parameters.
 fn add_heartbeat(
     buffer: &mut [u8],
     size: &mut usize,
@@ -82,7 +82,7 @@ fn add_heartbeat(
     }
 }
 
-/// INIT or INIT ACK without parameters, and after it those that are cookies or chunk types.
+/// Adds INIT or INIT ACK without parameters, and after it those that are cookies or chunk types.
 fn add_init(
     buffer: &mut [u8],
     size: &mut usize,
@@ -121,7 +121,7 @@ fn add_idata(buffer: &mut [u8], size: &mut usize, chunk: &IDataChunk) -> bool {
     add(buffer, size, &borrowed).is_ok()
 }
 
-/// FORWARD-TSN, or I-FORWARD-TSN.
+/// Adds FORWARD-TSN, or I-FORWARD-TSN.
 fn add_forward_tsn(
     buffer: &mut [u8],
     size: &mut usize,
@@ -137,7 +137,7 @@ fn add_forward_tsn(
     add(buffer, size, &borrowed).is_ok()
 }
 
-/// The same of the reason that it begins with.
+/// Adds the reason that the ABORT begins with.
 fn add_abort(buffer: &mut [u8], size: &mut usize, chunk: &AbortChunk) -> bool {
     match chunk.error_causes.first() {
         Some(ErrorCause::UserInitiatedAbort(cause)) => {
@@ -239,7 +239,7 @@ fn add_chunk(
     }
 }
 
-/// The packet in the first bytes, sealed; and whether the bytes after it changed.
+/// Writes the packet in the first bytes, sealed; and whether the bytes after it changed.
 fn write_sealed(
     alloc: Global,
     buffer: &mut [u8],
@@ -255,8 +255,8 @@ fn write_sealed(
     Ok(())
 }
 
-/// Whether a packet begins, whether each chunk is added, and whether it is sealed; and the packet.
-/// The numbers are the buffer's size, of four bytes, both ports and the tag.
+/// Writes whether a packet begins, whether each chunk is added, and whether it is sealed; and the
+/// packet. The numbers are the buffer's size, of four bytes, both ports and the tag.
 fn write_packet(
     alloc: Global,
     numbers: &[u8],
@@ -283,8 +283,8 @@ fn write_packet(
     write_sealed(alloc, &mut buffer, size, out)
 }
 
-/// A packet's numbers, and after each slash a chunk; and the same of chunks that own what they
-/// hold, where that is another packet.
+/// Writes the packet of a row: its numbers, and after each slash a chunk. Writes the packet of
+/// chunks that own what they hold too, if it is another.
 pub fn write_filled(alloc: Global, words: &str, out: &mut String) -> Result<(), AllocError> {
     let (numbers, _) = words.split_once(" / ").unwrap_or((words, ""));
     let mut bytes = Vec::new(alloc);
@@ -302,8 +302,8 @@ pub fn write_filled(alloc: Global, words: &str, out: &mut String) -> Result<(), 
 
 // ---- at its edges
 
-/// Whether a COOKIE ACK is added in a buffer of this size after as many bytes, and whether these
-/// are sealed. The numbers have four and eight bytes.
+/// Writes whether a COOKIE ACK is added in a buffer of this size after this number of bytes, and
+/// whether these are sealed. The numbers have four and eight bytes.
 fn write_at(alloc: Global, numbers: &[u8], out: &mut String) -> Result<(), AllocError> {
     let mut buffer = vec![in alloc; 0xee; word_at(numbers, 0) as usize]?;
     let start = ((word_at(numbers, 4) as usize) << 32) | (word_at(numbers, 8) as usize);
@@ -320,7 +320,7 @@ fn write_at(alloc: Global, numbers: &[u8], out: &mut String) -> Result<(), Alloc
     Ok(())
 }
 
-/// How many bytes a packet of DATA with this payload has, in a buffer that has room for all.
+/// Writes how many bytes a packet of DATA with this payload has, in a buffer that has room for all.
 fn write_data(alloc: Global, payload: &[u8], out: &mut String) -> Result<(), AllocError> {
     let mut buffer = vec![in alloc; 0xee; 65600]?;
     let mut size = 0;

@@ -32,13 +32,14 @@ fn add_bytes(
     }
 }
 
-/// Whether a builder holds nothing, and its room.
+/// Writes whether a builder holds nothing, and its room.
 fn write_room(builder: &SctpPacketBuilder, out: &mut String) -> Result<(), AllocError> {
     let (is_empty, room) = (builder.is_empty(), builder.bytes_remaining());
     write!(out, "{is_empty} {room}")
 }
 
-/// Whether a chunk was added; it may be refused for memory, and then the next one is tried.
+/// Returns in a word whether a chunk was added; it may be refused for memory, and then the next one
+/// is tried.
 fn word_of(answer: Result<bool, AllocError>) -> &'static str {
     match answer {
         Ok(true) => "true",
@@ -69,7 +70,7 @@ fn write_added(
     write!(out, ", {text}{mark} {room}")
 }
 
-/// What a builder holds, and what it builds with this word.
+/// Writes what a builder holds, and what it builds with this word.
 fn write_both_ends(
     alloc: Global,
     builder: &mut SctpPacketBuilder,
@@ -83,7 +84,7 @@ fn write_both_ends(
     write_digits(alloc, &bytes, out)
 }
 
-/// The room of a builder, each chunk that is added, and what is built.
+/// Writes the room of a builder, each chunk that is added, and what is built.
 fn write_filled(
     alloc: Global,
     builder: &mut SctpPacketBuilder,
@@ -98,8 +99,8 @@ fn write_filled(
     write_both_ends(alloc, builder, word, out)
 }
 
-/// What a builder builds of chunks; and again, once it built a packet, by the other call. The
-/// numbers are both ports, the tag, the limit, the switch, and the word.
+/// Writes what a builder builds of chunks; and again, once it built a packet, by the other call.
+/// The numbers are both ports, the tag, the limit, the switch, and the word.
 fn write_twice(
     alloc: Global,
     numbers: &[u8],
@@ -121,7 +122,7 @@ fn write_twice(
     Ok(())
 }
 
-/// A builder's numbers, and after each slash a chunk.
+/// Writes what a row builds: a builder's numbers, and after each slash a chunk.
 pub fn write_built(alloc: Global, words: &str, out: &mut String) -> Result<(), AllocError> {
     let (numbers, _) = words.split_once(" / ").unwrap_or((words, ""));
     let mut bytes = Vec::new(alloc);
@@ -132,7 +133,7 @@ pub fn write_built(alloc: Global, words: &str, out: &mut String) -> Result<(), A
     }
 }
 
-/// The packet that is built of the chunk alone; nothing where it can't be.
+/// Returns the packet that is built of the chunk alone; nothing if it can't be.
 pub fn built_of(alloc: Global, chunk: &[u8]) -> Result<Vec<u8>, AllocError> {
     let mut builder = SctpPacketBuilder::new(alloc, 0x01020304, 5000, 5000, 65535);
     add_bytes(alloc, &mut builder, chunk, true)?;

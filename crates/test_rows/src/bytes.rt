@@ -3,7 +3,7 @@
 use hex::FromHexError;
 use std::alloc::{AllocError, Global};
 
-/// The bytes of these digits, two a byte; none where they aren't written so.
+/// Returns the bytes of these digits, two a byte; none if they aren't written so.
 fn decoded(alloc: Global, digits: &str) -> Result<Vec<u8>, AllocError> {
     match hex::decode(alloc, digits) {
         Ok(bytes) => Ok(bytes),
@@ -39,17 +39,17 @@ pub fn add_words(alloc: Global, words: &str, bytes: &mut Vec<u8>) -> Result<bool
     Ok(is_row)
 }
 
-/// The bytes from this place on.
+/// Returns the bytes from this place on.
 pub fn from(bytes: &[u8], place: usize) -> &[u8] {
     bytes.get(place..).unwrap_or(&[])
 }
 
-/// The first byte; 0 where there is none.
+/// Returns the first byte; 0 if there is none.
 pub fn first(bytes: &[u8]) -> u8 {
     *bytes.first().unwrap_or(&0)
 }
 
-/// The number of two bytes at this place; 0 where they aren't there.
+/// Returns the number of two bytes at this place; 0 if they aren't there.
 pub fn short_at(bytes: &[u8], place: usize) -> u16 {
     match from(bytes, place) {
         [a, b, ..] => u16::from_be_bytes([*a, *b]),
@@ -57,7 +57,7 @@ pub fn short_at(bytes: &[u8], place: usize) -> u16 {
     }
 }
 
-/// The number of four bytes at this place.
+/// Returns the number of four bytes at this place.
 pub fn word_at(bytes: &[u8], place: usize) -> u32 {
     match from(bytes, place) {
         [a, b, c, d, ..] => u32::from_be_bytes([*a, *b, *c, *d]),

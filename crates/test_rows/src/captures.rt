@@ -13,7 +13,7 @@ fn write_debug<T: Debug>(value: &T, out: &mut String) -> Result<(), AllocError> 
     write!(out, "{value:?}")
 }
 
-/// The header of a file: 24 bytes.
+/// Writes the header of a file: 24 bytes.
 fn write_file_header(bytes: &[u8], out: &mut String) -> Result<(), AllocError> {
     if bytes.len() < 24 {
         return out.push_str("no header");
@@ -21,7 +21,7 @@ fn write_file_header(bytes: &[u8], out: &mut String) -> Result<(), AllocError> {
     write_debug(&read_file_header(bytes), out)
 }
 
-/// The header of a record, 16 bytes, in both orders.
+/// Writes the header of a record, 16 bytes, in both orders.
 fn write_record_header(bytes: &[u8], out: &mut String) -> Result<(), AllocError> {
     if bytes.len() < 16 {
         return out.push_str("no header");
@@ -31,8 +31,8 @@ fn write_record_header(bytes: &[u8], out: &mut String) -> Result<(), AllocError>
     write_debug(&read_record_header(ByteOrder::LittleEndian, bytes), out)
 }
 
-/// What is found in a frame, in UDP if it is on this port: a link's type of two bytes, how long the
-/// frame was, and the frame.
+/// Writes what is found in a frame, in UDP if it is on this port. The bytes are a link's type, of
+/// two bytes, how long the frame was, and the frame.
 fn write_found(udp_port: u16, bytes: &[u8], out: &mut String) -> Result<(), AllocError> {
     match packet_in(
         udp_port,
@@ -72,7 +72,8 @@ pub fn write_answer(
 
 // ---- lines
 
-/// The bytes of a text, in which `\t`, `\r` and `\1` are a tab, a carriage return and a byte of 1.
+/// Returns the bytes of a text, in which `\t`, `\r` and `\1` are a tab, a carriage return and a
+/// byte of 1.
 fn unescaped(alloc: Global, text: &str) -> Result<Vec<u8>, AllocError> {
     let mut bytes = Vec::new(alloc);
     let mut is_escaped = false;
@@ -96,7 +97,8 @@ fn write_bytes(alloc: Global, bytes: HexBytes, out: &mut String) -> Result<(), A
     write_digits(alloc, &items, out)
 }
 
-/// What a line of a log says: the direction, the time, the packet, and the name of its transport.
+/// Writes what a line of a log says: the direction, the time, the packet, and the name of its
+/// transport.
 fn write_logged(alloc: Global, logged: LoggedPacket, out: &mut String) -> Result<(), AllocError> {
     let time = str::from_utf8(logged.time.as_bytes()).unwrap_or("?");
     let transport = str::from_utf8(logged.transport.as_bytes()).unwrap_or("?");
@@ -109,7 +111,7 @@ fn write_logged(alloc: Global, logged: LoggedPacket, out: &mut String) -> Result
     write!(out, " {transport}")
 }
 
-/// The date and time before a line of a log.
+/// Writes the date and time before a line of a log.
 pub fn write_stamp(text: &str, out: &mut String) -> Result<(), AllocError> {
     let Some(stamp) = read_stamp(text.as_bytes()) else {
         return out.push_str("none");
@@ -120,7 +122,7 @@ pub fn write_stamp(text: &str, out: &mut String) -> Result<(), AllocError> {
     write!(out, "{month}-{day} {hour}:{minute}:{second} {microseconds}")
 }
 
-/// What a line says.
+/// Writes what a line says.
 pub fn write_line(alloc: Global, text: &str, out: &mut String) -> Result<(), AllocError> {
     let line = unescaped(alloc, text)?;
     match read_line(&line) {
@@ -138,7 +140,7 @@ pub fn write_line(alloc: Global, text: &str, out: &mut String) -> Result<(), All
     }
 }
 
-/// How many bytes a line of the digits of these bytes says, and whether they are others.
+/// Writes how many bytes a line of the digits of these bytes says, and whether they are others.
 fn write_size(alloc: Global, bytes: &[u8], out: &mut String) -> Result<(), AllocError> {
     let digits = hex::encode(alloc, bytes)?;
     let Line::Packet(packet) = read_line(digits.as_bytes()) else {

@@ -3,7 +3,7 @@
 use dcsctp_crc32c::{crc32c, packet_word, update};
 use std::alloc::AllocError;
 
-/// The CRC32c of the bytes; and that of the others in two pieces, wherever it is another.
+/// Writes the CRC32c of the bytes; and that of the others in two pieces, if it is another.
 fn write_crc((bytes, other): (&[u8], &[u8]), out: &mut String) -> Result<(), AllocError> {
     let whole = crc32c(bytes);
     write!(out, "{whole:08x}")?;
@@ -17,7 +17,7 @@ fn write_crc((bytes, other): (&[u8], &[u8]), out: &mut String) -> Result<(), All
     Ok(())
 }
 
-/// The number that the checksum field of the packet has to be.
+/// Writes the number that the checksum field of the packet has to be.
 fn write_word(bytes: &[u8], out: &mut String) -> Result<(), AllocError> {
     let word = packet_word(bytes);
     write!(out, "{word:08x}")

@@ -24,7 +24,7 @@ fn write_parts(
     write_digits(alloc, rest, out)
 }
 
-/// Writes the same of the chunk at the front, or its fault.
+/// Writes the parts of the chunk at the front, or its fault.
 fn write_chunk_frame(alloc: Global, bytes: &[u8], out: &mut String) -> Result<(), AllocError> {
     match RawChunk::from_bytes_padded(bytes) {
         Ok((raw, padding, rest)) => {
@@ -35,7 +35,7 @@ fn write_chunk_frame(alloc: Global, bytes: &[u8], out: &mut String) -> Result<()
     }
 }
 
-/// Writes the same of the parameter at the front.
+/// Writes the parts of the parameter at the front, or its fault.
 fn write_parameter_frame(alloc: Global, bytes: &[u8], out: &mut String) -> Result<(), AllocError> {
     match RawParameter::from_bytes_padded(bytes) {
         Ok((raw, padding, rest)) => { write_parts(alloc, raw.typ, raw.value, padding, rest, out) }
@@ -43,7 +43,7 @@ fn write_parameter_frame(alloc: Global, bytes: &[u8], out: &mut String) -> Resul
     }
 }
 
-/// Whether the reader of chunks that leaves the padding out finds the same.
+/// Returns whether the reader of chunks that leaves the padding out finds the same.
 fn is_same_unpadded(bytes: &[u8], other: &[u8]) -> bool {
     match (
         RawChunk::from_bytes(other),
@@ -78,7 +78,7 @@ fn write_frame(
     Ok(())
 }
 
-/// The order of `a` and `b`, and how far they are apart.
+/// Writes the order of `a` and `b`, and how far they are apart.
 fn write_order<S: SerialNumber>(
     a: S,
     b: S,
@@ -95,7 +95,7 @@ fn write_order<S: SerialNumber>(
     write!(out, "{order}, {at_most} {at_least}, {distance}")
 }
 
-/// A number, and the multiples of 4 next to it, upwards and downwards.
+/// Writes a number, and the multiples of 4 next to it, upwards and downwards.
 fn write_multiples(n: u16, out: &mut String) -> Result<(), AllocError> {
     let n = usize::from(n);
     let (up, down) = (round_up_to_4(n), round_down_to_4(n));
@@ -103,7 +103,7 @@ fn write_multiples(n: u16, out: &mut String) -> Result<(), AllocError> {
     write!(out, "{up} {down} {is_one}")
 }
 
-/// The order of two TSNs; and so of the other serial numbers.
+/// Writes the order of two TSNs; and so of the other serial numbers.
 fn write_tsns(a: Tsn, b: Tsn, out: &mut String) -> Result<(), AllocError> {
     write_order(a, b, a.distance_to(b), out)
 }

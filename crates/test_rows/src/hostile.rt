@@ -22,7 +22,7 @@ const ANY: ChecksumPolicy = ChecksumPolicy::ANY_CHECKSUM;
 /// What must not be.
 const OTHER: Outcome = ("Other", 0);
 
-/// The outcome of a fault.
+/// Returns the outcome of a fault.
 fn fault_of(error: &PacketParseError) -> Outcome {
     match error {
         PacketParseError::InvalidPacketSize => ("Size", 0),
@@ -32,7 +32,7 @@ fn fault_of(error: &PacketParseError) -> Outcome {
     }
 }
 
-/// Whether the packet fits, and is written as these bytes.
+/// Returns whether the packet fits, and is written as these bytes.
 fn is_written_so(alloc: Global, packet: &SctpPacket, bytes: &[u8]) -> bool {
     if !packet.fits() {
         return false;
@@ -43,7 +43,8 @@ fn is_written_so(alloc: Global, packet: &SctpPacket, bytes: &[u8]) -> bool {
     }
 }
 
-/// Whether bytes that were written are read, have `parts` parts, and are written as themselves.
+/// Returns whether bytes that were written are read, have `parts` parts, and are written as
+/// themselves.
 fn reads_back(alloc: Global, bytes: &[u8], parts: usize) -> bool {
     if SctpPacket::check(bytes, 0, &ANY) != Ok(parts) {
         return false;
@@ -54,7 +55,7 @@ fn reads_back(alloc: Global, bytes: &[u8], parts: usize) -> bool {
     }
 }
 
-/// What a packet of `parts` parts is.
+/// Returns what a packet of `parts` parts is.
 fn read_outcome(alloc: Global, packet: &SctpPacket, parts: usize) -> Result<Outcome, AllocError> {
     if !packet.fits() {
         return Ok(("TooLong", parts));
@@ -67,7 +68,7 @@ fn read_outcome(alloc: Global, packet: &SctpPacket, parts: usize) -> Result<Outc
     })
 }
 
-/// The fault of a packet that isn't read, if the check has the same.
+/// Returns the fault of a packet that isn't read, if the check has the same.
 fn refused_outcome(bytes: &[u8], error: &PacketParseError) -> Outcome {
     if is_checked_so(bytes, 0, &ANY, error) {
         fault_of(error)
@@ -76,7 +77,7 @@ fn refused_outcome(bytes: &[u8], error: &PacketParseError) -> Outcome {
     }
 }
 
-/// What the packet is answered with, if the check of the other one agrees.
+/// Returns what the packet is answered with, if the check of the other one agrees.
 fn both_outcomes(alloc: Global, bytes: &[u8], other: &[u8]) -> Result<Outcome, AllocError> {
     match SctpPacket::from_bytes(alloc, bytes, 0, &ANY) {
         Ok(packet) => match SctpPacket::check(other, 0, &ANY) {
@@ -87,7 +88,7 @@ fn both_outcomes(alloc: Global, bytes: &[u8], other: &[u8]) -> Result<Outcome, A
     }
 }
 
-/// What the packet is answered with.
+/// Returns what the packet is answered with.
 fn outcome_of(alloc: Global, bytes: &[u8]) -> Result<Outcome, AllocError> {
     both_outcomes(alloc, bytes, bytes)
 }
@@ -127,7 +128,8 @@ fn write_run(
     write_outcome(outcome, out)
 }
 
-/// The answers to the first bytes of the packet, each with the size from which on it is given.
+/// Writes the answers to the first bytes of the packet, each with the size from which on it is
+/// given.
 fn write_cut_off(alloc: Global, chunks: &[u8], out: &mut String) -> Result<(), AllocError> {
     let bytes = packet_of(alloc, chunks)?;
     let mut last = ("", 0);
@@ -139,7 +141,7 @@ fn write_cut_off(alloc: Global, chunks: &[u8], out: &mut String) -> Result<(), A
     Ok(())
 }
 
-/// The header, and the first bytes of a chunk, whose length counts them.
+/// Returns the outcome of the header, and the first bytes of a chunk, whose length counts them.
 fn shortened(alloc: Global, chunk: &[u8], length: usize) -> Result<Outcome, AllocError> {
     let mut bytes = packet_of(alloc, chunk.get(..length).unwrap_or(&[]))?;
     if let Some(byte) = bytes.get_mut(15) {
@@ -148,7 +150,7 @@ fn shortened(alloc: Global, chunk: &[u8], length: usize) -> Result<Outcome, Allo
     outcome_of(alloc, &bytes)
 }
 
-/// The answers to a chunk of each length, each with the length from which on it is given.
+/// Writes the answers to a chunk of each length, each with the length from which on it is given.
 fn write_shortened(alloc: Global, chunk: &[u8], out: &mut String) -> Result<(), AllocError> {
     let mut last = ("", 0);
     for length in 0..=chunk.len() {
@@ -190,7 +192,7 @@ fn count_byte(
     Ok(())
 }
 
-/// The counts of the packet, each byte of which has each other value.
+/// Writes the counts of the packet, each byte of which has each other value.
 fn write_changed(alloc: Global, chunks: &[u8], out: &mut String) -> Result<(), AllocError> {
     let mut bytes = packet_of(alloc, chunks)?;
     let mut counts = [0; 4];
@@ -204,7 +206,7 @@ fn write_changed(alloc: Global, chunks: &[u8], out: &mut String) -> Result<(), A
     )
 }
 
-/// What a chunk of this type and this length field is answered with, with a value of zeros.
+/// Returns what a chunk of this type and this length field is answered with, with a value of zeros.
 fn outcome_of_length(
     alloc: Global,
     typ: u8,
@@ -217,7 +219,7 @@ fn outcome_of_length(
     outcome_of(alloc, &bytes)
 }
 
-/// The number of types of which such a chunk is refused for its length.
+/// Writes the number of types of which such a chunk is refused for its length.
 fn write_types(
     alloc: Global,
     length: u16,
@@ -234,7 +236,7 @@ fn write_types(
     write!(out, "{refused} of 256")
 }
 
-/// What the front of a chunk is answered with, where an item of this length follows in `size`
+/// Returns what the front of a chunk is answered with, if an item of this length follows in `size`
 /// bytes, all zeros but its header.
 fn outcome_of_item(
     alloc: Global,
@@ -255,7 +257,8 @@ fn outcome_of_item(
     outcome_of(alloc, &bytes)
 }
 
-/// The answers to items of 4 to 20 bytes for each length but 4, as above.
+/// Writes the answers to the chunk's front with items of 4 to 20 bytes after it, for each length
+/// but 4.
 fn write_around(alloc: Global, front: &[u8], out: &mut String) -> Result<(), AllocError> {
     for length in 0..17 {
         if length == 4 {

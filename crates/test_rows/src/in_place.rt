@@ -26,7 +26,7 @@ use std::fmt::Debug;
 // ---- the parts of a chunk, where they lie: `fields` are the last ones of the chunk that is built
 // of it, and `more` is what that one doesn't print
 
-/// The numbers of a SACK and its lists; whether it is valid, and the lists by their places.
+/// Writes the numbers of a SACK and its lists; whether it is valid, and the lists by their places.
 fn write_sack(
     alloc: Global,
     sack: &SackRef,
@@ -45,7 +45,7 @@ fn write_sack(
     write_sack_places(sack, more)
 }
 
-/// The lists of a SACK, by the places in them.
+/// Writes the lists of a SACK, by the places in them.
 fn write_sack_places(sack: &SackRef, out: &mut String) -> Result<(), AllocError> {
     for i in 0..sack.gap_ack_block_count() {
         let block = sack.gap_ack_block(i);
@@ -58,7 +58,8 @@ fn write_sack_places(sack: &SackRef, out: &mut String) -> Result<(), AllocError>
     Ok(())
 }
 
-/// The number of a FORWARD-TSN or an I-FORWARD-TSN and its streams; and these by their places.
+/// Writes the number of a FORWARD-TSN or an I-FORWARD-TSN and its streams; and these by their
+/// places.
 fn write_forward(
     alloc: Global,
     forward: &ForwardTsnRef,
@@ -78,7 +79,7 @@ fn write_forward(
     Ok(())
 }
 
-/// What is built, or the fault, after a mark.
+/// Writes what is built, or the fault, after a mark.
 fn write_built<T: Debug + Drop>(
     mark: &str,
     answer: Result<T, ChunkParseError>,
@@ -90,7 +91,7 @@ fn write_built<T: Debug + Drop>(
     }
 }
 
-/// A parameter has this info if it is a Heartbeat Info, and else none.
+/// Returns whether a parameter has this info: one if it is a Heartbeat Info, else none.
 fn has_info(parameter: &Parameter, info: Option<&[u8]>) -> bool {
     match parameter {
         Parameter::HeartbeatInfo(p) => info == Some(p.info.as_slice()),
@@ -98,7 +99,7 @@ fn has_info(parameter: &Parameter, info: Option<&[u8]>) -> bool {
     }
 }
 
-/// What is built of a parameter, if it has this info.
+/// Writes what is built of a parameter, if it has this info.
 fn write_parameter(
     parameter: Result<Parameter, ChunkParseError>,
     info: Option<&[u8]>,
@@ -111,7 +112,7 @@ fn write_parameter(
     }
 }
 
-/// What is built of the parameters; and the type of each, its bytes, and its heartbeat info.
+/// Writes what is built of the parameters; and the type of each, its bytes, and its heartbeat info.
 fn write_parameters(
     alloc: Global,
     raws: RawParameters,
@@ -130,7 +131,7 @@ fn write_parameters(
     fields.push(']')
 }
 
-/// What is built of the error causes; and the code of each, and its bytes.
+/// Writes what is built of the error causes; and the code of each, and its bytes.
 fn write_causes(
     alloc: Global,
     raws: RawCauses,
@@ -147,7 +148,7 @@ fn write_causes(
     fields.push(']')
 }
 
-/// Each list that a reader finds.
+/// Writes each list that a reader finds.
 fn write_lists(
     alloc: Global,
     raw: &RawChunk,
@@ -163,7 +164,7 @@ fn write_lists(
     Ok(())
 }
 
-/// Each part that a reader finds: a chunk has one, if any.
+/// Writes each part that a reader finds: a chunk has one, if any.
 fn write_part(
     alloc: Global,
     raw: &RawChunk,
@@ -187,7 +188,7 @@ fn write_part(
 
 // ---- beside the chunk that is built
 
-/// Whether user data is the same where it lies and where it was built.
+/// Returns whether user data is the same where it lies and where it was built.
 fn is_data(lent: &UserData, tsn: Tsn, data: &Data, immediate_ack: bool) -> bool {
     let is_numbered = lent.tsn == tsn && lent.ssn == data.ssn && lent.mid == data.mid;
     let is_marked = lent.is_beginning == data.is_beginning && lent.is_end == data.is_end;
@@ -198,7 +199,7 @@ fn is_data(lent: &UserData, tsn: Tsn, data: &Data, immediate_ack: bool) -> bool 
     is_numbered && is_marked && is_of && is_sent
 }
 
-/// Whether a chunk whose fields aren't lent has none, or such user data.
+/// Returns whether a chunk whose fields aren't lent has none, or such user data.
 fn is_plain(lent: Option<UserData>, chunk: &Chunk) -> bool {
     match (lent, chunk) {
         (Some(lent), Chunk::Data(c)) => is_data(&lent, c.tsn, &c.user_data, c.immediate_ack),
@@ -209,7 +210,7 @@ fn is_plain(lent: Option<UserData>, chunk: &Chunk) -> bool {
     }
 }
 
-/// Whether a SACK is as valid in both readings; nothing else is read as a SACK.
+/// Returns whether a SACK is as valid in both readings; nothing else is read as a SACK.
 fn is_as_valid(lent: Option<bool>, chunk: &Chunk) -> bool {
     match chunk {
         Chunk::Sack(sack) => lent == Some(validate_sack(sack)),
@@ -217,7 +218,7 @@ fn is_as_valid(lent: Option<bool>, chunk: &Chunk) -> bool {
     }
 }
 
-/// Whether the chunk has these fields last.
+/// Returns whether the chunk has these fields last.
 fn has_fields(alloc: Global, fields: &str, chunk: &Chunk) -> Result<bool, AllocError> {
     let (end, built) = (
         format!(in alloc; "{fields} }})")?,
@@ -226,7 +227,7 @@ fn has_fields(alloc: Global, fields: &str, chunk: &Chunk) -> Result<bool, AllocE
     Ok(built.ends_with(end.as_str()))
 }
 
-/// Whether the chunk's part is the same where it lies and in the chunk that is built of it.
+/// Returns whether the chunk's part is the same where it lies and in the chunk that is built of it.
 fn has_same_part(alloc: Global, raw: RawChunk, other: RawChunk) -> Result<bool, AllocError> {
     let (mut fields, mut more) = (String::new(alloc), String::new(alloc));
     write_part(alloc, &raw, &mut fields, &mut more)?;
@@ -241,7 +242,7 @@ fn has_same_part(alloc: Global, raw: RawChunk, other: RawChunk) -> Result<bool, 
     }
 }
 
-/// All parts of a chunk that is known to mean one.
+/// Writes all parts of a chunk that is known to mean one.
 fn write_known(known: &CheckedChunk, out: &mut String) -> Result<(), AllocError> {
     let (data, sack, forward) = (
         known.as_user_data(),
@@ -256,7 +257,7 @@ fn write_known(known: &CheckedChunk, out: &mut String) -> Result<(), AllocError>
     )
 }
 
-/// The same of any chunk.
+/// Writes all parts of any chunk.
 fn write_raw(raw: &RawChunk, out: &mut String) -> Result<(), AllocError> {
     let (data, sack) = (UserData::from_raw(raw), SackRef::from_raw(raw));
     let forward = ForwardTsnRef::from_raw(raw);
@@ -270,7 +271,7 @@ fn write_raw(raw: &RawChunk, out: &mut String) -> Result<(), AllocError> {
 
 // ---- whole packets
 
-/// All that the packet holds, once it is built; or its fault.
+/// Writes all that the packet holds, once it is built; or its fault.
 fn write_built_packet(
     alloc: Global,
     bytes: &[u8],
@@ -289,7 +290,7 @@ fn write_built_packet(
     }
 }
 
-/// Each chunk, once it is built.
+/// Writes each chunk, once it is built.
 fn write_lent_chunks(alloc: Global, raws: RawChunks, out: &mut String) -> Result<(), AllocError> {
     for raw in raws {
         write_built(" ", Chunk::try_from(alloc, raw), out)?;
@@ -297,7 +298,7 @@ fn write_lent_chunks(alloc: Global, raws: RawChunks, out: &mut String) -> Result
     Ok(())
 }
 
-/// The same of a packet in its bytes.
+/// Writes each chunk of a packet in its bytes, once it is built.
 fn write_lent_packet(
     alloc: Global,
     bytes: &[u8],
@@ -313,7 +314,7 @@ fn write_lent_packet(
     }
 }
 
-/// Whether a chunk that is known to mean one gives the same as where any chunk is read.
+/// Returns whether a chunk that is known to mean one gives the same as if it is read as any chunk.
 fn is_known_so(alloc: Global, chunk: &CheckedChunk, other: &RawChunk) -> Result<bool, AllocError> {
     let (mut known, mut any) = (String::new(alloc), String::new(alloc));
     write_known(chunk, &mut known)?;
@@ -321,8 +322,8 @@ fn is_known_so(alloc: Global, chunk: &CheckedChunk, other: &RawChunk) -> Result<
     Ok(known.as_str() == any.as_str())
 }
 
-/// Whether each chunk of a packet gives the same where it is known to mean one, and where any is
-/// read; and whether its part is the same where it was built.
+/// Returns whether each chunk of a packet gives the same if it is known to mean one, and if it is
+/// read as any; and whether its part is the same if it was built.
 fn are_alike(alloc: Global, bytes: &[u8], other: &[u8]) -> Result<(bool, bool), AllocError> {
     let any = &ChecksumPolicy::ANY_CHECKSUM;
     let (mut is_known, mut is_built) = (true, true);
@@ -344,7 +345,7 @@ fn are_alike(alloc: Global, bytes: &[u8], other: &[u8]) -> Result<(bool, bool), 
     Ok((is_known, is_built))
 }
 
-/// Whether both readings of the packet hold the same, or have the same fault.
+/// Returns whether both readings of the packet hold the same, or have the same fault.
 fn is_lent_alike(
     alloc: Global,
     bytes: &[u8],

@@ -131,7 +131,7 @@ fn write_chunk_kind(
     }
 }
 
-/// The parameter or error cause at the front, read as of the kind that has this type.
+/// Writes the parameter or error cause at the front, read as of the kind that has this type.
 fn write_item_as(
     alloc: Global,
     is_cause: bool,
@@ -146,7 +146,7 @@ fn write_item_as(
     }
 }
 
-/// The chunk at the front, read as of the kind that has this type.
+/// Writes the chunk at the front, read as of the kind that has this type.
 fn write_chunk_as(
     alloc: Global,
     typ: u8,
@@ -161,7 +161,7 @@ fn write_chunk_as(
 
 // ---- one of any kind
 
-/// All that the parameter or error cause at the front holds, as one of any kind.
+/// Writes all that the parameter or error cause at the front holds, as one of any kind.
 fn write_item(
     alloc: Global,
     is_cause: bool,
@@ -177,8 +177,8 @@ fn write_item(
 
 // ---- both
 
-/// Whether one of any kind is this one of its own: its fields in brackets after the kind's name,
-/// and what it prints; or whether it has the same fault.
+/// Returns whether one of any kind is this one of its own: its fields in brackets after the kind's
+/// name, and what it prints; or whether it has the same fault.
 fn is_of_kind(alloc: Global, text: &str, own: &str) -> Result<bool, AllocError> {
     let Some((fields, printed)) = own.split_once("; ") else {
         return Ok(text == own);
@@ -235,7 +235,7 @@ fn write_chunk_row(
     write_packed(alloc, other, &text, out)
 }
 
-/// The result of this number.
+/// Writes the result of this number.
 fn write_result(number: u32, out: &mut String) -> Result<(), AllocError> {
     match ReconfigurationResponseResult::try_from(number) {
         Ok(result) => write!(out, "{result:?} {}", result as u32),
@@ -243,7 +243,7 @@ fn write_result(number: u32, out: &mut String) -> Result<(), AllocError> {
     }
 }
 
-/// Whether a list is this item alone, and is written so; or has its fault.
+/// Returns whether a list is this item alone, and is written so; or has its fault.
 fn is_listed_so(alloc: Global, text: &str, list: &str) -> Result<bool, AllocError> {
     let Some((fields, printed)) = text.split_once("; ") else {
         return Ok(list.starts_with(text));
@@ -276,7 +276,7 @@ fn write_item_row(
 
 // ---- lists
 
-/// A list as written over as many bytes `ee` as its size says, or nothing where it can't be
+/// Returns a list as written over bytes `ee`, as many as its size says, or nothing if it can't be
 /// written.
 fn list_written<T: SerializableTlv>(alloc: Global, list: &[T]) -> Result<Vec<u8>, AllocError> {
     if !parameters_encodable(list) {
@@ -291,7 +291,7 @@ fn list_written<T: SerializableTlv>(alloc: Global, list: &[T]) -> Result<Vec<u8>
     }
 }
 
-/// All fields of a list's items, and what is written of them where that isn't what was read.
+/// Writes all fields of a list's items, and what is written of them if that isn't what was read.
 fn write_list<T: SerializableTlv + Debug + Drop>(
     alloc: Global,
     bytes: &[u8],
@@ -308,7 +308,7 @@ fn write_list<T: SerializableTlv + Debug + Drop>(
     }
 }
 
-/// What two checks of a list count: one that ignores padding, and a strict one.
+/// Writes what two checks of a list count: one that ignores padding, and a strict one.
 fn write_counts(
     lenient: Result<usize, ChunkParseError>,
     strict: Result<usize, ChunkParseError>,
@@ -334,7 +334,7 @@ fn write_parameters(alloc: Global, bytes: &[u8], out: &mut String) -> Result<(),
     write_counts(lenient, strict, out)
 }
 
-/// The same of a list of error causes.
+/// Writes a list of error causes, and what its checks count.
 fn write_causes(alloc: Global, bytes: &[u8], out: &mut String) -> Result<(), AllocError> {
     write_list(alloc, bytes, error_cause_from_bytes(alloc, bytes), out)?;
     let (lenient, strict) = (
@@ -344,7 +344,7 @@ fn write_causes(alloc: Global, bytes: &[u8], out: &mut String) -> Result<(), All
     write_counts(lenient, strict, out)
 }
 
-/// The same of either.
+/// Writes a list of parameters or of error causes, and what its checks count.
 fn write_items(
     alloc: Global,
     is_cause: bool,

@@ -24,19 +24,19 @@ use dcsctp_wire::types::{Fsn, Mid, Ssn, StreamKey, Tsn};
 use std::alloc::{AllocError, Global};
 use std::fmt::Debug;
 
-/// The chunk's type, its fields, what it prints, and how it is written.
+/// Writes the chunk's type, its fields, what it prints, and how it is written.
 fn write_made(alloc: Global, chunk: &Chunk, out: &mut String) -> Result<(), AllocError> {
     let typ = chunk.chunk_type();
     write!(out, "{typ} ")?;
     write_value(alloc, &[], chunk, out)
 }
 
-/// A chunk without a kind, of this type and these flags.
+/// Returns a chunk without a kind, of this type and these flags.
 fn unknown(typ: u8, flags: u8, value: Vec<u8>) -> Chunk {
     Chunk::Unknown(UnknownChunk { typ, flags, value })
 }
 
-/// What `new` makes of this type; a SHUTDOWN of a TSN; or a chunk without a kind.
+/// Returns what `new` makes of this type; a SHUTDOWN of a TSN; or a chunk without a kind.
 fn new(alloc: Global, typ: u8, tsn: u32) -> Chunk {
     match typ {
         0 | 64 => with(typ, tsn, Data::new(alloc), false),
@@ -54,14 +54,14 @@ fn new(alloc: Global, typ: u8, tsn: u32) -> Chunk {
     }
 }
 
-/// A chunk without a kind: its type, its flags, and its value.
+/// Writes a chunk without a kind: its type, its flags, and its value.
 fn write_unknown_chunk(alloc: Global, bytes: &[u8], out: &mut String) -> Result<(), AllocError> {
     let value = Vec::from_slice(alloc, from(bytes, 2))?;
     let chunk = unknown(first(bytes), first(from(bytes, 1)), value);
     write_made(alloc, &chunk, out)
 }
 
-/// A parameter without a kind: its type, and its value.
+/// Writes a parameter without a kind: its type, and its value.
 fn write_unknown_parameter(
     alloc: Global,
     bytes: &[u8],
@@ -72,7 +72,7 @@ fn write_unknown_parameter(
     write_value(alloc, &[], &parameter, out)
 }
 
-/// User data of a stream, an SSN, a MID, an FSN, a protocol, flags, and a payload.
+/// Returns user data of a stream, an SSN, a MID, an FSN, a protocol, flags, and a payload.
 fn user_data(alloc: Global, fields: &[u8]) -> Result<Data, AllocError> {
     let (stream, flags) = (StreamId(short_at(fields, 0)), first(from(fields, 16)));
     let stream_key = if flags & 4 == 0 {
@@ -92,7 +92,7 @@ fn user_data(alloc: Global, fields: &[u8]) -> Result<Data, AllocError> {
     })
 }
 
-/// DATA, or I-DATA of another type than 0.
+/// Returns DATA, or I-DATA of another type than 0.
 fn with(typ: u8, tsn: u32, user_data: Data, immediate_ack: bool) -> Chunk {
     let tsn = Tsn(tsn);
     if typ == 0 {
@@ -110,7 +110,7 @@ fn with(typ: u8, tsn: u32, user_data: Data, immediate_ack: bool) -> Chunk {
     }
 }
 
-/// DATA or I-DATA of a type, a TSN, and a copy of user data; the flags ask for a SACK too.
+/// Writes DATA or I-DATA of a type, a TSN, and a copy of user data; the flags ask for a SACK too.
 fn write_data(alloc: Global, fields: &[u8], out: &mut String) -> Result<(), AllocError> {
     let data = user_data(alloc, from(fields, 5))?;
     let flags = first(from(fields, 21));
@@ -123,7 +123,7 @@ fn write_data(alloc: Global, fields: &[u8], out: &mut String) -> Result<(), Allo
     write_made(alloc, &chunk, out)
 }
 
-/// A chunk of this type with these bytes: a payload, a cookie, or a value.
+/// Returns a chunk of this type with these bytes: a payload, a cookie, or a value.
 fn holding(alloc: Global, typ: u8, bytes: &[u8]) -> Result<Chunk, AllocError> {
     let bytes = Vec::from_slice(alloc, bytes)?;
     Ok(match typ {
@@ -139,7 +139,7 @@ fn holding(alloc: Global, typ: u8, bytes: &[u8]) -> Result<Chunk, AllocError> {
     })
 }
 
-/// How many bytes it has, or none where it can't be written.
+/// Writes how many bytes the chunk has, or none if it can't be written.
 fn write_size(alloc: Global, bytes: &[u8], out: &mut String) -> Result<(), AllocError> {
     let chunk = holding(alloc, first(bytes), from(bytes, 1))?;
     if !chunk.encodable() {
@@ -149,7 +149,7 @@ fn write_size(alloc: Global, bytes: &[u8], out: &mut String) -> Result<(), Alloc
     write!(out, "{size}")
 }
 
-/// The value, and its clone or that memory ran out for it.
+/// Writes the value, and its clone or that memory ran out for it.
 fn write_clone<T: Debug + Drop>(
     value: &T,
     clone: Result<T, AllocError>,
@@ -161,7 +161,7 @@ fn write_clone<T: Debug + Drop>(
     }
 }
 
-/// The same of the types that the first cause of an ERROR names.
+/// Writes the types that the first cause of an ERROR names, and their clone.
 fn write_cause_cloned(causes: &[ErrorCause], out: &mut String) -> Result<(), AllocError> {
     match causes.first() {
         Some(ErrorCause::MissingMandatoryParameter(cause)) => {
@@ -171,7 +171,7 @@ fn write_cause_cloned(causes: &[ErrorCause], out: &mut String) -> Result<(), All
     }
 }
 
-/// The same of what a chunk has that can be cloned.
+/// Writes what a chunk has that can be cloned, and its clone.
 fn write_cloned(chunk: &Chunk, out: &mut String) -> Result<(), AllocError> {
     match chunk {
         Chunk::Data(c) => write_clone(&c.user_data, c.user_data.clone(), out),
@@ -181,7 +181,7 @@ fn write_cloned(chunk: &Chunk, out: &mut String) -> Result<(), AllocError> {
     }
 }
 
-/// The same of the chunk at the front.
+/// Writes what the chunk at the front has that can be cloned, and its clone.
 fn write_clones(alloc: Global, bytes: &[u8], out: &mut String) -> Result<(), AllocError> {
     match chunk_of(alloc, bytes) {
         Ok(chunk) => write_cloned(&chunk, out),

@@ -15,7 +15,7 @@ use std::alloc::{AllocError, Global};
 /// Both ports 5000, tag 16909060, checksum 0.
 pub const HEADER: [u8; 12] = [0x13, 0x88, 0x13, 0x88, 1, 2, 3, 4, 0, 0, 0, 0];
 
-/// The header, and these chunks.
+/// Returns the header, and these chunks.
 pub fn packet_of(alloc: Global, chunks: &[u8]) -> Result<Vec<u8>, AllocError> {
     let mut bytes = Vec::from_slice(alloc, &HEADER)?;
     bytes.extend_from_slice(chunks)?;
@@ -24,7 +24,7 @@ pub fn packet_of(alloc: Global, chunks: &[u8]) -> Result<Vec<u8>, AllocError> {
 
 // ---- what is read
 
-/// What the chunks print, one after the other.
+/// Writes what the chunks print, one after the other.
 fn write_texts(chunks: &[Chunk], out: &mut String) -> Result<(), AllocError> {
     let mut mark = "";
     for chunk in chunks {
@@ -34,7 +34,7 @@ fn write_texts(chunks: &[Chunk], out: &mut String) -> Result<(), AllocError> {
     Ok(())
 }
 
-/// An arrow and the canonical packet, where that is another; without this header, where it has it.
+/// Writes an arrow and the canonical packet, if that is another; without this header, if it has it.
 fn write_canonical(
     alloc: Global,
     packet: &SctpPacket,
@@ -55,7 +55,7 @@ fn write_canonical(
     }
 }
 
-/// The fault, and its place.
+/// Writes the fault, and its place.
 fn write_fault(found: &FirstFault, out: &mut String) -> Result<(), AllocError> {
     let FirstFault { fault, offset } = found;
     match fault {
@@ -64,7 +64,7 @@ fn write_fault(found: &FirstFault, out: &mut String) -> Result<(), AllocError> {
     }
 }
 
-/// Whether the check refuses the packet for this fault.
+/// Returns whether the check refuses the packet for this fault.
 pub fn is_checked_so(
     bytes: &[u8],
     word: u32,
@@ -77,7 +77,7 @@ pub fn is_checked_so(
     }
 }
 
-/// Whether the reader and the check refuse the packet for this fault.
+/// Returns whether the reader and the check refuse the packet for this fault.
 fn is_refused(
     alloc: Global,
     bytes: &[u8],
@@ -91,7 +91,7 @@ fn is_refused(
     }
 }
 
-/// How many parts the check counts, what the packet prints, and its canonical packet.
+/// Writes how many parts the check counts, what the packet prints, and its canonical packet.
 fn write_packet(
     alloc: Global,
     bytes: &[u8],
@@ -110,7 +110,7 @@ fn write_packet(
     }
 }
 
-/// The same, or the fault that check and reader answer too.
+/// Writes the packet as `write_packet` does, or the fault that check and reader answer too.
 fn write_under(
     alloc: Global,
     bytes: &[u8],
@@ -126,8 +126,8 @@ fn write_under(
     }
 }
 
-/// What the packet is answered with, and after a bar what a strict reader answers, where that is
-/// something else.
+/// Writes what the packet is answered with, and after a bar what a strict reader answers, if that
+/// is something else.
 fn write_both(alloc: Global, bytes: &[u8], out: &mut String) -> Result<(), AllocError> {
     let (mut text, mut strict) = (String::new(alloc), String::new(alloc));
     write_under(alloc, bytes, &ChecksumPolicy::ANY_CHECKSUM, &mut text)?;
@@ -144,7 +144,7 @@ fn write_both(alloc: Global, bytes: &[u8], out: &mut String) -> Result<(), Alloc
     Ok(())
 }
 
-/// The canonical packet, written over bytes `ee`; nothing where it doesn't fit.
+/// Returns the canonical packet, written over bytes `ee`; nothing if it doesn't fit.
 fn canonical_of(alloc: Global, packet: &SctpPacket) -> Result<Vec<u8>, AllocError> {
     if !packet.fits() {
         return Ok(Vec::new(alloc));
@@ -154,7 +154,7 @@ fn canonical_of(alloc: Global, packet: &SctpPacket) -> Result<Vec<u8>, AllocErro
     Ok(output)
 }
 
-/// The same of the packet that the bytes are.
+/// Returns the canonical packet of the packet that the bytes are, written over bytes `ee`.
 fn written_over(alloc: Global, bytes: &[u8]) -> Result<Vec<u8>, AllocError> {
     match SctpPacket::from_bytes(alloc, bytes, 0, &ChecksumPolicy::ANY_CHECKSUM) {
         Ok(packet) => canonical_of(alloc, &packet),
@@ -162,13 +162,13 @@ fn written_over(alloc: Global, bytes: &[u8]) -> Result<Vec<u8>, AllocError> {
     }
 }
 
-/// The rest of an answer after what a packet has, its arrow and its fault.
+/// Returns whether this is the rest of an answer after what a packet has, its arrow and its fault.
 fn is_end(rest: &str) -> bool {
     rest.is_empty() || rest.starts_with(" -> ") || rest.starts_with(" | ")
 }
 
-/// Whether the canonical packet, if there is one, has as many parts, prints the same, is written as
-/// itself, and is answered by a strict reader with the same.
+/// Returns whether the canonical packet, if there is one, has as many parts, prints the same, is
+/// written as itself, and is answered by a strict reader with the same.
 fn is_kept(alloc: Global, bytes: &[u8], text: &str) -> Result<bool, AllocError> {
     let canonical = written_over(alloc, bytes)?;
     let mut same = String::new(alloc);
@@ -191,7 +191,7 @@ fn add_chunk(
     written.resize(written.len().wrapping_add(3) / 4 * 4, 0)
 }
 
-/// Adds the same of all chunks, each of which begins after the one before.
+/// Adds what all chunks print, and how they are written, each of which begins after the one before.
 fn add_chunks(
     alloc: Global,
     chunks: &[u8],
@@ -210,8 +210,8 @@ fn add_chunks(
     Ok(())
 }
 
-/// Whether a packet's answer has this text after the number of parts. A packet that is too large is
-/// refused, whatever its chunks are; and one that doesn't fit isn't written.
+/// Returns whether a packet's answer has this text after the number of parts. A packet that is too
+/// large is refused, whatever its chunks are; and one that doesn't fit isn't written.
 fn has_chunks(answer: &str, text: &str) -> bool {
     match answer.split_once(" | ") {
         Some((_, texts)) if !texts.contains(" -> none") => texts
@@ -222,8 +222,8 @@ fn has_chunks(answer: &str, text: &str) -> bool {
     }
 }
 
-/// Whether the chunks by themselves are answered as their packet is: they print the same and are
-/// written so, or the first that has a fault has this one.
+/// Returns whether the chunks by themselves are answered as their packet is: they print the same
+/// and are written so, or the first that has a fault has this one.
 fn is_one_by_one(alloc: Global, chunks: &[u8], answer: &str) -> Result<bool, AllocError> {
     let (mut text, mut written) = (String::new(alloc), Vec::new(alloc));
     match add_chunks(alloc, chunks, &mut text, &mut written) {
@@ -260,14 +260,14 @@ fn write_packet_row(
 
 // ---- checksum words
 
-/// The header's numbers.
+/// Writes the header's numbers.
 pub fn write_header(header: &CommonHeader, out: &mut String) -> Result<(), AllocError> {
     let (source, destination) = (header.source_port, header.destination_port);
     let (tag, checksum) = (header.verification_tag, header.checksum);
     write!(out, "{source} {destination} {tag} {checksum}")
 }
 
-/// The same of the header at the front.
+/// Writes the numbers of the header at the front.
 fn write_front(bytes: &[u8], out: &mut String) -> Result<(), AllocError> {
     match CommonHeader::from_bytes(bytes) {
         Some(header) => write_header(&header, out),
@@ -275,8 +275,8 @@ fn write_front(bytes: &[u8], out: &mut String) -> Result<(), AllocError> {
     }
 }
 
-/// The header's numbers, the chunks, and the canonical packet; and that the check refuses it, where
-/// it does.
+/// Writes the header's numbers, the chunks, and the canonical packet; and that the check refuses
+/// it, if it does.
 fn write_accepted(
     alloc: Global,
     (bytes, other): (&[u8], &[u8]),
@@ -298,7 +298,7 @@ fn write_accepted(
     }
 }
 
-/// What the packet is read as where this word is expected, or its fault.
+/// Writes what the packet is read as if this word is expected, or its fault.
 fn write_verified(
     alloc: Global,
     (bytes, other): (&[u8], &[u8]),
@@ -315,7 +315,8 @@ fn write_verified(
     }
 }
 
-/// The same of the expected word, a byte that accepts the word 0 too if it is 1, and the packet.
+/// Writes what a packet is read as. The bytes are the expected word, a byte that accepts the word 0
+/// too if it is 1, and the packet.
 fn write_verified_row(
     alloc: Global,
     bytes: &[u8],
@@ -332,7 +333,7 @@ fn write_verified_row(
 
 // ---- a chunk alone in a packet
 
-/// The packet's first chunk, as the row of these bytes shows it.
+/// Writes the packet's first chunk, as the row of these bytes shows it.
 fn write_first(
     alloc: Global,
     bytes: &[u8],
@@ -349,7 +350,7 @@ fn write_first(
     }
 }
 
-/// Whether the chunk is the same once it was built; one with a fault isn't.
+/// Returns whether the chunk is the same once it was built; one with a fault isn't.
 fn is_built_so(alloc: Global, chunk: &[u8], text: &str) -> Result<bool, AllocError> {
     let built = built_of(alloc, chunk)?;
     if built.is_empty() {
@@ -398,8 +399,8 @@ pub fn write_packed(
 
 // ---- sizes
 
-/// How many chunks there are, whether each can be written, the size of the canonical packet, and
-/// whether that is the packet itself.
+/// Writes how many chunks there are, whether each can be written, the size of the canonical packet,
+/// and whether that is the packet itself.
 fn write_packet_sizes(
     alloc: Global,
     packet: &SctpPacket,
@@ -413,7 +414,7 @@ fn write_packet_sizes(
     write!(out, "{count} {is_encodable}, {size} {is_same}")
 }
 
-/// The same of the packet of these chunks.
+/// Writes how many chunks the packet of these chunks has, and its sizes; or its fault.
 fn write_sizes(alloc: Global, chunks: &[u8], out: &mut String) -> Result<(), AllocError> {
     let bytes = packet_of(alloc, chunks)?;
     match SctpPacket::from_bytes(alloc, &bytes, 0, &ChecksumPolicy::ANY_CHECKSUM) {
@@ -441,7 +442,7 @@ const ERRORS: [PacketParseError; 4] = [
     PacketParseError::FailedParseChunk(ChunkParseError::InvalidValue),
 ];
 
-/// Each error's text.
+/// Writes each error's text.
 fn write_errors(out: &mut String) -> Result<(), AllocError> {
     for error in &CHUNK_ERRORS {
         write!(out, "{error:?}: {error}; ")?;
@@ -454,7 +455,7 @@ fn write_errors(out: &mut String) -> Result<(), AllocError> {
 
 // ---- over other bytes
 
-/// What a chunk is as it is written over bytes `ee`, four more than it has.
+/// Writes a chunk as it is written over bytes `ee`, four more than it has.
 fn write_chunk_over(alloc: Global, chunk: &Chunk, out: &mut String) -> Result<(), AllocError> {
     if !chunk.encodable() {
         return out.push_str("none");
@@ -466,7 +467,7 @@ fn write_chunk_over(alloc: Global, chunk: &Chunk, out: &mut String) -> Result<()
     write_digits(alloc, &output, out)
 }
 
-/// The same of the chunk at the front.
+/// Writes the chunk at the front as it is written over bytes `ee`.
 fn write_over(alloc: Global, bytes: &[u8], out: &mut String) -> Result<(), AllocError> {
     match chunk_of(alloc, bytes) {
         Ok(chunk) => write_chunk_over(alloc, &chunk, out),

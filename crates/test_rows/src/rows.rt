@@ -61,8 +61,8 @@ fn write_row(alloc: Global, row: &str, out: &mut String) -> Result<(), AllocErro
     }
 }
 
-/// Writes the same; or where memory ran out, that, after what was written before. A library's error
-/// that says so is an answer, `OutOfMemory`, and not this.
+/// Writes the answer of a row; or if memory ran out, that, after what was written before. A
+/// library's error that says so is an answer, `OutOfMemory`, and not this.
 fn write_answered(alloc: Global, row: &str, out: &mut String) -> Result<(), AllocError> {
     match write_row(alloc, row, out) {
         Ok(()) => Ok(()),
@@ -118,7 +118,7 @@ fn write_line(alloc: Global, line: &str, out: &mut String) -> Result<(), AllocEr
     out.push('\n')
 }
 
-/// The table with the answer of each row.
+/// Returns the table with the answer of each row.
 pub fn answered(alloc: Global, table: &str) -> Result<String, AllocError> {
     let mut out = String::new(alloc);
     for line in table.lines() {

@@ -19,7 +19,7 @@ fn blocks_of(alloc: Global, bytes: &[u8]) -> Result<Vec<GapAckBlock>, AllocError
     Ok(blocks)
 }
 
-/// A SACK of TSN 7 with these blocks, and one duplicate.
+/// Returns a SACK of TSN 7 with these blocks, and one duplicate.
 fn sack_of(alloc: Global, gap_ack_blocks: Vec<GapAckBlock>) -> Result<SackChunk, AllocError> {
     Ok(SackChunk {
         cumulative_tsn_ack: Tsn(7),
@@ -41,8 +41,8 @@ fn write_blocks(
     write_change(alloc, bytes, image.get(16..end).unwrap_or(&[]), out)
 }
 
-/// Whether the blocks are valid in a SACK, whether they are once it is cleaned, and its blocks
-/// then.
+/// Writes whether the blocks are valid in a SACK, whether they are once it is cleaned, and its
+/// blocks then.
 fn write_cleaned(alloc: Global, bytes: &[u8], out: &mut String) -> Result<(), AllocError> {
     let sack = sack_of(alloc, blocks_of(alloc, bytes)?)?;
     let before = validate_sack(&sack);
@@ -52,7 +52,7 @@ fn write_cleaned(alloc: Global, bytes: &[u8], out: &mut String) -> Result<(), Al
     write_blocks(alloc, bytes, &cleaned, out)
 }
 
-/// The blocks that are cleaned by themselves.
+/// Writes the blocks that are cleaned by themselves.
 fn write_alone(alloc: Global, bytes: &[u8], out: &mut String) -> Result<(), AllocError> {
     let mut blocks = blocks_of(alloc, bytes)?;
     clean_blocks(&mut blocks);

@@ -6,7 +6,7 @@ use dcsctp_wire::packet::{ChunkParseError, SerializableTlv};
 use std::alloc::{AllocError, Global};
 use std::fmt::{Debug, Display};
 
-/// The value as it is written over zeros, or nothing where it can't be written.
+/// Returns the value as it is written over zeros, or nothing if it can't be written.
 pub fn image_of<T: SerializableTlv>(alloc: Global, value: &T) -> Result<Vec<u8>, AllocError> {
     if !value.encodable() {
         return Ok(Vec::new(alloc));
@@ -16,7 +16,7 @@ pub fn image_of<T: SerializableTlv>(alloc: Global, value: &T) -> Result<Vec<u8>,
     Ok(output)
 }
 
-/// The frame at the front of the bytes, without its padding.
+/// Returns the frame at the front of the bytes, without its padding.
 fn frame_of(bytes: &[u8]) -> &[u8] {
     match RawChunk::from_bytes(bytes) {
         Ok((raw, _)) => bytes
@@ -26,7 +26,7 @@ fn frame_of(bytes: &[u8]) -> &[u8] {
     }
 }
 
-/// The chunk at the front.
+/// Returns the chunk at the front.
 pub fn chunk_of(alloc: Global, bytes: &[u8]) -> Result<Chunk, ChunkParseError> {
     match RawChunk::from_bytes(bytes) {
         Ok((raw, _)) => Chunk::try_from(alloc, raw),
@@ -56,7 +56,7 @@ pub fn write_value<T: SerializableTlv + Debug + Display>(
     write_image(alloc, bytes, value, out)
 }
 
-/// Writes the same of what a reader answered for the bytes, or its fault.
+/// Writes the value that a reader answered for the bytes, as `write_value` does, or its fault.
 pub fn write_read<T: SerializableTlv + Debug + Display + Drop>(
     alloc: Global,
     bytes: &[u8],

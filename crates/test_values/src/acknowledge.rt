@@ -11,8 +11,8 @@ use dcsctp_wire::packet::sack_chunk::SackChunk;
 use dcsctp_wire::packet::sctp_packet::{ChecksumPolicy, CommonHeader, SctpPacketBuilder};
 use std::alloc::{AllocError, Global};
 
-/// A packet of a SACK and DATA, from the receiver of a packet back to its sender. Nothing if and
-/// only if the two have no room within the limit, or one of them can't be written.
+/// Builds a packet of a SACK and DATA, from the receiver of a packet back to its sender. Returns
+/// `None` if and only if the two have no room within the limit, or one of them can't be written.
 ///
 /// `word` is written into the checksum field. A sender computes it over `as_bytes` of the builder
 /// (`checksum_word`).

@@ -40,7 +40,8 @@ pub fn owned_chunks(
     policy: &ChecksumPolicy,
 ) -> Result<Vec<Chunk>, PacketParseError>
     ensures chunks { (p : PacketTree) → Answer bytes.now word policy.now (Ok p)
-        → MatchResult result (λ cs. chunk_views cs.items ≡ p.meaning.chunks) packet_reading.lack }
+        → MatchResult result (λ cs. chunk_views cs.items ≡ p.meaning.chunks)
+        packet_reading.out_of_memory }
     ensures faulty { (e : PacketFault) → IsErrOf result (packet_error_of e)
         ↔ Answer bytes.now word policy.now (Err e) }
 {

@@ -8,9 +8,9 @@ use dcsctp_wire::packet::chunk::Chunk;
 use dcsctp_wire::packet::sctp_packet::{ChecksumPolicy, PacketParseError, SctpPacket};
 use std::alloc::Global;
 
-/// The canonical packet, in the space that the packet came in, up to a multiple of 4: so nothing
-/// asks whether it fits. Nothing for a packet with an ABORT or an ERROR, in which a longer text may
-/// replace one that isn't UTF-8; the fault if and only if the bytes have one.
+/// Returns the canonical packet, which is as long as the packet, up to a multiple of 4: so nothing
+/// asks whether it fits. Returns `None` for a packet with an ABORT or an ERROR, in which a longer
+/// text may replace one that isn't UTF-8; the fault if and only if the bytes have one.
 pub fn normalized(
     alloc: Global,
     bytes: &[u8],
@@ -35,14 +35,14 @@ pub fn normalized(
     Ok(Some(packet.canonical_bytes(alloc)?))
 }
 
-/// Whether one of the chunks holds error causes.
+/// Returns whether one of the chunks holds error causes.
 fn have_causes(chunks: &[Chunk]) -> bool
     ensures { result ≡ list_any has_causes (chunk_views chunks.now) }
 {
     chunks.iter().any(|chunk| has_causes(chunk))
 }
 
-/// Whether the chunk holds error causes.
+/// Returns whether the chunk holds error causes.
 fn has_causes(chunk: &Chunk) -> bool
     ensures { result ≡ has_causes (chunk_view chunk.now) }
 {

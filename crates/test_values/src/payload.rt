@@ -6,7 +6,7 @@ ghost use Rattle.dcsctp_wire.specs.Caller.{chunk_view, user_data_view, user_data
 use dcsctp_wire::packet::chunk::Chunk;
 use dcsctp_wire::packet::data::Data;
 
-/// The user data of DATA or I-DATA, without a copy; nothing of any other chunk.
+/// Returns the user data of DATA or I-DATA, without a copy; `None` for any other chunk.
 pub fn user_data(chunk: Chunk) -> Option<Data>
     ensures { option_map user_data_view result ≡ user_data_of (chunk_view chunk) }
 {

@@ -6,9 +6,9 @@ ghost use Rattle.dcsctp_wire.specs.Caller.{PacketTree, PacketFault, Answer, IsCa
 use dcsctp_wire::packet::sctp_packet::{ChecksumPolicy, PacketParseError, SctpPacket};
 use std::alloc::Global;
 
-/// The canonical packet, which two packets share if and only if they mean the same: the key of a
-/// replay cache. Nothing where it has more bytes than a packet may have; the fault if and only if
-/// the bytes have one.
+/// Returns the canonical packet, which two packets share if and only if they mean the same: the key
+/// of a replay cache. Returns `None` if it has more bytes than a packet may have; the fault if and
+/// only if the bytes have one.
 pub fn fingerprint(
     alloc: Global,
     bytes: &[u8],

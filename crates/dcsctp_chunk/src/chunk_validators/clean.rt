@@ -46,8 +46,8 @@ pub fn clean_blocks(blocks: &mut Vec<GapAckBlock>)
     blocks.truncate(kept);
 }
 
-/// Does the same in a slice, and returns how many blocks are left: they are its first ones, and
-/// those after them are of no use.
+/// Replaces the blocks in a slice by the runs of the offsets that they cover, by rising start, and
+/// returns how many these are: the first blocks of the slice. Those after them are of no use.
 #[tactic(auto, using(crate::proofs::Runs::valid_iff))]
 pub fn clean_in_place(blocks: &mut [GapAckBlock]) -> usize
     ensures len { result ≤ length blocks.old }

@@ -12,7 +12,7 @@ pub(crate) const FREE: GapAckBlock = GapAckBlock {
     end: 65535,
 };
 
-/// Whether the block starts at least 2 past the end of the last run.
+/// Returns whether the block starts at least 2 past the end of the last run.
 pub(crate) fn follows(runs: &[GapAckBlock], block: GapAckBlock) -> bool
     requires nonempty { block.start ≤ block.end }
     requires apart { IsApart 0 runs.now }
@@ -24,7 +24,8 @@ pub(crate) fn follows(runs: &[GapAckBlock], block: GapAckBlock) -> bool
     }
 }
 
-/// The first of the first `kept` runs that ends next to the block's start or later.
+/// Returns the index of the first of the first `kept` runs that ends next to the block's start or
+/// later.
 pub(crate) fn first_reaching(runs: &[GapAckBlock], kept: usize, block: GapAckBlock) -> usize
     requires room { kept ≤ length runs.now }
     requires apart { IsApart 0 (take kept runs.now) }
@@ -96,8 +97,8 @@ struct Place {
     run: GapAckBlock,
 }
 
-/// The place of the block among the runs, of which the one at `first` is the first that it can
-/// touch.
+/// Finds the place of the block among the runs, of which the one at `first` is the first that it
+/// can touch.
 #[tactic(auto, using(crate::proofs::Apart::placed_apart, crate::proofs::Placed::placed_cover))]
 fn find_place(runs: &[GapAckBlock], first: usize, block: GapAckBlock) -> Place
     requires nonempty { block.start ≤ block.end }
@@ -205,7 +206,7 @@ fn lift_past(runs: &mut [GapAckBlock], gap: Gap, block: GapAckBlock) -> Gap
     left
 }
 
-/// Whether the run starts at least 2 past the block's end.
+/// Returns whether the run starts at least 2 past the block's end.
 fn is_past(run: GapAckBlock, block: GapAckBlock) -> bool
     ensures { IsTrue result ↔ (block.end + 2 ≤ run.start) }
 {
@@ -256,7 +257,7 @@ struct Last {
     run: GapAckBlock,
 }
 
-/// The place of the block among runs none of which starts at least 2 past its end.
+/// Finds the place of the block among runs none of which starts at least 2 past its end.
 #[tactic(auto, using(crate::proofs::Apart::apart_push, crate::proofs::Covers::covers))]
 fn last_place(runs: &[GapAckBlock], block: GapAckBlock) -> Last
     requires nonempty { block.start ≤ block.end }

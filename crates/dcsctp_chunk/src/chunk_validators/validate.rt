@@ -6,8 +6,8 @@ ghost use Rattle.dcsctp_chunk.specs.{Apart.{IsApart}, Cover.{Covers, AreValid}};
 
 use crate::sack_chunk::{GapAckBlock, SackChunk};
 
-/// Whether the blocks are the runs of the offsets that they cover, by rising start, and the first,
-/// if any, starts at 2 or later.
+/// Returns whether the blocks are the runs of the offsets that they cover, by rising start, and the
+/// first, if any, starts at 2 or later.
 ///
 /// Each TSN at a covered offset of 1 to 65,535 is greater than the cumulative TSN.
 #[tactic(auto, using(crate::proofs::Runs::valid_iff))]
@@ -20,8 +20,8 @@ pub fn validate_sack(sack: &SackChunk) -> bool
     are_apart(&sack.gap_ack_blocks)
 }
 
-/// Whether no block ends before its start, and each starts at least 2 past the end of the one
-/// before it, or past 0.
+/// Returns whether no block ends before its start, and each starts at least 2 past the end of the
+/// one before it, or past 0.
 #[inline(never)]
 pub(crate) fn are_apart(blocks: &[GapAckBlock]) -> bool
     ensures apart { IsTrue result ↔ IsApart 2 blocks.now }

@@ -41,8 +41,8 @@ pub struct AddIncomingStreamsRequestParameter {
 impl AddIncomingStreamsRequestParameter {
     /// Reads the parameter; no memory is taken, and the reserved bytes are ignored.
     ///
-    /// `InvalidType` exactly for another type; `InvalidLength` if and only if the value hasn't 8
-    /// bytes.
+    /// `InvalidType` if and only if the type is another; `InvalidLength` if and only if the value
+    /// hasn't 8 bytes.
     pub fn try_from(raw: RawParameter) -> Result<Self, ChunkParseError>
         ensures other { IsErrOf result ChunkParseError.InvalidType ↔
             (raw.entry.typ ≢ PARAMETER_TYPE) }
@@ -57,7 +57,7 @@ impl AddIncomingStreamsRequestParameter {
         Ok(AddIncomingStreamsRequestParameter::build(raw.value))
     }
 
-    /// `InvalidLength` if and only if the value hasn't 8 bytes.
+    /// Checks the value: `InvalidLength` if and only if it hasn't 8 bytes.
     pub(crate) fn check(value: &[u8]) -> Result<(), ChunkParseError>
         ensures { Exactly checking (λ u. u) (Tested (request.read value.now)) result }
     {
@@ -67,7 +67,7 @@ impl AddIncomingStreamsRequestParameter {
         Ok(())
     }
 
-    /// What the value means.
+    /// Builds the parameter that the value means.
     pub(crate) fn build(value: &[u8]) -> Self
         requires { IsOk (request.read value.now) }
         ensures { request.read value.now ≡ Ok (kind.view result) }

@@ -5,7 +5,7 @@ ghost use Rattle.dcsctp_tlv.specs.AddStreamsRequest as kind;
 
 use crate::number::{put_u16, put_u32};
 
-/// The value of a request; its reserved bytes are zeros.
+/// Returns the value of a request; its reserved bytes are zeros.
 pub(crate) fn add_streams_value(request: u32, new_streams: u16) -> [u8; 8]
     ensures { result ≡ kind.value_of (record { request = request; new_streams = new_streams }) }
 {

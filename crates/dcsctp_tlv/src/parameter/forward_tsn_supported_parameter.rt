@@ -29,8 +29,8 @@ pub struct ForwardTsnSupportedParameter;
 impl ForwardTsnSupportedParameter {
     /// Reads the parameter; no memory is taken.
     ///
-    /// `InvalidType` exactly for another type; `InvalidLength` if and only if the value isn't
-    /// empty.
+    /// `InvalidType` if and only if the type is another; `InvalidLength` if and only if the value
+    /// isn't empty.
     pub fn try_from(raw: RawParameter) -> Result<Self, ChunkParseError>
         ensures other { IsErrOf result ChunkParseError.InvalidType ↔
             (raw.entry.typ ≢ PARAMETER_TYPE) }
@@ -45,7 +45,7 @@ impl ForwardTsnSupportedParameter {
         Ok(ForwardTsnSupportedParameter::build(raw.value))
     }
 
-    /// `InvalidLength` if and only if the value isn't empty.
+    /// Checks the value: `InvalidLength` if and only if it isn't empty.
     pub(crate) fn check(value: &[u8]) -> Result<(), ChunkParseError>
         ensures { Exactly checking (λ u. u) (Tested (kind.read value.now)) result }
     {
@@ -55,7 +55,7 @@ impl ForwardTsnSupportedParameter {
         Ok(())
     }
 
-    /// What the value means.
+    /// Builds the parameter that the value means.
     pub(crate) fn build(value: &[u8]) -> Self
         requires { IsOk (kind.read value.now) }
         ensures { kind.read value.now ≡ Ok (kind.view result) }

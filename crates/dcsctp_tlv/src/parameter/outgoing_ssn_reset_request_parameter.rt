@@ -55,8 +55,9 @@ pub struct OutgoingSsnResetRequestParameter {
 impl OutgoingSsnResetRequestParameter {
     /// Reads the parameter, and copies its stream ids.
     ///
-    /// `InvalidType` exactly for another type; `InvalidLength` if and only if the value has fewer
-    /// than 12 bytes or an odd number of them; `OutOfMemory` only where the ids can't be copied.
+    /// `InvalidType` if and only if the type is another; `InvalidLength` if and only if the value
+    /// has fewer than 12 bytes or an odd number of them; `OutOfMemory` only where the ids can't be
+    /// copied.
     pub fn try_from(alloc: Global, raw: RawParameter) -> Result<Self, ChunkParseError>
         ensures other { IsErrOf result ChunkParseError.InvalidType ↔
             (raw.entry.typ ≢ PARAMETER_TYPE) }
@@ -73,7 +74,8 @@ impl OutgoingSsnResetRequestParameter {
         Ok(OutgoingSsnResetRequestParameter::build(alloc, raw.value)?)
     }
 
-    /// `InvalidLength` if and only if the value has fewer than 12 bytes or an odd number of them.
+    /// Checks the value: `InvalidLength` if and only if it has fewer than 12 bytes or an odd number
+    /// of them.
     pub(crate) fn check(value: &[u8]) -> Result<(), ChunkParseError>
         ensures { Exactly checking (λ u. u) (Tested (kind.read value.now)) result }
     {
@@ -86,7 +88,7 @@ impl OutgoingSsnResetRequestParameter {
         Ok(())
     }
 
-    /// What the value means.
+    /// Builds the parameter that the value means.
     pub(crate) fn build(alloc: Global, value: &[u8]) -> Result<Self, AllocError>
         requires { IsOk (kind.read value.now) }
         ensures meant { IfOk result (λ x. kind.read value.now ≡ Ok (kind.view x)) }

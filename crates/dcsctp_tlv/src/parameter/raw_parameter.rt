@@ -21,7 +21,8 @@ pub struct RawParameter<'a> {
 }
 
 impl<'a> RawParameter<'a> {
-    /// The parameter at the front of `bytes`, and the bytes after it and its padding.
+    /// Splits `bytes` into the parameter at their front, and the bytes after it and its padding:
+    /// `(parameter, rest)`.
     ///
     /// Value and rest are parts of the input, and no memory is taken. Padding isn't looked at; the
     /// last parameter of a list may lack some or all of it, and then nothing is left.
@@ -44,7 +45,8 @@ impl<'a> RawParameter<'a> {
         ))
     }
 
-    /// The same, and between them its padding, as far as it is there.
+    /// Splits `bytes` into the parameter at their front, its padding as far as it is there, and the
+    /// bytes after that: `(parameter, padding, rest)`. `InvalidLength` as in `from_bytes`.
     ///
     /// Value, padding and rest are parts of the input, one after the other. A reader that wants
     /// zeros in the padding can look at it.

@@ -52,7 +52,7 @@ impl TryFrom<u32> for ReconfigurationResponseResult {
 
     ghost try_from_gives = { λ n r. Exactly checking (λ x. x) (λ a. result_of n ≡ a) r };
 
-    /// The result of a number; `InvalidValue` exactly above 6.
+    /// Returns the result of a number; `InvalidValue` if and only if the number is above 6.
     fn try_from(value: u32) -> Result<Self, ChunkParseError> {
         if value > MAX_RESULT {
             return Err(ChunkParseError::InvalidValue);
@@ -62,7 +62,7 @@ impl TryFrom<u32> for ReconfigurationResponseResult {
 }
 
 impl ReconfigurationResponseResult {
-    /// The result of a number that has one.
+    /// Returns the result of a number that has one.
     fn of(value: u32) -> Self
         requires { value ≤ 6 }
         ensures { result_of value ≡ Ok result }
@@ -105,8 +105,8 @@ pub struct ReconfigurationResponseParameter {
 impl ReconfigurationResponseParameter {
     /// Reads the parameter; no memory is taken.
     ///
-    /// `InvalidType` exactly for another type; `InvalidLength` if and only if the value hasn't 8 or
-    /// 16 bytes; `InvalidValue` if and only if it has, and its result is above 6.
+    /// `InvalidType` if and only if the type is another; `InvalidLength` if and only if the value
+    /// hasn't 8 or 16 bytes; `InvalidValue` if and only if it has, and its result is above 6.
     pub fn try_from(raw: RawParameter) -> Result<Self, ChunkParseError>
         ensures other { IsErrOf result ChunkParseError.InvalidType ↔
             (raw.entry.typ ≢ PARAMETER_TYPE) }
@@ -121,8 +121,8 @@ impl ReconfigurationResponseParameter {
         Ok(ReconfigurationResponseParameter::build(raw.value))
     }
 
-    /// `InvalidLength` if and only if the value hasn't 8 or 16 bytes; `InvalidValue` if and only if
-    /// it has, and its result is above 6.
+    /// Checks the value: `InvalidLength` if and only if it hasn't 8 or 16 bytes; `InvalidValue` if
+    /// and only if it has, and its result is above 6.
     pub(crate) fn check(value: &[u8]) -> Result<(), ChunkParseError>
         ensures { Exactly checking (λ u. u) (Tested (kind.read value.now)) result }
     {
@@ -135,7 +135,7 @@ impl ReconfigurationResponseParameter {
         Ok(())
     }
 
-    /// What the value means.
+    /// Builds the parameter that the value means.
     pub(crate) fn build(value: &[u8]) -> Self
         requires { IsOk (kind.read value.now) }
         ensures { kind.read value.now ≡ Ok (kind.view result) }

@@ -35,8 +35,8 @@ pub struct SsnTsnResetRequestParameter {
 impl SsnTsnResetRequestParameter {
     /// Reads the parameter; no memory is taken.
     ///
-    /// `InvalidType` exactly for another type; `InvalidLength` if and only if the value hasn't 4
-    /// bytes.
+    /// `InvalidType` if and only if the type is another; `InvalidLength` if and only if the value
+    /// hasn't 4 bytes.
     pub fn try_from(raw: RawParameter) -> Result<Self, ChunkParseError>
         ensures other { IsErrOf result ChunkParseError.InvalidType ↔
             (raw.entry.typ ≢ PARAMETER_TYPE) }
@@ -51,7 +51,7 @@ impl SsnTsnResetRequestParameter {
         Ok(SsnTsnResetRequestParameter::build(raw.value))
     }
 
-    /// `InvalidLength` if and only if the value hasn't 4 bytes.
+    /// Checks the value: `InvalidLength` if and only if it hasn't 4 bytes.
     pub(crate) fn check(value: &[u8]) -> Result<(), ChunkParseError>
         ensures { Exactly checking (λ u. u) (Tested (kind.read value.now)) result }
     {
@@ -61,7 +61,7 @@ impl SsnTsnResetRequestParameter {
         Ok(())
     }
 
-    /// What the value means.
+    /// Builds the parameter that the value means.
     pub(crate) fn build(value: &[u8]) -> Self
         requires { IsOk (kind.read value.now) }
         ensures { kind.read value.now ≡ Ok (kind.view result) }

@@ -38,7 +38,8 @@ pub struct SupportedExtensionsParameter {
 impl SupportedExtensionsParameter {
     /// Reads the parameter, and copies the list.
     ///
-    /// `InvalidType` exactly for another type; `OutOfMemory` only where the list can't be copied.
+    /// `InvalidType` if and only if the type is another; `OutOfMemory` only where the list can't be
+    /// copied.
     pub fn try_from(alloc: Global, raw: RawParameter) -> Result<Self, ChunkParseError>
         ensures other { IsErrOf result ChunkParseError.InvalidType ↔
             (raw.entry.typ ≢ PARAMETER_TYPE) }

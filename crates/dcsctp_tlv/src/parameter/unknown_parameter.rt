@@ -35,7 +35,7 @@ pub struct UnknownParameter {
 
 #[tactic(auto, unfolding(crate::specs::UnknownParameter::read))]
 impl UnknownParameter {
-    /// A parameter or cause of this type that holds these bytes. Does not allocate.
+    /// Builds the parameter or cause of this type that holds these bytes. Does not allocate.
     pub fn new(typ: u16, value: Vec<u8>) -> UnknownParameter
         ensures typ { result.typ ≡ typ }
         ensures value { result.value ≡ value }

@@ -36,8 +36,8 @@ pub struct ZeroChecksumAcceptableParameter {
 impl ZeroChecksumAcceptableParameter {
     /// Reads the parameter; no memory is taken, and every method is accepted.
     ///
-    /// `InvalidType` exactly for another type; `InvalidLength` if and only if the value hasn't 4
-    /// bytes.
+    /// `InvalidType` if and only if the type is another; `InvalidLength` if and only if the value
+    /// hasn't 4 bytes.
     pub fn try_from(raw: RawParameter) -> Result<Self, ChunkParseError>
         ensures other { IsErrOf result ChunkParseError.InvalidType ↔
             (raw.entry.typ ≢ PARAMETER_TYPE) }
@@ -52,7 +52,7 @@ impl ZeroChecksumAcceptableParameter {
         Ok(ZeroChecksumAcceptableParameter::build(raw.value))
     }
 
-    /// `InvalidLength` if and only if the value hasn't 4 bytes.
+    /// Checks the value: `InvalidLength` if and only if it hasn't 4 bytes.
     pub(crate) fn check(value: &[u8]) -> Result<(), ChunkParseError>
         ensures { Exactly checking (λ u. u) (Tested (kind.read value.now)) result }
     {
@@ -62,7 +62,7 @@ impl ZeroChecksumAcceptableParameter {
         Ok(())
     }
 
-    /// What the value means.
+    /// Builds the parameter that the value means.
     pub(crate) fn build(value: &[u8]) -> Self
         requires { IsOk (kind.read value.now) }
         ensures { kind.read value.now ≡ Ok (kind.view result) }

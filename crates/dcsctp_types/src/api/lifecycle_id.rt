@@ -21,7 +21,7 @@ impl Model for LifecycleId {
 }
 
 impl LifecycleId {
-    /// The id of number `n`; none exactly for 0.
+    /// Returns the id of number `n`; `None` if and only if `n` is 0.
     pub fn new(n: u64) -> Option<LifecycleId>
         ensures none { IsNone result ↔ (n ≡ 0) }
         ensures some { IfSome result (λ id. id ≡ n) }
@@ -29,7 +29,7 @@ impl LifecycleId {
         if n == 0 { None } else { Some(LifecycleId(n)) }
     }
 
-    /// The id of number `n`, which isn't 0.
+    /// Returns the id of number `n`, which isn't 0.
     pub fn from(n: u64) -> LifecycleId
         requires { n ≢ 0 }
         ensures { result ≡ n }
@@ -37,7 +37,7 @@ impl LifecycleId {
         LifecycleId(n)
     }
 
-    /// The number, which is never 0.
+    /// Returns the number, which is never 0.
     pub fn value(&self) -> u64
         ensures value { result ≡ self.now }
         ensures never_zero { 0 < result }

@@ -16,7 +16,7 @@ pub struct Message {
 }
 
 impl Message {
-    /// The message of these three parts.
+    /// Builds the message of these three parts.
     pub fn new(stream_id: StreamId, ppid: PpId, payload: Vec<u8>) -> Self
         ensures stream_id { result.stream_id ≡ stream_id }
         ensures ppid { result.ppid ≡ ppid }

@@ -21,14 +21,14 @@ impl Model for SocketTime {
 }
 
 impl SocketTime {
-    /// The start.
+    /// Returns the start.
     pub fn zero() -> SocketTime
         ensures { result ≡ Duration.ZERO }
     {
         SocketTime(Duration::ZERO)
     }
 
-    /// The last point in time, which never comes.
+    /// Returns the last point in time, which never comes.
     pub fn infinite_future() -> SocketTime
         ensures { result ≡ Duration.MAX }
     {

@@ -18,7 +18,7 @@ pub enum StreamKey {
 }
 
 impl StreamKey {
-    /// The ordered or the unordered half of stream `id`.
+    /// Returns the unordered half of stream `id` if `is_unordered` is true, else the ordered half.
     pub fn new(is_unordered: bool, id: StreamId) -> Self
         ensures { result ≡ (if is_unordered then StreamKey.Unordered id else StreamKey.Ordered id) }
     {
@@ -29,7 +29,7 @@ impl StreamKey {
         }
     }
 
-    /// The stream.
+    /// Returns the stream.
     pub fn id(&self) -> StreamId
         ensures { result ≡ stream_of self.now }
     {
@@ -38,14 +38,14 @@ impl StreamKey {
         }
     }
 
-    /// Whether this is the half of the ordered messages.
+    /// Returns whether this is the half of the ordered messages.
     pub fn is_ordered(&self) -> bool
         ensures { result ≡ is_ordered_key self.now }
     {
         matches!(self, StreamKey::Ordered(_))
     }
 
-    /// Whether this is the half of the unordered messages.
+    /// Returns whether this is the half of the unordered messages.
     pub fn is_unordered(&self) -> bool
         ensures { result ≡ not (is_ordered_key self.now) }
     {

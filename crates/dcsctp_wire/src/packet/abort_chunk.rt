@@ -43,7 +43,7 @@ pub struct AbortChunk {
 }
 
 impl AbortChunk {
-    /// The chunk without causes, tag not reflected. Does not allocate.
+    /// Builds the chunk without causes, tag not reflected. Does not allocate.
     pub fn new(alloc: Global) -> AbortChunk
         ensures tag_reflected { result.tag_reflected ≡ false }
         ensures error_causes { result.error_causes.items ≡ [] }
@@ -57,8 +57,8 @@ impl AbortChunk {
 
     /// Reads the chunk and its causes, if it has any; flags but the T bit are ignored.
     ///
-    /// `InvalidType` exactly for another type; else the first fault of the causes from the left;
-    /// `OutOfMemory` only where there is none, and there are causes.
+    /// `InvalidType` if and only if the type is another; else the first fault of the causes from
+    /// the left; `OutOfMemory` only where there is none, and there are causes.
     pub fn try_from(alloc: Global, raw: RawChunk) -> Result<Self, ChunkParseError>
         ensures other { IsErrOf result ChunkParseError.InvalidType ↔ (raw.entry.typ ≢ CHUNK_TYPE) }
         ensures answer { raw.entry.typ ≡ CHUNK_TYPE →

@@ -45,7 +45,7 @@ impl Model for SctpPacketBuilder {
 }
 
 impl SctpPacketBuilder {
-    /// A builder that holds no chunk and writes checksums. It has reserved nothing.
+    /// Returns a builder that holds no chunk and writes checksums. It has reserved nothing.
     ///
     /// `max_packet_size` is the most bytes that a packet may have with its header, and is rounded
     /// down to a multiple of 4.
@@ -170,7 +170,7 @@ impl SctpPacketBuilder {
         Ok(())
     }
 
-    /// How many bytes of chunks can still be added, with the padding of each.
+    /// Returns how many bytes of chunks can still be added, with the padding of each.
     pub fn bytes_remaining(&self) -> usize
         ensures room { result ≡ room self.now }
         ensures held { (chunks : List ChunkTree) → Holds self.now chunks →
@@ -180,14 +180,14 @@ impl SctpPacketBuilder {
             .saturating_sub(self.bytes.len().max(COMMON_HEADER_SIZE))
     }
 
-    /// No chunk was added since `new` or the last `build`.
+    /// Returns whether no chunk was added since `new` or the last `build`.
     pub fn is_empty(&self) -> bool
         ensures { IsTrue result ↔ Holds self.now [] }
     {
         self.bytes.is_empty()
     }
 
-    /// The packet so far, with a checksum field of zero: what a checksum is computed over.
+    /// Returns the packet so far, with a checksum field of zero: what a checksum is computed over.
     pub fn as_bytes(&self) -> &[u8]
         ensures { result.now ≡ self.now.bytes }
     {
@@ -220,7 +220,7 @@ impl SctpPacketBuilder {
         self.hand_out(checksum)
     }
 
-    /// What `build` returns and leaves, without the laws that follow.
+    /// Returns what `build` returns, and leaves what it leaves, without the laws that follow.
     fn hand_out(&mut self, checksum: u32) -> Vec<u8>
         ensures width { IsHeaderInWidth self.old }
         ensures bytes { result.items ≡ built self.old checksum }

@@ -1,7 +1,7 @@
 //! A chunk of any kind.
 
 ghost use Rattle.std.specs.Prelude.{◌≡◌, ◌<◌, ◌+◌, Some, IsOk, IfOk, IsErrOf, vec_len, vec_capacity};
-ghost use Rattle.dcsctp_tlv.specs.{Frame.{lenient}, Level.{HasMeaning, Grows}, Reading.{Exactly, reading, RowAnswer, Unplaced}, Table.{IsUnnamed}};
+ghost use Rattle.dcsctp_tlv.specs.{Frame.{lenient}, Level.{HasMeaning, Appends}, Reading.{Exactly, reading, RowAnswer, Unplaced}, Table.{IsUnnamed}};
 ghost use Rattle.dcsctp_wire.specs.Chunk as chunk;
 ghost use Rattle.dcsctp_wire.specs.Chunk.{parts as chunk_parts, ChunkTree, chunk_row, chunks, plain_rows, TakesNoMemory, IsPlaced, text as chunk_text, view, IsInWidth, IsTight};
 
@@ -103,7 +103,7 @@ macro_rules! with_lists {
     };
 }
 
-/// The type of every kind; an `Unknown` chunk has its own.
+/// Returns the type of a chunk of any kind; an `Unknown` chunk has its own.
 macro_rules! type_arms {
     ([$chunk:expr] $({ $($typ:path, $variant:ident, $kind:path;)* })*) => {
         match $chunk {
@@ -113,7 +113,8 @@ macro_rules! type_arms {
     };
 }
 
-/// The check of every kind with a list; the other types have the arms that follow.
+/// Checks a value as its kind does, for each kind with a list; the other types have the arms that
+/// follow.
 macro_rules! listed_check_arms {
     (
         [$typ:expr, $flags:expr, $value:expr, $strict:expr, $($other:tt)*]
@@ -189,7 +190,8 @@ impl Chunk {
         Chunk::read(alloc, raw.typ, raw.flags, raw.value)
     }
 
-    /// The type field of the chunk: the number of its kind, and of an `Unknown` chunk its own.
+    /// Returns the type field of the chunk: the number of its kind, and of an `Unknown` chunk its
+    /// own.
     pub fn chunk_type(&self) -> u8
         ensures { result ≡ (chunk.tlv (view self.now)).first }
     {
@@ -209,7 +211,7 @@ impl Chunk {
         Ok(Chunk::build(alloc, typ, flags, value)?)
     }
 
-    /// What the value means.
+    /// Builds the chunk that the value means.
     fn build(alloc: Global, typ: u8, flags: u8, value: &[u8]) -> Result<Self, AllocError>
         requires { HasMeaning (chunk_row lenient typ flags) value.now }
         ensures meant { IfOk result (λ c. (chunk_row lenient typ flags).means value.now (view c)) }
@@ -221,7 +223,7 @@ impl Chunk {
         })
     }
 
-    /// Does what `read_onto` does for a kind with a list, and for a type without a kind.
+    /// Appends a chunk with a list, or an unknown one.
     #[tactic(auto, using(crate::proofs::Filled::filled))]
     fn other_onto(
         list: &mut Vec<Self>,
@@ -233,7 +235,7 @@ impl Chunk {
         requires other { IsUnnamed (plain_rows second) first }
         requires meant { HasMeaning (chunk_row lenient first second) value.now }
         requires room { vec_len list.old < vec_capacity list.old }
-        ensures grows { IfOk result (λ _. Grows view IsTight
+        ensures grows { IfOk result (λ _. Appends view IsTight
             (chunk_row lenient first second) value.now list.old.items list.new.items) }
         ensures len { IfOk result (λ _. vec_len list.new ≡ vec_len list.old + 1) }
         ensures capacity { IfOk result (λ _. vec_capacity list.new ≡ vec_capacity list.old) }
@@ -249,8 +251,8 @@ impl Chunk {
     }
 }
 
-/// A law of chunks: every number of a chunk lies in its field's width, and every text is UTF-8, by
-/// their types. A proof-only function: calling it costs nothing.
+/// Proves that every number of a chunk lies in its field's width, and every text is UTF-8, by their
+/// types. Calling it costs nothing.
 pub fn chunk_has_widths(chunk: &Chunk)
     ensures { IsInWidth (view chunk.now) }
 {

@@ -42,7 +42,7 @@ pub struct ErrorChunk {
 }
 
 impl ErrorChunk {
-    /// The chunk without causes. Does not allocate.
+    /// Builds the chunk without causes. Does not allocate.
     pub fn new(alloc: Global) -> ErrorChunk
         ensures error_causes { result.error_causes.items ≡ [] }
         ensures memory { vec_capacity result.error_causes ≡ 0 }
@@ -54,8 +54,8 @@ impl ErrorChunk {
 
     /// Reads the chunk and its causes; flags are ignored.
     ///
-    /// `InvalidType` exactly for another type; `InvalidLength` where there are no causes; else the
-    /// first fault of the causes from the left; `OutOfMemory` only where there is none.
+    /// `InvalidType` if and only if the type is another; `InvalidLength` where there are no causes;
+    /// else the first fault of the causes from the left; `OutOfMemory` only where there is none.
     pub fn try_from(alloc: Global, raw: RawChunk) -> Result<Self, ChunkParseError>
         ensures other { IsErrOf result ChunkParseError.InvalidType ↔ (raw.entry.typ ≢ CHUNK_TYPE) }
         ensures answer { raw.entry.typ ≡ CHUNK_TYPE →

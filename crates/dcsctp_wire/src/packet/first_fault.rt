@@ -6,7 +6,7 @@ ghost use Rattle.dcsctp_wire.specs.{Place.{PacketLocated, packet_locating, refus
 
 use crate::packet::sctp_packet::{ChecksumPolicy, PacketParseError, SctpPacket, check_packet};
 
-/// Why bytes are no packet, and where.
+/// The first fault of an invalid packet, and its offset.
 #[derive(Debug, Drop, PartialEq, Eq)]
 pub struct FirstFault {
     /// What `from_bytes` and `check` return; never that memory ran out.
@@ -30,10 +30,10 @@ impl From<FirstFault> for PacketParseError {
 }
 
 impl SctpPacket {
-    /// The first fault of the bytes, and its offset in bytes from the packet's first byte. It takes
-    /// no memory.
+    /// Returns the first fault of the bytes, and its offset in bytes from the packet's first byte.
+    /// Does not allocate.
     ///
-    /// Nothing if and only if the grammar gives these bytes a packet; else the fault that
+    /// `None` if and only if the grammar gives these bytes a packet; else the fault that
     /// `from_bytes` and `check` return under the same word and policy, and its place, of which
     /// there is one (`laws::one_answer`). `OutOfMemory` is never returned.
     pub fn first_fault(bytes: &[u8], checksum: u32, policy: &ChecksumPolicy) -> Option<FirstFault>

@@ -40,7 +40,7 @@ pub struct HeartbeatAckChunk {
 }
 
 impl HeartbeatAckChunk {
-    /// The chunk without parameters. Does not allocate.
+    /// Builds the chunk without parameters. Does not allocate.
     pub fn new(alloc: Global) -> HeartbeatAckChunk
         ensures parameters { result.parameters.items ≡ [] }
         ensures memory { vec_capacity result.parameters ≡ 0 }
@@ -52,8 +52,8 @@ impl HeartbeatAckChunk {
 
     /// Reads the chunk and its parameters, if it has any; flags are ignored.
     ///
-    /// `InvalidType` exactly for another type; else the first fault of the parameters from the
-    /// left; `OutOfMemory` only where there is none, and there are parameters.
+    /// `InvalidType` if and only if the type is another; else the first fault of the parameters
+    /// from the left; `OutOfMemory` only where there is none, and there are parameters.
     pub fn try_from(alloc: Global, raw: RawChunk) -> Result<Self, ChunkParseError>
         ensures other { IsErrOf result ChunkParseError.InvalidType ↔ (raw.entry.typ ≢ CHUNK_TYPE) }
         ensures answer { raw.entry.typ ≡ CHUNK_TYPE →

@@ -58,9 +58,9 @@ pub struct InitAckChunk {
 impl InitAckChunk {
     /// Reads the chunk and its parameters; flags are ignored.
     ///
-    /// `InvalidType` exactly for another type; `InvalidLength` where the value has fewer than 16
-    /// bytes; else the first fault of the parameters from the left; `OutOfMemory` only where there
-    /// is none, and there are parameters.
+    /// `InvalidType` if and only if the type is another; `InvalidLength` where the value has fewer
+    /// than 16 bytes; else the first fault of the parameters from the left; `OutOfMemory` only
+    /// where there is none, and there are parameters.
     pub fn try_from(alloc: Global, raw: RawChunk) -> Result<Self, ChunkParseError>
         ensures other { IsErrOf result ChunkParseError.InvalidType ↔ (raw.entry.typ ≢ CHUNK_TYPE) }
         ensures answer { raw.entry.typ ≡ CHUNK_TYPE →

@@ -37,7 +37,7 @@ pub struct ReConfigChunk {
 }
 
 impl ReConfigChunk {
-    /// The chunk without parameters. Does not allocate.
+    /// Builds the chunk without parameters. Does not allocate.
     pub fn new(alloc: Global) -> ReConfigChunk
         ensures parameters { result.parameters.items ≡ [] }
         ensures memory { vec_capacity result.parameters ≡ 0 }
@@ -49,8 +49,8 @@ impl ReConfigChunk {
 
     /// Reads the chunk and its parameters, if it has any; flags are ignored.
     ///
-    /// `InvalidType` exactly for another type; else the first fault of the parameters from the
-    /// left; `OutOfMemory` only where there is none, and there are parameters.
+    /// `InvalidType` if and only if the type is another; else the first fault of the parameters
+    /// from the left; `OutOfMemory` only where there is none, and there are parameters.
     pub fn try_from(alloc: Global, raw: RawChunk) -> Result<Self, ChunkParseError>
         ensures other { IsErrOf result ChunkParseError.InvalidType ↔ (raw.entry.typ ≢ CHUNK_TYPE) }
         ensures answer { raw.entry.typ ≡ CHUNK_TYPE →

@@ -56,7 +56,7 @@ pub enum PacketParseError {
     /// The policy doesn't accept its checksum field.
     #[error("Invalid packet checksum")]
     InvalidChecksum,
-    /// Never returned.
+    /// Never returned; kept so that a `match` that was written for dcsctp compiles.
     #[error("Invalid chunk size")]
     InvalidChunkSize,
     /// The first fault of the chunks; or memory ran out.
@@ -111,7 +111,7 @@ impl ChecksumPolicy {
         strict_padding: false,
     };
 
-    /// The policy with the same checksums that also looks at padding.
+    /// Returns the policy with the same checksums that also looks at padding.
     pub fn strict(self) -> ChecksumPolicy
         ensures disable { result.disable_checksum_verification
             ≡ self.disable_checksum_verification }
@@ -131,7 +131,7 @@ impl Default for ChecksumPolicy {
         × (p.zero_checksum_alternate_error_detection_method.0 ≡ 0)
         × (p.strict_padding ≡ false) };
 
-    /// Only the expected checksum is accepted, and any padding.
+    /// Returns the policy that accepts only the expected checksum, and any padding.
     fn default() -> ChecksumPolicy {
         ChecksumPolicy {
             disable_checksum_verification: false,
@@ -141,7 +141,7 @@ impl Default for ChecksumPolicy {
     }
 }
 
-/// The policy accepts the checksum field, where `word` is expected.
+/// Returns whether the policy accepts the checksum field if `word` is expected.
 fn accepts(policy: &ChecksumPolicy, field: u32, word: u32) -> bool
     ensures { IsTrue result ↔ IsAccepted policy.now field word }
 {
@@ -211,11 +211,11 @@ impl SctpPacket {
         read_packet(alloc, bytes, checksum, policy)
     }
 
-    /// The number of parts of a packet: its chunks, and the parameters and error causes in them;
-    /// or its fault. Does not allocate.
+    /// Counts the parts of a packet: its chunks, and the parameters and error causes in them; or
+    /// returns its fault. Does not allocate.
     ///
-    /// The number if and only if the grammar gives these bytes a packet, and the same faults as
-    /// `from_bytes` if and only if this reports them. `OutOfMemory` is never returned.
+    /// Returns the number if and only if the grammar gives these bytes a packet, and the same
+    /// faults as `from_bytes` if and only if this reports them. `OutOfMemory` is never returned.
     pub fn check(
         bytes: &[u8],
         checksum: u32,
@@ -230,7 +230,8 @@ impl SctpPacket {
         Ok(counts.parts)
     }
 
-    /// The canonical packet can be written: each chunk can be, and it has at most 65,532 bytes.
+    /// Returns whether the canonical packet can be written: each chunk can be, and it has at most
+    /// 65,532 bytes.
     pub fn fits(&self) -> bool
         ensures { IsTrue result ↔ Fits (meaning_view self.now) }
     {
@@ -240,12 +241,12 @@ impl SctpPacket {
         }
     }
 
-    /// The canonical packet: the ports and the tag, a checksum of 0, and each chunk with zeros up
-    /// to a multiple of 4. `self.common_header.checksum` has no part in it.
+    /// Returns the canonical packet: the ports and the tag, a checksum of 0, and each chunk with
+    /// zeros up to a multiple of 4. `self.common_header.checksum` has no part in it.
     ///
-    /// Where the packet is well-formed and has a chunk, these bytes read back under each word and
+    /// If the packet is well-formed and has a chunk, these bytes read back under each word and
     /// policy that accept a field of 0, and two such packets have equal bytes if and only if they
-    /// mean the same (`laws::canonical_one`). Refused only where memory runs out.
+    /// mean the same (`laws::canonical_one`). Refused only if memory runs out.
     pub fn canonical_bytes(&self, alloc: Global) -> Result<Vec<u8>, AllocError>
         requires { Fits (meaning_view self.now) }
         ensures bytes { IfOk result (λ bytes. bytes.items ≡ canonical (meaning_view self.now)) }
@@ -262,7 +263,8 @@ impl SctpPacket {
         canonical_of(self, alloc)
     }
 
-    /// The bytes of the canonical packet: 12 of its header, and the chunks with their padding.
+    /// Returns how many bytes the canonical packet has: 12 of its header, and the chunks with their
+    /// padding.
     pub fn canonical_size(&self) -> usize
         requires { Fits (meaning_view self.now) }
         ensures { result ≡ length (canonical (meaning_view self.now)) }
@@ -303,8 +305,8 @@ fn write_lines<W: fmt::Write>(chunks: &[Chunk], f: &mut fmt::Formatter<W>) -> fm
     Ok(())
 }
 
-/// A law of packets: every number of a packet lies in its field's width, and every text is one, by
-/// their types. It does nothing.
+/// Proves that every number of a packet lies in its field's width, and every text is UTF-8, by
+/// their types. Does nothing.
 pub fn has_widths(packet: &SctpPacket)
     ensures { IsInWidth (meaning_view packet.now) }
 {
@@ -371,7 +373,7 @@ fn read_packet(
     })
 }
 
-/// The canonical packet: what it is, and no law of it.
+/// Returns the canonical packet. The contract says what it is, and no law of it.
 fn canonical_of(packet: &SctpPacket, alloc: Global) -> Result<Vec<u8>, AllocError>
     requires { Fits (meaning_view packet.now) }
     ensures bytes { IfOk result (λ bytes. bytes.items ≡ canonical (meaning_view packet.now)) }

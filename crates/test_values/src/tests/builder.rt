@@ -12,8 +12,8 @@ use std::test::Fail;
 /// A COOKIE ECHO of one byte.
 const COOKIE: &[u8] = &[0x0a, 0, 0, 5, 0x7f];
 
-/// Whether a builder of the largest limit refuses its first chunk, and holds nothing then, with as
-/// much room as before.
+/// Returns whether a builder of the largest limit refuses its first chunk, and holds nothing then,
+/// with as much room as before.
 fn refuses_first(alloc: Global) -> Result<bool, ChunkParseError> {
     let chunk = chunk_of(alloc, COOKIE)?;
     let mut builder = SctpPacketBuilder::new(alloc, 7, 1, 2, usize::MAX);
@@ -23,8 +23,8 @@ fn refuses_first(alloc: Global) -> Result<bool, ChunkParseError> {
     Ok(is_refused && is_empty && builder.bytes_remaining() == room)
 }
 
-/// The room after a packet was built and the switch was off, and on again; then a packet that is
-/// built with the switch off.
+/// Returns the room after a packet was built and the switch was off, and on again; then a packet
+/// that is built with the switch off.
 fn switched(alloc: Global) -> Result<(usize, Vec<u8>), ChunkParseError> {
     let chunk = chunk_of(alloc, COOKIE)?;
     let mut builder = SctpPacketBuilder::new(alloc, 7, 1, 2, 40);
@@ -38,7 +38,7 @@ fn switched(alloc: Global) -> Result<(usize, Vec<u8>), ChunkParseError> {
     Ok((room, builder.build(9)))
 }
 
-/// DATA with a MID, which it doesn't carry.
+/// Returns DATA with a MID, which it doesn't carry.
 fn data(alloc: Global) -> Result<Chunk, ChunkParseError> {
     let raw = raw_of(b"\0\x07\0\x10\0\0\0\x01\0\x02\0\x03\0\0\0\x04")?;
     let mut data = DataChunk::try_from(alloc, raw)?;
@@ -46,7 +46,7 @@ fn data(alloc: Global) -> Result<Chunk, ChunkParseError> {
     Ok(Chunk::Data(data))
 }
 
-/// The rooms after a COOKIE ECHO and after that DATA; and the packet.
+/// Returns the rooms after a COOKIE ECHO and after that DATA; and the packet.
 fn with_data(alloc: Global) -> Result<(usize, usize, Vec<u8>), ChunkParseError> {
     let cookie = chunk_of(alloc, COOKIE)?;
     let data = data(alloc)?;

@@ -4,8 +4,8 @@ use dump_io::faulty::{Fault, INTERRUPTED, Plan, Sink, Source, fails, steps};
 use dump_io::watched::Watched;
 use std::io::{Read, Write};
 
-/// What each of three reads gives of three bytes, the second of which fails, and whether the device
-/// has failed by then.
+/// Returns what each of three reads gives of three bytes, the second of which fails, and whether
+/// the device has failed by then.
 fn watched_reads() -> [(Option<usize>, bool); 3] {
     let mut input = Watched::new(Source::new(b"abc", fails(1, 2, INTERRUPTED)));
     let mut room = [0; 4];
@@ -21,9 +21,9 @@ fn watched_reads() -> [(Option<usize>, bool); 3] {
     ]
 }
 
-/// What each of four writes takes, the third of which takes nothing, whether the device has failed
-/// by then; whether a flush succeeds after them, and it has failed still; and how many bytes were
-/// taken, and whether these are the other writes'.
+/// Returns what each of four writes takes, the third of which takes nothing, whether the device has
+/// failed by then; whether a flush succeeds after them, and it has failed still; and how many bytes
+/// were taken, and whether these are the other writes'.
 fn watched_writes() -> ([(Option<usize>, bool); 4], (bool, bool), (usize, bool)) {
     let mut output = Watched::new(Sink::new(b"abef", fails(9, 3, Fault::Nothing)));
     let first = output.write(b"").ok();
@@ -64,8 +64,8 @@ fn watched(rt: HostRuntime) {
     assert_eq!(rt; watched_writes(), (writes, (true, true), (4, true)));
 }
 
-/// Whether a device is flushed: at first, after a write, after a flush that fails, and after one
-/// that doesn't.
+/// Returns whether a device is flushed: at first, after a write, after a flush that fails, and
+/// after one that doesn't.
 fn watched_flushes() -> [bool; 4] {
     let mut output = Watched::new(Sink::new(b"ab", fails(9, 2, INTERRUPTED)));
     let first = output.is_flushed();

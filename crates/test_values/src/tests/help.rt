@@ -12,18 +12,18 @@ pub(crate) const PACKET: [u8; 16] = [
     0x13, 0x88, 0x13, 0x88, 1, 2, 3, 4, 0, 0, 0, 0, 0x0b, 0, 0, 4,
 ];
 
-/// The chunk at the front of the bytes, before its value is looked at.
+/// Returns the chunk at the front of the bytes, before its value is looked at.
 pub(crate) fn raw_of(bytes: &[u8]) -> Result<RawChunk<'_>, ChunkParseError> {
     let (raw, _) = RawChunk::from_bytes(bytes)?;
     Ok(raw)
 }
 
-/// The chunk at the front of the bytes.
+/// Returns the chunk at the front of the bytes.
 pub(crate) fn chunk_of(alloc: Global, bytes: &[u8]) -> Result<Chunk, ChunkParseError> {
     Chunk::try_from(alloc, raw_of(bytes)?)
 }
 
-/// How many bytes a value has, or nothing where it can't be written.
+/// Returns how many bytes a value has, or nothing if it can't be written.
 pub(crate) fn size_of<T: SerializableTlv + Drop>(value: T) -> Option<usize> {
     if value.encodable() {
         Some(value.serialized_size())

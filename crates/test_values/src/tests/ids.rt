@@ -62,7 +62,7 @@ fn ids_and_keys(rt: HostRuntime) {
     assert!(rt; skipped != SkippedStream::IForwardTsn(Unordered(StreamId(1)), Mid(2)));
 }
 
-/// Whether a message on stream 3 is so shown.
+/// Returns whether a message on stream 3 is so shown.
 fn is_message(alloc: Global, ppid: PpId, payload: &[u8], wanted: &str) -> Result<bool, AllocError> {
     let message = Message::new(StreamId(3), ppid, Vec::from_slice(alloc, payload)?);
     Ok(format!(in alloc; "{message:?}")?.as_str() == wanted)
@@ -93,18 +93,18 @@ fn hash_of<T: Hash>(value: &T) -> u64 {
     state.finish()
 }
 
-/// Whether two values are equal and hash equally, and another differs.
+/// Returns whether two values are equal and hash equally, and another differs.
 fn agree<T: Eq + Hash + Copy>(a: T, same: T, other: T) -> bool {
     a == same && hash_of(&a) == hash_of(&same) && a != other
 }
 
-/// Whether `a` comes before `b`, and not the other way round.
+/// Returns whether `a` comes before `b`, and not the other way round.
 fn precedes<T: Ord + Copy>(a: T, b: T) -> bool {
     a < b && !(b < a) && a <= a
 }
 
-/// Whether numbers that are converted print so, plainly and for a developer, and those of 1 and 2
-/// differ.
+/// Returns whether numbers that are converted print so, plainly and for a developer, and those of 1
+/// and 2 differ.
 fn are_printed<N: From<u8> + Copy, T: From<N> + Eq + Hash + Copy + Debug + Display>(
     alloc: Global,
     numbers: &[N],

@@ -22,7 +22,7 @@ use dcsctp_wire::types::Tsn;
 use std::alloc::{AllocError, Global};
 use std::test::Fail;
 
-/// Whether a list of two cookies of these sizes can be written.
+/// Returns whether a list of two cookies of these sizes can be written.
 fn are_cookies_encodable(alloc: Global, sizes: [usize; 2]) -> Result<bool, AllocError> {
     let mut list = Vec::new(alloc);
     for size in sizes {
@@ -32,7 +32,7 @@ fn are_cookies_encodable(alloc: Global, sizes: [usize; 2]) -> Result<bool, Alloc
     Ok(parameters_encodable(&list))
 }
 
-/// The same of two parameters without a kind.
+/// Returns whether a list of two parameters without a kind, of these sizes, can be written.
 fn are_unknown_encodable(alloc: Global, sizes: [usize; 2]) -> Result<bool, AllocError> {
     let mut list = Vec::new(alloc);
     for size in sizes {
@@ -41,7 +41,8 @@ fn are_unknown_encodable(alloc: Global, sizes: [usize; 2]) -> Result<bool, Alloc
     Ok(parameters_encodable(&list))
 }
 
-/// How many bytes a request has that names `count` streams, or nothing where it can't be written.
+/// Returns how many bytes a request has that names `count` streams, or nothing if it can't be
+/// written.
 fn request_size(alloc: Global, count: usize) -> Result<Option<usize>, AllocError> {
     Ok(size_of(OutgoingSsnResetRequestParameter {
         request_seq_nbr: 1,
@@ -51,7 +52,7 @@ fn request_size(alloc: Global, count: usize) -> Result<Option<usize>, AllocError
     }))
 }
 
-/// The same of a cause that names as many types.
+/// Returns how many bytes a cause has that names `count` types, or nothing if it can't be written.
 fn missing_size(alloc: Global, count: usize) -> Result<Option<usize>, AllocError> {
     let types = vec![in alloc; 7; count]?;
     Ok(size_of(MissingMandatoryParameterErrorCause::new(types)))
@@ -70,7 +71,8 @@ fn sizes(rt: HostRuntime) -> Result<(), Fail> {
     Ok(())
 }
 
-/// Whether a cause that names two types equals its copy, and one that names none.
+/// Returns whether a cause that names two types equals its copy, and whether it equals one that
+/// names none.
 fn are_equal(alloc: Global) -> Result<(bool, bool), AllocError> {
     let types = Vec::from_slice(alloc, &[7, 13])?;
     let cause = MissingMandatoryParameterErrorCause::new(types);
@@ -110,7 +112,8 @@ impl SerializableTlv for Number {
     }
 }
 
-/// Whether a list is written as these bytes: as many as its size says, and as the writer does.
+/// Returns whether a list is written as these bytes: as many as its size says, and as the writer
+/// does.
 fn is_written<T: SerializableTlv>(
     alloc: Global,
     list: &[T],
@@ -124,7 +127,7 @@ fn is_written<T: SerializableTlv>(
     Ok(size == wanted.len() && output.as_slice() == wanted)
 }
 
-/// The same of a list of one item.
+/// Returns whether a list of one item is written as these bytes.
 fn is_one_written<T: SerializableTlv + Drop>(
     alloc: Global,
     item: T,

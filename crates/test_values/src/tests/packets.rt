@@ -9,7 +9,7 @@ use dcsctp_wire::packet::sctp_packet::{COMMON_HEADER_SIZE, ChecksumPolicy, SctpP
 use std::alloc::Global;
 use std::test::Fail;
 
-/// Without its chunks, the packet fits, and its canonical packet is the header.
+/// Returns whether the packet without its chunks fits, and its canonical packet is the header.
 fn is_header_without_chunks(alloc: Global, bytes: &[u8]) -> Result<bool, PacketParseError> {
     let mut packet = SctpPacket::from_bytes(alloc, bytes, 0, &ChecksumPolicy::ANY_CHECKSUM)?;
     laws::has_widths(&packet);

@@ -7,7 +7,7 @@ use dcsctp_wire::types::{SerialNumber, Tsn};
 use std::alloc::{AllocError, Global};
 use std::test::Fail;
 
-/// A SACK of TSN 7 with these blocks.
+/// Returns a SACK of TSN 7 with these blocks.
 fn sack_of(alloc: Global, gap_ack_blocks: Vec<GapAckBlock>) -> SackChunk {
     SackChunk {
         cumulative_tsn_ack: Tsn(7),
@@ -17,7 +17,7 @@ fn sack_of(alloc: Global, gap_ack_blocks: Vec<GapAckBlock>) -> SackChunk {
     }
 }
 
-/// A SACK with a reversed block after its cleaning, as it is shown.
+/// Returns a SACK with a reversed block after its cleaning, as it is shown.
 fn kept_fields(alloc: Global) -> Result<String, AllocError> {
     let mut sack = sack_of(alloc, Vec::from_slice(alloc, &[GapAckBlock::new(6, 4)])?);
     sack.duplicate_tsns = Vec::from_slice(alloc, &[Tsn(9), Tsn(9), Tsn(3)])?;
@@ -25,7 +25,7 @@ fn kept_fields(alloc: Global) -> Result<String, AllocError> {
     format!(in alloc; "{cleaned:?}")
 }
 
-/// Whether offsets 2 to 8 are valid in a SACK of this TSN.
+/// Returns whether offsets 2 to 8 are valid in a SACK of this TSN.
 fn is_valid_from(alloc: Global, cumulative_tsn_ack: Tsn) -> Result<bool, AllocError> {
     let mut sack = sack_of(alloc, Vec::from_slice(alloc, &[GapAckBlock::new(2, 8)])?);
     sack.cumulative_tsn_ack = cumulative_tsn_ack;
@@ -45,8 +45,8 @@ fn other_fields(rt: HostRuntime) -> Result<(), Fail> {
     Ok(())
 }
 
-/// How many bytes a SACK has with these numbers of blocks and TSNs, or nothing where it can't be
-/// written.
+/// Returns how many bytes a SACK has with these numbers of blocks and TSNs, or nothing if it can't
+/// be written.
 fn size_with(alloc: Global, blocks: usize, tsns: usize) -> Result<Option<usize>, AllocError> {
     let mut sack = sack_of(alloc, vec![in alloc; GapAckBlock::new(3, 4); blocks]?);
     sack.duplicate_tsns = vec![in alloc; Tsn(5); tsns]?;
@@ -82,12 +82,14 @@ enum List {
     Falling(u16),
     /// `n` even offsets, half of them from 2 on, and the others up to 65534.
     Apart(u16),
-    /// The same, by turns from the front and from the end.
+    /// `n` even offsets, half of them from 2 on, the others up to 65534, by turns from the front
+    /// and from the end.
     Alternating(u16),
     /// A low block and a high one, and between them `n` by falling start: none of these follows the
     /// last run. And then one that joins the lowest of them to the low block.
     Between(u16),
-    /// The same by rising start; and where the second number is 1, as they are joined.
+    /// A low block and a high one, and between them `n` by rising start; if the second number is 1,
+    /// as they are joined.
     Rising(u16, u16),
 }
 
@@ -107,12 +109,12 @@ fn apart(count: u16, i: u16) -> GapAckBlock {
     }
 }
 
-/// 5, 8, 11 and so on.
+/// Returns 5, 8, 11 and so on.
 fn third(rest: u16) -> u16 {
     rest.wrapping_mul(3).wrapping_add(2)
 }
 
-/// The block at this place.
+/// Returns the block at this place.
 fn block_of(list: List, i: u16) -> GapAckBlock {
     match list {
         List::Even => even(i),
@@ -133,7 +135,7 @@ fn block_of(list: List, i: u16) -> GapAckBlock {
     }
 }
 
-/// The first `count` blocks of the list.
+/// Returns the first `count` blocks of the list.
 fn blocks_of(alloc: Global, list: List, count: u16) -> Result<Vec<GapAckBlock>, AllocError> {
     let mut blocks = Vec::new(alloc);
     for i in 0..count {
@@ -142,8 +144,8 @@ fn blocks_of(alloc: Global, list: List, count: u16) -> Result<Vec<GapAckBlock>, 
     Ok(blocks)
 }
 
-/// Whether blocks of a list are cleaned to those of another, which are valid where the first starts
-/// at 2 or later.
+/// Returns whether blocks of a list are cleaned to those of another, which are valid if the first
+/// starts at 2 or later.
 fn are_cleaned_to(
     alloc: Global,
     list: List,

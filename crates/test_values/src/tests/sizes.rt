@@ -32,7 +32,7 @@ fn infos(alloc: Global, sizes: &[usize]) -> Result<Vec<Parameter>, AllocError> {
     Ok(list)
 }
 
-/// Error causes with as many bytes each.
+/// Returns error causes of these sizes.
 fn causes(alloc: Global, sizes: &[usize]) -> Result<Vec<ErrorCause>, AllocError> {
     let mut list = Vec::new(alloc);
     for size in sizes {
@@ -42,7 +42,7 @@ fn causes(alloc: Global, sizes: &[usize]) -> Result<Vec<ErrorCause>, AllocError>
     Ok(list)
 }
 
-/// INIT or INIT ACK.
+/// Returns INIT or INIT ACK.
 fn init_with(typ: u8, parameters: Vec<Parameter>) -> Chunk {
     let (initiate_tag, a_rwnd, initial_tsn) = (1, 2, Tsn(5));
     let (nbr_outbound_streams, nbr_inbound_streams) = (3, 4);
@@ -67,8 +67,8 @@ fn init_with(typ: u8, parameters: Vec<Parameter>) -> Chunk {
     }
 }
 
-/// The size that a chunk of this type is written in with items of as many bytes; `None` if it can't
-/// be written.
+/// Returns the size that a chunk of this type is written in with items of these sizes; `None` if it
+/// can't be written.
 fn size_with(alloc: Global, typ: u8, sizes: &[usize]) -> Result<Option<usize>, AllocError> {
     let parameters = infos(alloc, sizes)?;
     Ok(size_of(match typ {
@@ -79,7 +79,8 @@ fn size_with(alloc: Global, typ: u8, sizes: &[usize]) -> Result<Option<usize>, A
     }))
 }
 
-/// The same of ABORT and ERROR.
+/// Returns the size that an ABORT or an ERROR is written in with causes of these sizes; `None` if
+/// it can't be written.
 fn size_with_causes(alloc: Global, typ: u8, sizes: &[usize]) -> Result<Option<usize>, AllocError> {
     let error_causes = causes(alloc, sizes)?;
     let tag_reflected = true;
@@ -136,8 +137,8 @@ fn skipped(alloc: Global, by_mid: &[bool]) -> Result<Vec<SkippedStream>, AllocEr
     Ok(streams)
 }
 
-/// How many bytes FORWARD-TSN and I-FORWARD-TSN have that skip these streams, or nothing where it
-/// can't be written.
+/// Returns how many bytes FORWARD-TSN and I-FORWARD-TSN have that skip these streams, or nothing if
+/// it can't be written.
 fn sizes_with(alloc: Global, by_mid: &[bool]) -> Result<[Option<usize>; 2], AllocError> {
     let forward = size_of(ForwardTsnChunk {
         new_cumulative_tsn: Tsn(4294967295),

@@ -35,7 +35,7 @@ const HEADER: CommonHeader = CommonHeader {
     checksum: 0,
 };
 
-/// Whether the bytes that are made are these; none, where they have no room.
+/// Returns whether the bytes that are made are these; none, if they have no room.
 fn are(made: Option<Vec<u8>>, wanted: &[u8]) -> bool {
     match made {
         Some(bytes) => bytes.as_slice() == wanted,
@@ -45,7 +45,8 @@ fn are(made: Option<Vec<u8>>, wanted: &[u8]) -> bool {
 
 // ---- packets that are made
 
-/// The DATA has two bytes, and two of padding.
+/// Returns whether the packet of a SACK and DATA has these bytes. The DATA has two bytes, and two
+/// of padding.
 fn acknowledges(alloc: Global, limit: u16, wanted: &[u8]) -> Result<bool, ChunkParseError> {
     let sack = raw_of(b"\x03\0\0\x10\0\0\0\x09\0\0\x04\0\0\0\0\0")?;
     let message = raw_of(b"\0\x03\0\x12\0\0\0\x05\0\x03\0\x04\0\0\0\x33hi")?;
@@ -55,7 +56,7 @@ fn acknowledges(alloc: Global, limit: u16, wanted: &[u8]) -> Result<bool, ChunkP
     Ok(are(made, wanted))
 }
 
-/// The answer to an INIT, as it is built with a word of 6.
+/// Returns whether the answer to an INIT, built with a word of 6, has these bytes.
 fn answers(alloc: Global, wanted: &[u8]) -> Result<bool, ChunkParseError> {
     let init = raw_of(b"\x01\0\0\x14\0\0\0\x08\0\0\x04\0\0\x01\0\x02\0\0\0\x03")?;
     let answer = raw_of(b"\x02\0\0\x14\0\0\0\x05\0\0\x08\0\0\x02\0\x01\0\0\0\x04")?;
@@ -112,12 +113,12 @@ fn seals(alloc: Global, wanted: &[u8]) -> Result<bool, ChunkParseError> {
     Ok(is_added && seal(&mut builder).as_slice() == wanted)
 }
 
-/// How many chunks are read.
+/// Returns how many chunks are read.
 fn chunks_of(alloc: Global, bytes: &[u8]) -> Result<usize, PacketParseError> {
     Ok(read_verified(alloc, bytes)?.chunks.len())
 }
 
-/// The packet after a change of one bit of its checksum field.
+/// Returns the packet after a change of one bit of its checksum field.
 fn with_change(alloc: Global, bytes: &[u8], bit: u32) -> Result<Vec<u8>, AllocError> {
     let mut changed = Vec::from_slice(alloc, bytes)?;
     if let Some(byte) = changed.get_mut(8 + (bit as usize) / 8) {
@@ -126,7 +127,7 @@ fn with_change(alloc: Global, bytes: &[u8], bit: u32) -> Result<Vec<u8>, AllocEr
     Ok(changed)
 }
 
-/// Whether the packet is refused after each single change.
+/// Returns whether the packet is refused after each single change.
 fn is_refused_after_changes(alloc: Global, bytes: &[u8]) -> Result<bool, AllocError> {
     let mut is_refused = true;
     for bit in 0..32 {
@@ -141,7 +142,7 @@ fn has_text(alloc: Global, bytes: &[u8], wanted: &str) -> Result<bool, PacketPar
     Ok(packet_to_text(alloc, bytes)?.as_str() == wanted)
 }
 
-/// Whether the chunks that are built from their places are those of the packet.
+/// Returns whether the chunks that are built from their places are those of the packet.
 fn readings_agree(alloc: Global, bytes: &[u8]) -> Result<bool, PacketParseError> {
     let chunks = owned_chunks(alloc, bytes, packet_word(bytes), &ChecksumPolicy::default())?;
     let built = format!(in alloc; "{chunks:?}")?;
@@ -184,7 +185,7 @@ fn of_refused_packets(rt: HostRuntime) {
 /// The tag that the association's INIT asks for.
 const PEER_TAG: u32 = 0x4d2df52d;
 
-/// The INIT ACK of the association's other side, with a cookie of four bytes alone.
+/// Returns the INIT ACK of the association's other side, with a cookie of four bytes alone.
 fn own(alloc: Global) -> Result<InitAckChunk, AllocError> {
     let mut parameters = Vec::new(alloc);
     let cookie = Vec::from_slice(alloc, b"abcd")?;
@@ -239,7 +240,7 @@ const ANSWERS: &[(&[u8], &[u8])] = &[
     (SEALED, b""),
 ];
 
-/// Whether the packet is answered with these bytes; with nothing, where they are none.
+/// Returns whether the packet is answered with these bytes; with nothing, if they are none.
 fn is_answered(
     alloc: Global,
     bytes: &[u8],
@@ -250,7 +251,7 @@ fn is_answered(
     Ok(are(made, wanted))
 }
 
-/// Whether the packet is refused after the change of one bit.
+/// Returns whether the packet is refused after the change of one bit.
 fn is_refused_if_changed(alloc: Global, bytes: &[u8]) -> Result<bool, AllocError> {
     let changed = with_change(alloc, bytes, 0)?;
     let answer = is_answered(alloc, &changed, 1200, b"");
