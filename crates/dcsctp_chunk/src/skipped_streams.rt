@@ -19,7 +19,7 @@ pub(crate) fn are_by_mid(by_mid: bool, streams: &[SkippedStream]) -> bool
     true
 }
 
-/// Is a law: the numbers of each lie in their fields' widths. It does nothing.
+/// Proves that the numbers of each lie in their fields' widths. Does nothing.
 pub(crate) fn streams_have_widths(streams: &[SkippedStream])
     ensures { AllByRecursion IsSkippedStreamInWidth (skipped_stream_views streams.now) }
 {
@@ -28,8 +28,8 @@ pub(crate) fn streams_have_widths(streams: &[SkippedStream])
     }
 }
 
-/// Is a law of skipped streams: the numbers of one lie in their fields' widths, by their types. A
-/// proof-only function: calling it costs nothing.
+/// Proves that the numbers of a skipped stream lie in their fields' widths, by their types. Does
+/// nothing.
 #[inline(always)]
 pub fn stream_has_widths(stream: &SkippedStream)
     ensures { IsSkippedStreamInWidth (skipped_stream_view stream.now) }
@@ -40,7 +40,7 @@ pub fn stream_has_widths(stream: &SkippedStream)
     }
 }
 
-/// Is a law: the two numbers lie in their fields' widths.
+/// Proves that the two numbers lie in their fields' widths. Does nothing.
 #[inline(always)]
 fn ssn_has_widths(id: StreamId, ssn: Ssn)
     ensures { (id.0 < 2 ^ 16) × (ssn.0 < 2 ^ 16) }
@@ -49,7 +49,7 @@ fn ssn_has_widths(id: StreamId, ssn: Ssn)
     let _ssn = ssn.0;
 }
 
-/// Is a law: the two numbers lie in their fields' widths.
+/// Proves that the two numbers lie in their fields' widths. Does nothing.
 #[inline(always)]
 fn mid_has_widths(id: StreamId, mid: Mid)
     ensures { (id.0 < 2 ^ 16) × (mid.0 < 2 ^ 32) }

@@ -61,7 +61,6 @@ impl CommonHeader {
     }
 
     /// Reads the header of a packet, which has at least 12 bytes.
-    // A part of the readers of packets.
     #[inline(always)]
     pub fn read(bytes: &[u8]) -> CommonHeader
         requires { 12 ≤ length bytes.now }
