@@ -1,5 +1,5 @@
-//! An association between two sockets of usrsctp, and packets of it that were changed by hand: the
-//! rows of docs/CAPTURES.md with their checksums. Written by `tools/captures.py --write`.
+//! An association between two sockets of usrsctp, and packets of it that were changed by hand: the rows of
+//! docs/CAPTURES.md with their checksums. Written by `tools/captures.py --write`.
 
 use dcsctp_wire::packet::ChunkParseError::{InvalidLength, InvalidValue};
 use dcsctp_wire::packet::sctp_packet::PacketParseError::{
