@@ -1,6 +1,7 @@
 pub mod Fronts
 pub mod PacketRefs
 pub mod TreeRows
+pub mod StreamKeys
 pub mod DataRows
 pub mod ReConfigRows
 pub mod FieldLists

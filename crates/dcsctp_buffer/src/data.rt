@@ -42,6 +42,7 @@ impl BorrowedData<'_> {
         ensures width { IsInWidth (view self.now) }
     {
         bytes_in_width(self.payload);
+        let _widths = (self.tsn.0, self.ssn.0, self.ppid.0);
         DataNumbers {
             tsn: self.tsn,
             stream_id: self.stream_key.id(),

@@ -20,17 +20,6 @@ not_writable IsPlace true o code place e =
 not_writable IsPlace false o code place e =
     declined BadPlace (λ yes. let no = place.1 yes in absurd cc) refl e
 
--- what a stream key is made of
-pub key_unordered : (is_unordered : Bool) (id : StreamId)
-    → not (is_ordered_key (if is_unordered then Unordered id else Ordered id)) ≡ is_unordered
-key_unordered true id = refl
-key_unordered false id = refl
-
-pub key_stream : (is_unordered : Bool) (id : StreamId)
-    → stream_of (if is_unordered then Unordered id else Ordered id) ≡ id
-key_stream true id = refl
-key_stream false id = refl
-
 -- ---- items
 
 -- an item of the same value is added

@@ -1,4 +1,4 @@
-use Rattle.dcsctp_c.proofs.Writings.{key_unordered, key_stream}
+use Rattle.dcsctp_borrowed.proofs.StreamKeys.{key_unordered, key_stream}
 use Rattle.dcsctp_c.proofs.writing.dcsctp_add_i_data.Goals as goal
 
 pub returns : goal.returns

@@ -25,6 +25,6 @@ returns-else-self c =
     let streams = ap (λ (t : Tree). length t.streams) c.self.view_is in
     let here : i < f.count =
     omega (arith, stream_count f.by_mid f.count bytes, streams, c.requires) in
-    let read = c.read.ensures ∙ ap forward_kind.stream_at (take_rest bytes (4 * i)) in
+    let read = c.read-else-self.ensures ∙ ap forward_kind.stream_at (take_rest bytes (4 * i)) in
     rw (← c.self.view_is, c.if-self.false) (field_at_place forward_kind.stream_at 4 f.count bytes i
     here ∙ ap Some (sym read))

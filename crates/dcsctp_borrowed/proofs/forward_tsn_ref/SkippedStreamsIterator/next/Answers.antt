@@ -23,7 +23,7 @@ returns-then-self-clause-goes c =
 pub returns-else-self-clause-steps : goal.returns-else-self-clause-steps
 returns-else-self-clause-steps c =
     let bytes = c.self.inside.rest.now in
-    rw (← c.self.view_is, take_rest bytes 4, c.read-stream.ensures, c.if-self.false)
+    rw (← c.self.view_is, take_rest bytes 4, c.read-stream-else-self.ensures, c.if-self.false)
     (first_field forward_kind.stream_at 4 c.self.inside.count bytes c.if-self-eq0.false)
 
 pub returns-else-self-clause-goes : goal.returns-else-self-clause-goes

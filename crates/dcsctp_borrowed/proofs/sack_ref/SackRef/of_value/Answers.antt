@@ -6,5 +6,5 @@ pub of_checked-requires : goal.of_checked-requires
 unfolding read
 of_checked-requires c =
     let value = c.args.value.now in
-    let size = c.if-value.false ∙ c.value_size.ensures ∙ ap size_of_value c.read.ensures in
+    let size = c.if-value-value_size.false ∙ c.value_size.ensures ∙ ap size_of_value c.read.ensures in
     rw (eq-eqb (length value) (size_of_value (numbers_at value)) size) refl
