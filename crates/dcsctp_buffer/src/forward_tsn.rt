@@ -65,7 +65,12 @@ impl<S: AsSkippedStream> WritableChunk for BorrowedForwardTsn<'_, S> {
 
     fn write_to(&self, output: &mut [u8]) {
         let size = stream_size(self.by_mid) * self.skipped_streams.len();
-        put_header(chunk_type(self.by_mid), 0, ForwardTsnNumbers::SIZE + size, output);
+        put_header(
+            chunk_type(self.by_mid),
+            0,
+            ForwardTsnNumbers::SIZE + size,
+            output,
+        );
         let _width = self.new_cumulative_tsn.0;
         let numbers = ForwardTsnNumbers {
             new_cumulative_tsn: self.new_cumulative_tsn,

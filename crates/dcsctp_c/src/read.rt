@@ -8,8 +8,8 @@ ghost use Rattle.dcsctp_c.specs.{Code.{policy_of}, Part.{value_at, IsChunkAt}, R
 use crate::codes::{OK, code_of};
 use crate::packet::checksum_policy;
 use crate::parts::{
-    NUMBER_SIZE, data_in, dcsctp_header, forward_struct, framed_chunk, init_in,
-    sack_struct, shutdown_in,
+    NUMBER_SIZE, data_in, dcsctp_header, forward_struct, framed_chunk, init_in, sack_struct,
+    shutdown_in,
 };
 use crate::structs::{
     DcsctpChunk, DcsctpData, DcsctpForwardTsn, DcsctpInit, DcsctpPacket, DcsctpPolicy, DcsctpRow,

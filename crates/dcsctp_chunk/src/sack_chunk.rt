@@ -97,10 +97,22 @@ impl SackNumbers {
         ensures { result ≡ kind.number_bytes self }
     {
         let mut bytes = [0; SackNumbers::SIZE];
-        put_u32(&mut bytes, SackNumbers::CUMULATIVE_TSN_ACK, self.cumulative_tsn_ack.0);
+        put_u32(
+            &mut bytes,
+            SackNumbers::CUMULATIVE_TSN_ACK,
+            self.cumulative_tsn_ack.0,
+        );
         put_u32(&mut bytes, SackNumbers::A_RWND, self.a_rwnd);
-        put_u16(&mut bytes, SackNumbers::GAP_ACK_BLOCK_COUNT, self.gap_ack_block_count);
-        put_u16(&mut bytes, SackNumbers::DUPLICATE_TSN_COUNT, self.duplicate_tsn_count);
+        put_u16(
+            &mut bytes,
+            SackNumbers::GAP_ACK_BLOCK_COUNT,
+            self.gap_ack_block_count,
+        );
+        put_u16(
+            &mut bytes,
+            SackNumbers::DUPLICATE_TSN_COUNT,
+            self.duplicate_tsn_count,
+        );
         bytes
     }
 }

@@ -87,13 +87,28 @@ fn tag_reflected(chunk: &Item<'_>) -> Flag {
 
 /// Hands over the numbers of an INIT or an INIT ACK.
 fn walk_init<F: Fields>(chunk: &Item<'_>, fields: &mut F) -> fmt::Result {
-    let (outbound, inbound) = (InitNumbers::NBR_OUTBOUND_STREAMS, InitNumbers::NBR_INBOUND_STREAMS);
+    let (outbound, inbound) = (
+        InitNumbers::NBR_OUTBOUND_STREAMS,
+        InitNumbers::NBR_INBOUND_STREAMS,
+    );
     let tag = Number::at(": tag ", "tag", chunk, InitNumbers::INITIATE_TAG, 4);
     fields.number(&tag.in_form(Form::Hexadecimal))?;
     fields.number(&Number::at(", a_rwnd ", "a_rwnd", chunk, InitNumbers::A_RWND, 4))?;
-    fields.number(&Number::at(", outbound streams ", "outbound_streams", chunk, outbound, 2))?;
+    fields.number(&Number::at(
+        ", outbound streams ",
+        "outbound_streams",
+        chunk,
+        outbound,
+        2,
+    ))?;
     fields.number(&Number::at(", inbound streams ", "inbound_streams", chunk, inbound, 2))?;
-    fields.number(&Number::at(", initial tsn ", "initial_tsn", chunk, InitNumbers::INITIAL_TSN, 4))
+    fields.number(&Number::at(
+        ", initial tsn ",
+        "initial_tsn",
+        chunk,
+        InitNumbers::INITIAL_TSN,
+        4,
+    ))
 }
 
 /// Hands over a SACK, as far as its lists were captured, as `walk_meaning` does.

@@ -92,7 +92,11 @@ impl CommonHeader {
         // packet has only just been stored.
         let ports = self.source_port as u32 * 65536 + self.destination_port as u32;
         put_u32(&mut header, CommonHeader::SOURCE_PORT, ports);
-        put_u32(&mut header, CommonHeader::VERIFICATION_TAG, self.verification_tag);
+        put_u32(
+            &mut header,
+            CommonHeader::VERIFICATION_TAG,
+            self.verification_tag,
+        );
         put_u32(&mut header, CommonHeader::CHECKSUM, self.checksum);
         header
     }

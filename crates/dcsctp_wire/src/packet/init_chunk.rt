@@ -97,8 +97,16 @@ impl InitNumbers {
         let mut bytes = [0; InitNumbers::SIZE];
         put_u32(&mut bytes, InitNumbers::INITIATE_TAG, self.initiate_tag);
         put_u32(&mut bytes, InitNumbers::A_RWND, self.a_rwnd);
-        put_u16(&mut bytes, InitNumbers::NBR_OUTBOUND_STREAMS, self.nbr_outbound_streams);
-        put_u16(&mut bytes, InitNumbers::NBR_INBOUND_STREAMS, self.nbr_inbound_streams);
+        put_u16(
+            &mut bytes,
+            InitNumbers::NBR_OUTBOUND_STREAMS,
+            self.nbr_outbound_streams,
+        );
+        put_u16(
+            &mut bytes,
+            InitNumbers::NBR_INBOUND_STREAMS,
+            self.nbr_inbound_streams,
+        );
         put_u32(&mut bytes, InitNumbers::INITIAL_TSN, self.initial_tsn.0);
         bytes
     }
