@@ -87,7 +87,7 @@ def own_names(row):
     if row.number in sources(row.level):
         crate, *_, module, struct = names = sources(row.level)[row.number]
         specs = [spec for spec, text in files_of(f'crates/{crate}/specs')
-                 if f'{module}.{struct}.' in text and 'pub kind : Kind' in text]
+                 if re.search(rf'\b{module}\.(\{{.*)?\b{struct}\.', text) and 'pub kind : Kind' in text]
         return *names, specs[0] if specs else struct.removesuffix(struct_end)
     words = re.findall(r'\w+', row.name)
     name = ''.join(word.capitalize() for word in words)
