@@ -292,7 +292,7 @@ each('a filter', text => {
   ['source:1-2', '11'], ['tag:0x14', '3 4 6 7 9'], ['tag:0x0A', '2 5 8'], ['tag:20', '3 4 6 7 9'], ['tag:0', '1'],
   ['address:10.0', '1 2 3 4 5 6 7 8 9'], ['address:2001:DB8:', '1 2 3 4 5 6 7 8 9'], ['address:0.0', ''],
   ['stream:1', '3'], ['stream:0-1', '3 6 7'], ['ppid:51', '3'], ['ppid:webrtc', '3 4'], ['ppid:webrtc-dcep', '4'],
-  ['ppid:99', '4'], ['tsn:0', '6 7'], ['tsn:2', '4'], ['tsn:2-4294967295', '3 4'], ['ack:4294967295', '5 8'], ['ack:0', ''],
+  ['ppid:99', '4'], ['tsn:0', '4 6 7'], ['tsn:2', '4'], ['tsn:2-4294967295', '3 4'], ['ack:4294967295', '5 8'], ['ack:0', ''],
   ['packet:0', ''], ['packet:3-5', '3 4 5'], ['packet:10', ''], ['length:40', '3'],
   ['association:1', '1 2 3 4 5 6 7 8 9'], ['association:2', '11'], ['association:1-2 tag:3', '11'],
   ['packet:4-', '4 5 6 7 8 9 11'], ['packet:>8', '9 11'], ['packet:<=2', '1 2'], ['length:<100', '3'], ['length:>=100', '1 2 4 5 6 7 8 9 11'],
@@ -307,7 +307,7 @@ each('a filter', text => {
   ['hello,sack', '5 8'],
   // (what marks and buttons say)
   ['"sent again"', '7'], ['"Fills a gap"', '6'], ['"filled a gap"', '6'], ['"gap before"', '4'], ['"SACK with gaps"', '5'], ['"wrong checksum"', '7'],
-  ['"zero checksum"', '5'], ['"cut off"', '9'], ['warning', '3'], ['-"sent again" tsn:0', '6'], ['"gap before","sent again"', '4 7'],
+  ['"zero checksum"', '5'], ['"cut off"', '9'], ['warning', '3'], ['-"sent again" tsn:0', '4 6'], ['"gap before","sent again"', '4 7'],
 ]);
 // A FORWARD-TSN is found by the TSN that it skips to, also one that is beside DATA, before and after 2^32.
 const forward = tsn => ({ chunk: 192, name: 'FORWARD-TSN', new_cumulative_tsn: tsn });
