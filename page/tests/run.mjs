@@ -859,6 +859,7 @@ async function inBrowser(browser) {
   await check('the chosen row is in view, wherever it was chosen', async () => {
     const records = association(400), reset = chunk(130, 0, parameter(13, [4, 1, 0, 1399], [2, 1]));
     const long = file('long.pcap', pcap(records.toSpliced(-3, 0, [records.at(-4)[0] + 100, ip(A, B, packet(40000, 9900, 0x4d2df52d, reset))])));
+    const short = file('short.pcap', pcap(association(6)));
     /** Where the chosen row is in the room for rows, from 0 at its top to 1 at its bottom. */
     const place = () => browser.ask(`(() => {
       const room = document.getElementById('list').getBoundingClientRect(), top = room.top + document.getElementById('heads').offsetHeight;
@@ -872,6 +873,13 @@ async function inBrowser(browser) {
     };
     const click = name => `${all('#story button', 'it')}.find(it => it.textContent.startsWith('${name}')).click()`;
     const chosen = name => browser.ask(click(name));
+    /** Empties the list by a filter, and does something else at once. */
+    const emptied = then => `(() => {
+      const it = document.getElementById('filter');
+      it.value = 'packet:99999';
+      it.dispatchEvent(new KeyboardEvent('keydown', { key: 'Enter' }));
+      return ${then};
+    })()`;
     for (const width of [390, 1280]) {
       await browser.open(url, { width, height: 900 });
       await show(long);
@@ -890,19 +898,15 @@ async function inBrowser(browser) {
       await isIn(`${width}: of a channel`);
       await chosen('up after');
       // From an empty list, beside which no details are shown: once it was drawn, and before that.
-      for (const isDrawn of [true, false]) {
-        await chosen('up after');
-        await browser.ask(`(() => {
-          const it = document.getElementById('filter');
-          it.value = 'packet:99999';
-          it.dispatchEvent(new KeyboardEvent('keydown', { key: 'Enter' }));
-          return ${isDrawn} ? new Promise(resolve => requestAnimationFrame(() => setTimeout(resolve))) : ${click('shut down')};
-        })()`);
-        if (isDrawn)
-          await chosen('shut down');
-        await titled(`Packet ${records.length + 1}`);
-        await isIn(`${width}: after an empty list${isDrawn ? '' : ' that was never drawn'}`);
-      }
+      await chosen('up after');
+      await browser.ask(emptied('new Promise(resolve => requestAnimationFrame(() => setTimeout(resolve)))'));
+      await chosen('shut down');
+      await titled(`Packet ${records.length + 1}`);
+      await isIn(`${width}: after an empty list`);
+      await chosen('up after');
+      await browser.ask(emptied(click('shut down')));
+      await titled(`Packet ${records.length + 1}`);
+      await isIn(`${width}: after an empty list that was never drawn`);
       // By a filter that is cleared, in the middle.
       await filter('packet:200');
       await filter('');
@@ -919,6 +923,11 @@ async function inBrowser(browser) {
       await sized(900);
       await wait(150);
       assert.equal(await place(), undefined, `${width}: scrolled away`);
+      // Without the details a short list is in view as a whole, and isn't scrolled.
+      await show(short);
+      await chosen('up after');
+      await browser.ask(emptied(click('shut down')));
+      await isIn(`${width}: of a short list`);
     }
     quiet();
   });
