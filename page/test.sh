@@ -13,7 +13,7 @@ page/page.html, as a web server gives it. Before that tsc compares the scripts w
 The last line is: page: N passed, M failed, and K left out, if something was.
 
 Needed are node, from 20 on, and Python. Used where they are there: chromium, or what CHROMIUM names; firefox-esr, or what FIREFOX
-names; tsc. Without one of them its part is left out.'
+names; tsc; lz4. Without one of them its part is left out.'
 
 case ${1:-} in
     --help) echo "$usage" && exit ;;

@@ -71,13 +71,12 @@ watch(({ store, clock, shown: { object, row } }) => {
   if (row !== undefined)
     byId('notes').append(...repeatNotes(store, row));
   byId('copied').textContent = '';
-  byId('copy-json').disabled = row === undefined;
-  byId('copy-test').disabled = row === undefined || !testRow(fields.bytes);
-  for (const id of /** @type {const} */ (['copy-hex', 'copy-c']))
-    byId(id).disabled = row === undefined || !fields.bytes.length;
+  byId('copies-of-packet').hidden = row === undefined;
+  byId('copy-test').disabled = !testRow(fields.bytes);
+  byId('copy-hex').disabled = byId('copy-c').disabled = !fields.bytes.length;
   // (what was cut off would be another packet)
-  const isWhole = row !== undefined && KINDS[store.columns.kind[row]] !== 'cut';
-  byId('copy-link').disabled = !isWhole || !linkOf(location.href, fields.bytes);
+  const isCut = row !== undefined && KINDS[store.columns.kind[row]] === 'cut';
+  byId('copy-link').disabled = isCut || !linkOf(location.href, fields.bytes);
 });
 
 for (const [id, what] of Object.entries({
@@ -86,7 +85,10 @@ for (const [id, what] of Object.entries({
   'copy-c': () => cArray(fields.bytes),
   'copy-test': () => testRow(fields.bytes),
   'copy-link': () => linkOf(location.href, fields.bytes),
-  'copy-json': () => state.shown.row === undefined ? '' : state.store.lines([state.shown.row])[0].text(),
+  'copy-json': async () => {
+    const [line] = await state.store.lines([Number(state.shown.row)]);
+    return new TextDecoder().decode(line);
+  },
 })) {
   byId(id).addEventListener('click', async () => {
     byId('copied').textContent = await copy(await what()) ? 'Copied.' : 'The browser doesn’t allow to copy.';

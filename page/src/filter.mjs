@@ -3,6 +3,7 @@
 // value that has blanks or commas is between quotation marks. What was skipped passes only where it is asked for.
 import { KINDS, MOST_TEXT } from './keys.mjs';
 import { MARK_TEXTS } from './list.mjs';
+import { missingBefore } from './ties.mjs';
 
 export { SYNTAX, filterOf, strangeWords, FOUND };
 
@@ -14,7 +15,7 @@ const SYNTAX = [
   ['address:10.0.0.1', 'either address begins so'],
   ['stream:1', 'DATA on a stream'],
   ['ppid:51', 'DATA with a payload protocol, by its number or a part of its name (ppid:dcep)'],
-  ['tsn:100-120', 'DATA by TSN, or a FORWARD-TSN by the TSN that it skips to; ack:100 is a SACK’s cumulative TSN'],
+  ['tsn:100-120', 'DATA by TSN, and DATA before which one is missing, or a FORWARD-TSN by the TSN that it skips to; ack:100 is a SACK’s cumulative TSN'],
   ['text:"any body"', `a message of text, by a part of the packet’s first ${MOST_TEXT} characters of text`],
   ['message:open', 'a message of DCEP, by its number or a part of its name; label:chat is an OPEN by a part of its label'],
   ['packet:10-20', 'packets by number; also length:'],
@@ -67,6 +68,19 @@ const byFlow = isMet => shared('flow', 'flows', isMet);
 const bySummary = isMet => shared('summary', 'summaries', isMet);
 const byRow = isMet => store => row => store.isPacket(row) && isMet(store, row);
 
+/** More of the TSNs that are missing before a packet aren't found. */
+const MOST_MISSING = 2048;
+/** What was sent before, for TSNs of which the program says that they weren't. */
+const NOTHING_SENT = [new Map()];
+
+/** The TSNs of a row's DATA, and those that are missing before it.
+    @param {import('./store.mjs').Store} store
+    @param {number} row */
+function tsnsAt(store, row) {
+  const tsns = store.tsns(row), { missing } = store.summaries[store.columns.summary[row]];
+  return missing ? [...tsns, ...missingBefore(store, NOTHING_SENT, () => 0, row, Math.min(missing, MOST_MISSING))] : tsns;
+}
+
 /** The tests by `KEY:VALUE`, each of the value as a test of numbers and as text; those of numbers alone come first. */
 const NUMBERS = {
   port: number => byFlow(it => number(it.source) || number(it.destination)),
@@ -76,7 +90,7 @@ const NUMBERS = {
   stream: number => bySummary(it => it.streams.some(number)),
   packet: number => byRow((store, row) => number(store.columns.number[row])),
   length: number => byRow((store, row) => number(store.columns.length[row])),
-  tsn: number => byRow((store, row) => store.has(row, 'data') && store.tsns(row).some(number) || number(store.forward(row))),
+  tsn: number => byRow((store, row) => store.has(row, 'data') && tsnsAt(store, row).some(number) || number(store.forward(row))),
   ack: number => byRow((store, row) => store.has(row, 'sack') && number(store.columns.ack[row])),
   association: number => byRow(({ columns }, row) => columns.association[row] > 0 && number(columns.association[row])),
 };

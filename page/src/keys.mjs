@@ -154,9 +154,9 @@ function streamsOf({ streams, parameters }) {
 
 /** What chunks a packet has: their names in runs, their types, the streams of DATA and those that are reset or skipped in, and
     of DATA the payload protocols, how far each TSN is from the first one, and the messages and labels of DCEP; and how far the
-    TSN that a FORWARD-TSN skips to is from that.
+    TSN that a FORWARD-TSN skips to is from that; and how many TSNs are missing before them.
     @param {Chunk[]} chunks */
-function chunkSummary(chunks) {
+function chunkSummary(chunks, missing = 0) {
   /** @type {Run[]} */
   const runs = [];
   const types = new Set(), streams = new Set(), ppids = new Map(), tsns = [], messages = [], labels = [];
@@ -184,7 +184,7 @@ function chunkSummary(chunks) {
   const names = [...new Set(runs.map(run => run.name ?? ''))];
   const forward = forwardOf(chunks);
   return {
-    runs, types: [...types], names, streams: [...streams], ppids: [...ppids], tsns, messages, labels,
+    runs, types: [...types], names, streams: [...streams], ppids: [...ppids], tsns, missing, messages, labels,
     forward: forward === undefined ? undefined : forward - Number(first ?? forward),
   };
 }
@@ -222,9 +222,9 @@ class Rows {
   packet(it) {
     const { from, to, source, destination, tag, direction, transport, chunks, fault } = it;
     const kind = it.captured !== undefined ? 'cut' : fault ? 'refused' : 'accepted';
-    const { seconds, nanos, digits } = timeOf(it.time, direction !== undefined);
+    const { seconds, nanos, digits } = timeOf(it.time, direction !== undefined), missing = Math.max(0, Number(it.missing) || 0);
     let flags = (FLAGS[it.verdict] ?? 0) | (FLAGS[direction] ?? 0) | (it.warnings?.length ? FLAGS.warned : 0) |
-      (Number(it.repeated) > 0 ? FLAGS.repeated : 0) | (Number(it.late) > 0 ? FLAGS.late : 0) | (Number(it.missing) > 0 ? FLAGS.jump : 0);
+      (Number(it.repeated) > 0 ? FLAGS.repeated : 0) | (Number(it.late) > 0 ? FLAGS.late : 0) | (missing ? FLAGS.jump : 0);
     let key = '', tsn, ack = 0, text = '';
     for (const chunk of chunks) {
       key += `${chunk.chunk} ${this.numberOf(chunk.name)} ${streamsOf(chunk)} `;
@@ -244,13 +244,15 @@ class Rows {
     const forward = forwardOf(chunks);
     tsn ??= forward;
     if (forward !== undefined)
-      key += `to ${forward - Number(tsn)}`;
+      key += `to ${forward - Number(tsn)} `;
+    if (missing)
+      key += `after ${missing}`;
     const place = `${this.numberOf(from)} ${this.numberOf(to)} ${source} ${destination} ${tag} ${this.numberOf(direction)} ${this.numberOf(transport)}`;
     return {
       kind: KINDS.indexOf(kind), file: this.file, number: it.packet, note: fault ? this.notes.number(String(fault.reason ?? '')) : 0,
       seconds, nanos, digits, length: it.length ?? 0, flags, tsn: tsn ?? 0, ack, association: it.association ?? 0, end: it.end ?? 0,
       flow: this.flows.number(place, () => ({ from, to, source, destination, tag, direction, transport })),
-      summary: this.summaries.number(key, () => chunkSummary(chunks)), text: text.slice(0, MOST_TEXT).toLowerCase(),
+      summary: this.summaries.number(key, () => chunkSummary(chunks, missing)), text: text.slice(0, MOST_TEXT).toLowerCase(),
     };
   }
 

@@ -33,8 +33,13 @@ watch(it => {
   byId('save-pcap').title = `${savedText(it)}: without addresses, and whatever else was below SCTP.`;
 });
 
-byId('save-json').addEventListener('click', () =>
-  save(nameOf(state.name, 'jsonl'), 'application/jsonl', ...state.store.lines(state.passed).flatMap(it => [it, '\n'])));
+byId('save-json').addEventListener('click', async () => {
+  const { store, passed, name } = state, parts = [];
+  // (in Blobs, so that memory holds few of the lines)
+  for (let i = 0; i < passed.length; i += 1000)
+    parts.push(new Blob((await store.lines(passed.slice(i, i + 1000))).flatMap(it => [it, '\n'])));
+  save(nameOf(name, 'jsonl'), 'application/jsonl', ...parts);
+});
 byId('save-pcap').addEventListener('click', async () => {
   const { store, passed } = state, all = passed.filter(it => store.isPacket(it)), rows = all.slice(0, MOST_PACKETS), packets = [];
   for (let i = 0; i < rows.length; i += 1000) {

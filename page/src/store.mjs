@@ -1,8 +1,14 @@
 // SPDX-License-Identifier: Apache-2.0
-// What was read: a row of numbers for each line, and the lines themselves in Blobs, which the browser may keep on disk.
+// What was read: a row of numbers for each line, and the lines themselves, packed, in Blobs, which the browser may keep on disk.
 import { associationOf, COLUMNS, FLAGS, isAssociation, isSummary, KINDS, OF_DAY, pairsOf, parsed } from './keys.mjs';
+import { lineIn, uncompressed } from './packed.mjs';
 
 export { Store };
+
+/** So many batches of lines are kept as they were before they were compressed. */
+const MOST_HELD = 4;
+
+const decoder = new TextDecoder();
 
 /** @type {Result} */
 const NO_RESULT = { errors: '', signs: [] };
@@ -19,6 +25,9 @@ class Store {
   notes = [];
   /** @type {Blob[]} */
   batches = [];
+  /** What was compressed in those that were asked for last, by their places.
+      @type {Map<number, Promise<Uint8Array>>} */
+  held = new Map();
   /** @type {Association[]} */
   associations = [];
   /** Counts of rows by kind, and of packets by flag. */
@@ -147,25 +156,31 @@ class Store {
     return (this.columns.flags[row] & FLAGS[flag]) !== 0;
   }
 
-  /** The lines of these rows, as Blobs: those that follow each other are one.
+  /** What was compressed in a batch.
+      @param {number} batch */
+  contentOf(batch) {
+    const found = this.held.get(batch) ?? this.batches[batch].arrayBuffer().then(it => uncompressed(new Uint8Array(it)));
+    this.held.delete(batch);
+    this.held.set(batch, found);
+    if (this.held.size > MOST_HELD)
+      this.held.delete(this.held.keys().next().value);
+    return found;
+  }
+
+  /** The lines of these rows.
       @param {number[]} rows */
-  lines(rows) {
-    const { batch, offset, size } = this.columns, ranges = [];
-    for (const row of rows) {
-      const last = ranges.at(-1), to = offset[row] + size[row];
-      if (last?.batch === batch[row] && last.to + 1 === offset[row])
-        last.to = to;
-      else
-        ranges.push({ batch: batch[row], from: offset[row], to });
-    }
-    return ranges.map(it => this.batches[it.batch].slice(it.from, it.to));
+  async lines(rows) {
+    const { batch, offset, size } = this.columns, lines = [];
+    for (const row of rows)
+      lines.push(lineIn((await this.contentOf(batch[row])).subarray(offset[row], offset[row] + size[row])));
+    return lines;
   }
 
   /** The objects of these rows, read from their lines.
       @param {number[]} rows
       @returns {Promise<Line[]>} */
   async objects(rows) {
-    return Promise.all(rows.map(async row => /** @type {Line} */ (parsed(await this.lines([row])[0].text()))));
+    return (await this.lines(rows)).map(it => parsed(decoder.decode(it)));
   }
 
   /** The program is at its end, or was stopped. */

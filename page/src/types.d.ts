@@ -160,6 +160,7 @@ interface ChunkSummary {
   streams: number[];
   ppids: [number, string][];
   tsns: number[];
+  missing: number;
   forward?: number;
   messages: string[];
   labels: string[];

@@ -41,11 +41,7 @@ class VirtualList {
     this.space.className = 'space';
     this.space.setAttribute('role', 'presentation');
     box.append(this.space);
-    box.addEventListener('scroll', () => {
-      if (this.top !== undefined && this.box.scrollTop !== this.top)
-        this.sought = undefined;
-      this.update();
-    });
+    box.addEventListener('scroll', () => this.settle());
     box.addEventListener('keydown', event => this.key(event));
     box.addEventListener('click', event => {
       const row = targetOf(event).closest('.row');
@@ -53,7 +49,7 @@ class VirtualList {
         this.choose(Number(row.dataset.index));
     });
     // (what is sought stays in view, and comes into it once a hidden box is shown)
-    new ResizeObserver(() => this.sought ? this.reveal(this.sought.index, this.sought.isMiddle) : this.update()).observe(box);
+    new ResizeObserver(() => this.settle()).observe(box);
   }
 
   get height() {
@@ -75,9 +71,11 @@ class VirtualList {
     this.count = count;
     if (this.box.getAttribute('role') === 'grid')
       this.box.setAttribute('aria-rowcount', count + (this.heads ? 1 : 0));
-    if (!isMore)
+    if (!isMore) {
+      this.sought = undefined;
       this.forget();
-    this.update();
+    }
+    this.settle();
   }
 
   forget() {
@@ -167,6 +165,25 @@ class VirtualList {
       @param {number} index */
   reveal(index, isMiddle = false) {
     this.sought = { index, isMiddle };
+    this.top = undefined;
+    this.settle();
+    // (views that are drawn later can give the box another size, and an observer isn't told if that is the one before)
+    requestAnimationFrame(() => this.settle());
+  }
+
+  /** Draws what is in view, with what is sought, unless a user scrolled it away. */
+  settle() {
+    const { top, box } = this;
+    // (a browser scrolls by itself where that place isn't there any more: the list became shorter, or the box higher)
+    if (top !== undefined && box.scrollTop !== top && top <= box.scrollHeight - box.clientHeight + 1)
+      this.sought = undefined;
+    if (this.sought)
+      this.seek(this.sought);
+    this.update();
+  }
+
+  /** Scrolls to a row, if it isn't in view. */
+  seek({ index, isMiddle }) {
     const { height, view, whole, all, first } = this.place(), rows = view / height;
     const end = index + 1 + (index === this.current ? Math.min(this.extra / height, rows - 1) : 0), isIn = index >= first && end <= first + rows;
     const wanted = isIn ? first : isMiddle ? index - Math.floor((rows - 1) / 2) : index < first ? index : end - rows;
@@ -176,7 +193,6 @@ class VirtualList {
       this.box.scrollTop = whole <= MOST ? wanted * height : wanted / (this.count - rows) * (all - view);
     // (a box that is shown again scrolls by itself to where it was)
     this.top = view > 0 ? this.box.scrollTop : undefined;
-    this.update();
   }
 
   /** @param {number} index */

@@ -1,13 +1,14 @@
 // SPDX-License-Identifier: Apache-2.0
-// The Worker: runs the program over the inputs, and posts what it prints, in batches: a Blob of whole lines, and a row
+// The Worker: runs the program over the inputs, and posts what it prints, in batches: a Blob of whole lines, packed, and a row
 // for each. A Worker that is stopped loses nothing that it posted.
 import { COLUMNS, parsed, Rows } from './keys.mjs';
+import { compressed, packInto } from './packed.mjs';
 import { run } from './program.mjs';
 import { formOf, HEAD, signsOf } from './signs.mjs';
 import { Streams } from './streams.mjs';
 
-/** This many bytes of lines are a batch; the first one is smaller, and so is one that is waited for. */
-const BATCH = 2 << 20;
+/** This many bytes of packed lines are a batch; one that is waited for is smaller. */
+const BATCH = 1 << 20;
 /** So many bytes of a file are read at once: each time, the browser's other process is waited for. */
 const PIECE = 4 << 20;
 
@@ -35,8 +36,25 @@ class FileInput {
   }
 }
 
+/** These bytes, with room for so many.
+    @param {Uint8Array} bytes
+    @param {number} size */
+function withRoom(bytes, size) {
+  if (size <= bytes.length)
+    return bytes;
+  const room = new Uint8Array(2 * size);
+  room.set(bytes);
+  return room;
+}
+
 /** Collects what the program prints. */
 class Output {
+  /** What isn't a whole line yet, and its size. */
+  bytes = new Uint8Array();
+  size = 0;
+  /** The lines of a batch, and their size. */
+  packed = new Uint8Array();
+  done = 0;
   /** A number for each row, by the columns.
       @type {Record<string, number[]>} */
   columns = {};
@@ -44,8 +62,6 @@ class Output {
   objects = [];
   /** @type {string[]} */
   texts = [];
-  done = 0;
-  size = 0;
   rows = new Rows();
   streams = new Streams();
   batch = 0;
@@ -53,7 +69,6 @@ class Output {
   last = performance.now();
 
   constructor() {
-    this.bytes = new Uint8Array(BATCH);
     this.clear();
   }
 
@@ -66,34 +81,36 @@ class Output {
 
   /** @param {Uint8Array} bytes */
   write(bytes) {
-    if (this.size + bytes.length > this.bytes.length) {
-      const room = new Uint8Array(2 * (this.size + bytes.length));
-      room.set(this.bytes.subarray(0, this.size));
-      this.bytes = room;
-    }
-    this.bytes.set(bytes, this.size);
     const from = this.size;
     this.size += bytes.length;
+    this.bytes = withRoom(this.bytes, this.size);
+    this.bytes.set(bytes, from);
     this.takeLines(from);
-    if (this.done > BATCH / 2 || performance.now() - this.last > 200)
+    if (this.done > BATCH || performance.now() - this.last > 200)
       this.post();
   }
 
   /** @param {number} from */
   takeLines(from) {
     const bytes = this.bytes.subarray(0, this.size);
-    for (let end = bytes.indexOf(10, from); end >= 0; end = bytes.indexOf(10, this.done)) {
-      this.takeLine(this.done, end);
-      this.done = end + 1;
+    let at = 0;
+    for (let end = bytes.indexOf(10, from); end >= 0; end = bytes.indexOf(10, at)) {
+      this.takeLine(bytes.subarray(at, end));
+      at = end + 1;
+    }
+    if (at) {
+      bytes.copyWithin(0, at);
+      this.size -= at;
     }
   }
 
-  /** @param {number} from
-      @param {number} end */
-  takeLine(from, end) {
+  /** @param {Uint8Array} line */
+  takeLine(line) {
+    this.packed = withRoom(this.packed, this.done + line.length + 1);
+    const from = this.done, [textEnd, end] = packInto(line, this.packed, from);
     let object;
     try {
-      object = parsed(decoder.decode(this.bytes.subarray(from, end)));
+      object = parsed(decoder.decode(this.packed.subarray(from, textEnd)));
     } catch {
       return;
     }
@@ -106,24 +123,23 @@ class Output {
     if (row.association)
       this.streams.add(object);
     [row.batch, row.offset, row.size] = [this.batch, from, end - from];
+    this.done = end;
     for (const name in this.columns)
       this.columns[name].push(row[name] ?? 0);
     this.texts.push(row.text ?? '');
   }
 
-  /** Posts the whole lines; what follows them is kept. */
+  /** Posts the lines of a batch. */
   post() {
     this.last = performance.now();
     /** @type {Columns} */
     const columns = /** @type {any} */ (Object.fromEntries(Object.entries(COLUMNS).map(([name, type]) => [name, type.from(this.columns[name])])));
     const { flows, summaries, notes } = this.rows, { streams } = this;
     postMessage({
-      lines: new Blob([this.bytes.slice(0, this.done)]), columns, objects: this.objects, read: this.read,
+      lines: new Blob([compressed(this.packed.subarray(0, this.done))]), columns, objects: this.objects, read: this.read,
       flows: flows.take(), summaries: summaries.take(), notes: notes.take(),
       texts: this.texts, channels: streams.take(), unlisted: streams.unlisted,
     }, Object.values(columns).map(it => it.buffer));
-    this.bytes.copyWithin(0, this.done, this.size);
-    this.size -= this.done;
     this.batch++;
     this.clear();
   }

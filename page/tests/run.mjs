@@ -399,7 +399,9 @@ async function inBrowser(browser) {
       'chunk:init,init-ack': isIn(1, 2), '-chunk:data,sack': it => !of(it, 0).length && !of(it, 3).length,
       'stream:0': hasData(it => it.stream === 0), 'stream:1-2': hasData(it => it.stream === 1 || it.stream === 2),
       'ppid:51': hasData(it => it.ppid === 51), 'ppid:webrtc-s': hasData(it => it.ppid_name === 'WebRTC String'),
-      'tsn:1003': hasData(it => it.tsn === 1003), 'tsn:1000-1002': hasData(it => it.tsn >= 1000 && it.tsn <= 1002),
+      // (as the traffic was made: 1003 is missing before packet 9)
+      'tsn:1003': it => isIn(9, 9)(it) || hasData(its => its.tsn === 1003)(it),
+      'tsn:1000-1002': hasData(it => it.tsn >= 1000 && it.tsn <= 1002),
       'ack:1001': hasSack(it => it.cumulative_tsn === 1001), gaps: hasSack(it => it.blocks.length > 0),
       'port:9900 chunk:SACK -gaps': hasSack(it => !it.blocks.length),
       // (as the traffic was made: TSN 1003 comes after 1006, and then once more)
@@ -857,6 +859,7 @@ async function inBrowser(browser) {
   await check('the chosen row is in view, wherever it was chosen', async () => {
     const records = association(400), reset = chunk(130, 0, parameter(13, [4, 1, 0, 1399], [2, 1]));
     const long = file('long.pcap', pcap(records.toSpliced(-3, 0, [records.at(-4)[0] + 100, ip(A, B, packet(40000, 9900, 0x4d2df52d, reset))])));
+    const short = file('short.pcap', pcap(association(6)));
     /** Where the chosen row is in the room for rows, from 0 at its top to 1 at its bottom. */
     const place = () => browser.ask(`(() => {
       const room = document.getElementById('list').getBoundingClientRect(), top = room.top + document.getElementById('heads').offsetHeight;
@@ -868,7 +871,15 @@ async function inBrowser(browser) {
       const at = await place();
       assert.ok(at > 0 && at < 1, `${what}: ${at}`);
     };
-    const chosen = name => browser.ask(`${all('#story button', 'it')}.find(it => it.textContent.startsWith('${name}')).click()`);
+    const click = name => `${all('#story button', 'it')}.find(it => it.textContent.startsWith('${name}')).click()`;
+    const chosen = name => browser.ask(click(name));
+    /** Empties the list by a filter, and does something else at once. */
+    const emptied = then => `(() => {
+      const it = document.getElementById('filter');
+      it.value = 'packet:99999';
+      it.dispatchEvent(new KeyboardEvent('keydown', { key: 'Enter' }));
+      return ${then};
+    })()`;
     for (const width of [390, 1280]) {
       await browser.open(url, { width, height: 900 });
       await show(long);
@@ -886,11 +897,16 @@ async function inBrowser(browser) {
       await browser.click('#channel-rows .row:nth-child(2)');
       await isIn(`${width}: of a channel`);
       await chosen('up after');
-      // From an empty list, beside which no details are shown.
-      await filter('packet:99999');
+      // From an empty list, beside which no details are shown: once it was drawn, and before that.
+      await chosen('up after');
+      await browser.ask(emptied('new Promise(resolve => requestAnimationFrame(() => setTimeout(resolve)))'));
       await chosen('shut down');
       await titled(`Packet ${records.length + 1}`);
       await isIn(`${width}: after an empty list`);
+      await chosen('up after');
+      await browser.ask(emptied(click('shut down')));
+      await titled(`Packet ${records.length + 1}`);
+      await isIn(`${width}: after an empty list that was never drawn`);
       // By a filter that is cleared, in the middle.
       await filter('packet:200');
       await filter('');
@@ -898,6 +914,20 @@ async function inBrowser(browser) {
       await titled('Packet 200');
       const at = await place();
       assert.ok(at > 0.3 && at < 0.7, `${width}: ${at}`);
+      // What a user scrolled away stays there, whatever size the list gets; what wasn't is in view.
+      const sized = height => browser.send('Emulation.setDeviceMetricsOverride', { width, height, deviceScaleFactor: 1, mobile: false });
+      await sized(500);
+      await isIn(`${width}: a lower list`);
+      await browser.send('Input.dispatchMouseEvent', { type: 'mouseWheel', ...await browser.middle('#list'), deltaX: 0, deltaY: -20000 });
+      await browser.until("document.getElementById('list').scrollTop === 0");
+      await sized(900);
+      await wait(150);
+      assert.equal(await place(), undefined, `${width}: scrolled away`);
+      // Without the details a short list is in view as a whole, and isn't scrolled.
+      await show(short);
+      await chosen('up after');
+      await browser.ask(emptied(click('shut down')));
+      await isIn(`${width}: of a short list`);
     }
     quiet();
   });

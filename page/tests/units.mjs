@@ -2,6 +2,7 @@
 // Tries the scripts without a browser: over made lines, whose keys are those of docs/DUMP.md, and over what the program prints
 // of captures. usage: node page/tests/units.mjs
 import assert from 'node:assert/strict';
+import { spawnSync } from 'node:child_process';
 import { readdirSync, readFileSync } from 'node:fs';
 import { inspect } from 'node:util';
 import { reasonOf, sentencesOf } from '../src/answer.mjs';
@@ -18,6 +19,7 @@ import {
 import { infoOf } from '../src/info.mjs';
 import { chunkLabel, chunksLabel, fitted, groupOfRow } from '../src/labels.mjs';
 import { drawPacket, endText } from '../src/list.mjs';
+import { compressed, lineIn, packInto, uncompressed } from '../src/packed.mjs';
 import { run } from '../src/program.mjs';
 import {
   BAND, common, DOUBLED, durationText, lastAt, LEAST, longOf, partsOf, placesOf, rateOf, ROW, stepWithin, WIDEST,
@@ -290,7 +292,7 @@ each('a filter', text => {
   ['source:1-2', '11'], ['tag:0x14', '3 4 6 7 9'], ['tag:0x0A', '2 5 8'], ['tag:20', '3 4 6 7 9'], ['tag:0', '1'],
   ['address:10.0', '1 2 3 4 5 6 7 8 9'], ['address:2001:DB8:', '1 2 3 4 5 6 7 8 9'], ['address:0.0', ''],
   ['stream:1', '3'], ['stream:0-1', '3 6 7'], ['ppid:51', '3'], ['ppid:webrtc', '3 4'], ['ppid:webrtc-dcep', '4'],
-  ['ppid:99', '4'], ['tsn:0', '6 7'], ['tsn:2', '4'], ['tsn:2-4294967295', '3 4'], ['ack:4294967295', '5 8'], ['ack:0', ''],
+  ['ppid:99', '4'], ['tsn:0', '4 6 7'], ['tsn:2', '4'], ['tsn:2-4294967295', '3 4'], ['ack:4294967295', '5 8'], ['ack:0', ''],
   ['packet:0', ''], ['packet:3-5', '3 4 5'], ['packet:10', ''], ['length:40', '3'],
   ['association:1', '1 2 3 4 5 6 7 8 9'], ['association:2', '11'], ['association:1-2 tag:3', '11'],
   ['packet:4-', '4 5 6 7 8 9 11'], ['packet:>8', '9 11'], ['packet:<=2', '1 2'], ['length:<100', '3'], ['length:>=100', '1 2 4 5 6 7 8 9 11'],
@@ -305,7 +307,7 @@ each('a filter', text => {
   ['hello,sack', '5 8'],
   // (what marks and buttons say)
   ['"sent again"', '7'], ['"Fills a gap"', '6'], ['"filled a gap"', '6'], ['"gap before"', '4'], ['"SACK with gaps"', '5'], ['"wrong checksum"', '7'],
-  ['"zero checksum"', '5'], ['"cut off"', '9'], ['warning', '3'], ['-"sent again" tsn:0', '6'], ['"gap before","sent again"', '4 7'],
+  ['"zero checksum"', '5'], ['"cut off"', '9'], ['warning', '3'], ['-"sent again" tsn:0', '4 6'], ['"gap before","sent again"', '4 7'],
 ]);
 // A FORWARD-TSN is found by the TSN that it skips to, also one that is beside DATA, before and after 2^32.
 const forward = tsn => ({ chunk: 192, name: 'FORWARD-TSN', new_cumulative_tsn: tsn });
@@ -975,6 +977,53 @@ const long = storeOfText([...lines, { file: 'end' }].map(lineOf).join('\nno line
 const read = await long.objects(rowsOf(long)), noteOf = row => long.notes[long.columns.note[row]];
 each('batches', () => [long.batches.length > 1, long.count, noteOf(2999), noteOf(3000)], [[[true, 3001, textOf(2999), 'end']]]);
 each('the lines of rows', () => read.slice(0, 3000), [[lines]]);
+
+// ---- packed lines
+
+/** The text of a packed line, and the line that is made of it again. */
+function packedTexts(line) {
+  const before = 7, bytes = new TextEncoder().encode(line), room = new Uint8Array(before + bytes.length + 1);
+  const [textEnd, end] = packInto(bytes, room, before);
+  return [room.subarray(before, textEnd), lineIn(room.subarray(before, end))].map(it => new TextDecoder().decode(it));
+}
+each('a packed line', packedTexts, [
+  ['{"packet":1,"bytes":"00ff0a10","chunks":[]}', '{"packet":1,"bytes":"","chunks":[]}'], ['{"bytes":""}', '{"bytes":""}'],
+  ['{"bytes":"226279746573223a22"}', '{"bytes":""}'], ['{"bytes":"00","bytes":"11"}', '{"bytes":"","bytes":"11"}'],
+  ['{"text":"漢\\"bytes\\":\\"00","bytes":"11"}', '{"text":"漢\\"bytes\\":\\"00","bytes":""}'],
+  // (what isn't as the program prints it stays)
+  ...['', '{}', '"bytes":"', '{"bytes":"00', '{"bytes":"00f"}', '{"bytes":"00FF"}', '{"bytes":5}', '{"bytes@":"00"}'].map(it => [it, it]),
+].map(([line, text]) => [line, [text, line]]));
+
+let last = 1;
+const random = most => (last = Math.imul(last, 48271) >>> 0) % 65521 % most;
+const someOf = (count, most) => Uint8Array.from({ length: count }, () => random(most));
+/** Bytes of which the last 300 are the first ones, so many bytes before. */
+const repeating = back => someOf(back + 300, 256).copyWithin(back, 0, 300);
+const linesOfText = new TextEncoder().encode(lines.slice(0, 100).map(lineOf).join('\n'));
+each('what is compressed', content => {
+  const packed = compressed(content);
+  return [Buffer.compare(uncompressed(packed), content), packed.length <= content.length + content.length / 128 + 32];
+}, [
+  ...Array.from({ length: 40 }, (_, i) => someOf(i, 256)), ...Array.from({ length: 40 }, (_, i) => new Uint8Array(i)),
+  ...[270, 271, 525, 526, 1e6].flatMap(it => [new Uint8Array(it + 12), new Uint8Array(it + 13), someOf(it, 256), someOf(it, 2), someOf(it, 4)]),
+  ...[300, 65534, 65535, 65536, 200000].map(repeating), linesOfText,
+].map(it => [it, [0, true]]));
+each('how small', content => compressed(content).length <= content.length / 20, [[new Uint8Array(1e6), true], [linesOfText, true]]);
+/** What the tool lz4 makes of it, as a block of its older file format. */
+function byTool(content) {
+  const block = compressed(content).subarray(4), size = new Uint8Array(Uint32Array.of(block.length).buffer);
+  return spawnSync('lz4', ['-dc'], { input: Buffer.concat([Buffer.of(2, 0x21, 0x4c, 0x18), size, block]), maxBuffer: 1 << 24 }).stdout;
+}
+if (!spawnSync('lz4', ['--version']).error) {
+  each('by another program', content => Buffer.compare(byTool(content), content), [
+    ...[1, 12, 13, 300].map(it => someOf(it, 2)), new Uint8Array(1e6), someOf(1e6, 256), someOf(1e6, 4), repeating(65535), linesOfText,
+  ].map(it => [it, 0]));
+}
+// (1 literal and a match of 19 bytes; 16 literals, and a match of 4 at them; the last literals)
+each('a block', (...block) => Buffer.from(uncompressed(Uint8Array.of(...block))).toString(), [
+  [0, 0, 0, 45, 0x1f, 97, 1, 0, 0, 0xf0, 1, ...Buffer.from('0123456789abcdef'), 16, 0, 0x50, ...Buffer.from('fghij'), `${'a'.repeat(20)}0123456789abcdef0123fghij`],
+  [0, 0, 0, 0, 0, ''],
+]);
 
 // ---- texts
 
