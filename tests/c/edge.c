@@ -141,6 +141,57 @@ static void captured_lists(void)
     CHECK(init.outbound_streams == 4 && init.inbound_streams == 5);
 }
 
+/* Whole lists in one call: with room for more, for one item fewer, and for none; and of what has no such list. */
+static void whole_lists(void)
+{
+    static const uint8_t bytes[] =
+        "\x13\x88\x13\x88\1\2\3\4\0\0\0\0\3\0\0\x1c\x36\x9d\xd0\x0b\0\1\xed\x73\0\2\0\1"
+        "\0\2\0\6\0\x08\0\x08\x36\x9d\xd0\x11" /* SACK */
+        "\xc0\0\0\x0c\0\0\0\5\0\1\0\2" /* FORWARD-TSN, at 40 */
+        "\x82\0\0\x20\0\x0d\0\x14\0\0\0\1\0\0\0\2\0\0\0\3\0\4\0\5\0\x0f\0\x08\0\0\0\6" /* RE-CONFIG, at 52 */
+        "\x09\0\0\x0e\0\2\0\x0a\0\0\0\1\0\7\0"; /* ERROR, at 84; the string's zero is the padding's last byte */
+    enum { SIZE = sizeof bytes };
+    struct dcsctp_chunk sack, forward, re_config, error;
+    struct dcsctp_gap_ack_block blocks[3] = {[1] = {77, 77}, [2] = {77, 77}};
+    struct dcsctp_skipped_stream streams[2] = {[1] = {.stream = 77}};
+    struct dcsctp_parameter items[3] = {[1] = {.type = 77}, [2] = {.type = 77}};
+    uint32_t tsns[2] = {77, 77};
+    uint16_t numbers[3] = {77, 77, 77};
+    CHECK(SIZE == 100 && dcsctp_chunk_at(bytes, SIZE, 12, &sack) && dcsctp_chunk_at(bytes, SIZE, sack.next, &forward));
+    CHECK(dcsctp_chunk_at(bytes, SIZE, forward.next, &re_config) && dcsctp_chunk_at(bytes, SIZE, re_config.next, &error));
+    CHECK(error.next == SIZE);
+
+    CHECK(dcsctp_gap_ack_blocks(bytes, SIZE, &sack, NULL, 0) == 2);
+    CHECK(dcsctp_gap_ack_blocks(bytes, SIZE, &sack, blocks, 1) == 2 && blocks[0].start == 2 && blocks[0].end == 6 && blocks[1].start == 77);
+    CHECK(dcsctp_gap_ack_blocks(bytes, SIZE, &sack, blocks, 3) == 2 && blocks[1].start == 8 && blocks[1].end == 8 && blocks[2].end == 77);
+    CHECK(dcsctp_duplicate_tsns(bytes, SIZE, &sack, NULL, 0) == 1);
+    CHECK(dcsctp_duplicate_tsns(bytes, SIZE, &sack, tsns, 2) == 1 && tsns[0] == 916312081 && tsns[1] == 77);
+    CHECK(dcsctp_skipped_streams(bytes, SIZE, &forward, NULL, 0) == 1);
+    CHECK(dcsctp_skipped_streams(bytes, SIZE, &forward, streams, 2) == 1 && streams[0].stream == 1 && streams[0].ssn == 2);
+    CHECK(streams[0].mid == 0 && !streams[0].is_unordered && streams[1].stream == 77);
+
+    CHECK(dcsctp_parameters(bytes, SIZE, &re_config, NULL, 0) == 2);
+    CHECK(dcsctp_parameters(bytes, SIZE, &re_config, items, 1) == 2 && items[0].type == 13 && items[0].value_offset == 60);
+    CHECK(items[0].value_size == 16 && items[0].next == 76 && items[1].type == 77);
+    CHECK(dcsctp_parameters(bytes, SIZE, &re_config, items, 3) == 2 && items[1].type == 15 && items[1].next == 84 && items[2].type == 77);
+    CHECK(dcsctp_reset_streams(bytes, SIZE, &items[0], NULL, 0) == 2);
+    CHECK(dcsctp_reset_streams(bytes, SIZE, &items[0], numbers, 1) == 2 && numbers[0] == 4 && numbers[1] == 77);
+    CHECK(dcsctp_reset_streams(bytes, SIZE, &items[0], numbers, 3) == 2 && numbers[1] == 5 && numbers[2] == 77);
+    CHECK(dcsctp_reset_streams(bytes, SIZE, &items[1], numbers, 3) == 0 && numbers[0] == 4);
+    CHECK(dcsctp_parameters(bytes, SIZE, &error, items, 1) == 1 && items[0].type == 2 && items[0].value_size == 6);
+    CHECK(dcsctp_missing_parameters(bytes, SIZE, &items[0], NULL, 0) == 1);
+    CHECK(dcsctp_missing_parameters(bytes, SIZE, &items[0], numbers, 3) == 1 && numbers[0] == 7 && numbers[1] == 5 && numbers[2] == 77);
+    CHECK(dcsctp_missing_parameters(bytes, SIZE, &items[1], numbers, 3) == 0 && numbers[0] == 7);
+
+    /* another type, a value that is cut off, and one that lies beyond the bytes */
+    CHECK(dcsctp_gap_ack_blocks(bytes, SIZE, &forward, blocks, 3) == 0 && dcsctp_duplicate_tsns(bytes, SIZE, &error, tsns, 2) == 0);
+    CHECK(dcsctp_skipped_streams(bytes, SIZE, &sack, streams, 2) == 0 && dcsctp_parameters(bytes, SIZE, &sack, items, 3) == 0);
+    CHECK(dcsctp_gap_ack_blocks(bytes, 39, &sack, blocks, 3) == 0 && dcsctp_parameters(bytes, 83, &re_config, items, 3) == 0);
+    re_config.value_size = SIZE_MAX, items[0].value_offset = SIZE_MAX;
+    CHECK(dcsctp_parameters(bytes, SIZE, &re_config, items, 3) == 0 && dcsctp_missing_parameters(bytes, SIZE, &items[0], numbers, 3) == 0);
+    CHECK(blocks[0].start == 2 && tsns[0] == 916312081 && streams[0].stream == 1 && items[0].type == 2 && numbers[0] == 7);
+}
+
 /* One call: the header, and a row for each chunk, of which three have room here. */
 static void captured_rows(void)
 {
@@ -1134,6 +1185,7 @@ int main(void)
 {
     captured_data();
     captured_lists();
+    whole_lists();
     captured_rows();
     captured_in_place();
     captured_faults();

@@ -353,6 +353,79 @@ static void try_check(const uint8_t *bytes, size_t length, uint32_t word)
     }
 }
 
+/* Whether all are the byte that outputs are filled with: the first is, and each other is as the one before it. */
+static bool is_filled(const uint8_t *bytes, size_t size)
+{
+    return size == 0 || (bytes[0] == 0xa5 && !memcmp(bytes, bytes + 1, size - 1));
+}
+
+static bool is_block(const struct dcsctp_gap_ack_block *block, const struct dcsctp_gap_ack_block *other)
+{
+    return block->start == other->start && block->end == other->end;
+}
+
+static bool is_stream(const struct dcsctp_skipped_stream *stream, const struct dcsctp_skipped_stream *other)
+{
+    return stream->stream == other->stream && stream->ssn == other->ssn && stream->mid == other->mid
+        && stream->is_unordered == other->is_unordered;
+}
+
+static bool is_number(const uint16_t *number, const uint16_t *other)
+{
+    return *number == *other;
+}
+
+static bool is_tsn(const uint32_t *tsn, const uint32_t *other)
+{
+    return *tsn == *other;
+}
+
+static bool is_parameter(const struct dcsctp_parameter *item, const struct dcsctp_parameter *other)
+{
+    return item->type == other->type && item->value_offset == other->value_offset && item->value_size == other->value_size
+        && item->next == other->next;
+}
+
+/* The item after the one that `item` is, which has to be that before this index. */
+static bool next_parameter(const uint8_t *bytes, size_t length, const struct dcsctp_chunk *chunk, size_t index, struct dcsctp_parameter *item)
+{
+    return dcsctp_parameter_at(bytes, length, chunk, index == 0 ? dcsctp_list_offset(chunk) : item->next, item);
+}
+
+/* Writes a whole list to arrays that have more room than it needs, just enough, too little for one, and a part of it: each item is what
+   `read` reads at its index, and the rest of the array stays. */
+#define TRY_WHOLE_LIST(name, owner, type, write, read, is_same)                                                          \
+    static void name(const uint8_t *bytes, size_t length, const struct owner *of)                                        \
+    {                                                                                                                    \
+        const size_t count = write(bytes, length, of, NULL, 0);                                                          \
+        REQUIRE(count <= length / 2);                                                                                    \
+        const size_t rooms[] = {count + 1 + below(3), count, count - (count > 0), below(count + 1)};                     \
+        for (size_t i = 0; i < 4; i++) {                                                                                 \
+            size_t size = rooms[i] * sizeof(type), items = count < rooms[i] ? count : rooms[i];                          \
+            struct block block = block_of(&output_pages, size, (enum placing)below(PLACINGS));                           \
+            type found, wanted;                                                                                          \
+            memset(block.bytes, 0xa5, size);                                                                             \
+            REQUIRE(write(bytes, length, of, (type *)(void *)block.bytes, rooms[i]) == count);                           \
+            for (size_t k = 0; k < count; k++) {                                                                         \
+                REQUIRE(read(bytes, length, of, k, &wanted));                                                            \
+                if (k < items) {                                                                                         \
+                    memcpy(&found, block.bytes + k * sizeof found, sizeof found);                                        \
+                    REQUIRE(is_same(&found, &wanted));                                                                   \
+                }                                                                                                        \
+            }                                                                                                            \
+            REQUIRE(!read(bytes, length, of, count, &wanted));                                                           \
+            REQUIRE(is_filled(block.bytes + items * sizeof(type), size - items * sizeof(type)));                         \
+            release(block);                                                                                              \
+        }                                                                                                                \
+    }
+
+TRY_WHOLE_LIST(try_all_blocks, dcsctp_chunk, struct dcsctp_gap_ack_block, dcsctp_gap_ack_blocks, dcsctp_gap_ack_block, is_block)
+TRY_WHOLE_LIST(try_all_tsns, dcsctp_chunk, uint32_t, dcsctp_duplicate_tsns, dcsctp_duplicate_tsn, is_tsn)
+TRY_WHOLE_LIST(try_all_skipped, dcsctp_chunk, struct dcsctp_skipped_stream, dcsctp_skipped_streams, dcsctp_skipped_stream, is_stream)
+TRY_WHOLE_LIST(try_all_parameters, dcsctp_chunk, struct dcsctp_parameter, dcsctp_parameters, next_parameter, is_parameter)
+TRY_WHOLE_LIST(try_all_reset, dcsctp_parameter, uint16_t, dcsctp_reset_streams, dcsctp_reset_stream, is_number)
+TRY_WHOLE_LIST(try_all_missing, dcsctp_parameter, uint16_t, dcsctp_missing_parameters, dcsctp_missing_parameter, is_number)
+
 static void try_skipped_streams(const uint8_t *bytes, size_t length, const struct dcsctp_chunk *chunk, const uint8_t *value, size_t size)
 {
     bool by_mid = chunk->type == DCSCTP_CHUNK_I_FORWARD_TSN;
@@ -415,6 +488,8 @@ static void try_item(const uint8_t *bytes, size_t length, const struct dcsctp_pa
         REQUIRE(!dcsctp_reset_stream(bytes, length, item, streams + more[i], &stream) && stream == 77);
         REQUIRE(!dcsctp_missing_parameter(bytes, length, item, types + more[i], &found_type) && found_type == 77);
     }
+    try_all_reset(bytes, length, item);
+    try_all_missing(bytes, length, item);
 }
 
 /* Reads the item at an offset; whether one is there. */
@@ -547,7 +622,11 @@ static void try_parts(const uint8_t *bytes, size_t length, const struct dcsctp_c
     tsn = 77;
     REQUIRE(dcsctp_shutdown(bytes, length, chunk, &tsn) == is_shutdown && tsn == (is_shutdown ? u32(value) : 77));
     try_skipped_streams(bytes, length, chunk, value, size);
+    try_all_blocks(bytes, length, chunk);
+    try_all_tsns(bytes, length, chunk);
+    try_all_skipped(bytes, length, chunk);
     try_list(bytes, length, chunk, is_there);
+    try_all_parameters(bytes, length, chunk);
 }
 
 static void try_walk(const uint8_t *bytes, size_t length)
@@ -588,12 +667,6 @@ static void try_walk(const uint8_t *bytes, size_t length)
             continue;
         REQUIRE(other.value_offset <= length && other.value_size <= length - other.value_offset && other.next <= length);
     }
-}
-
-/* Whether all are the byte that outputs are filled with: the first is, and each other is as the one before it. */
-static bool is_filled(const uint8_t *bytes, size_t size)
-{
-    return size == 0 || (bytes[0] == 0xa5 && !memcmp(bytes, bytes + 1, size - 1));
 }
 
 /* The row of a chunk, of what the functions for its type write. */

@@ -125,7 +125,7 @@ value_there bytes c value h =
     (leb-true ends (length bytes) found.0, found.1)
 
 -- its bytes are bytes
-value_bytes : (bytes : List ℕ) (c : DcsctpChunk) (value : List ℕ) → AreBytes bytes
+pub value_bytes : (bytes : List ℕ) (c : DcsctpChunk) (value : List ℕ) → AreBytes bytes
     → value_at bytes c ≡ Some value → AreBytes value
 value_bytes bytes c value fits h = subst AreBytes (value_there bytes c value h).1 part_fits where
   part_fits : AreBytes (part bytes c.value_offset c.value_size)

@@ -1,7 +1,7 @@
 -- Items that follow one another, as a loop goes over them and writes a struct for each that has room.
 use Rattle.std.proofs.{Common.{◌≡◌, ◌∙◌, ◌+◌, ◌≤◌, ℕ, List, [], ◌∷◌, ◌++◌, Option, length, take, drop, set, refl, sym, ap, subst, inl, inr, arith, append_assoc, append-nil, length-append, length-take, drop-drop, drop-set-lt, take_all}, lemmas.Bool.{cases_lt}, lemmas.List.{set_past, take_more_set}}
 use Rattle.dcsctp_tlv.specs.Level.{Row, Level, MeansTrees}
-use Rattle.dcsctp_c.specs.{Part.{ValueMeans, MeansFirst}, Walk.{AreFrom, MeanEach}}
+use Rattle.dcsctp_c.specs.{Part.{ValueMeans, MeansFirst}, Walk.{AreFrom, end_of, MeanEach}}
 
 -- ---- what was written
 
@@ -28,17 +28,12 @@ others_stay ss old count s same =
 
 -- ---- where they are
 
--- where the item after these is
-abbrev pub end_of : {S : Type 0} → (S → ℕ) → ℕ → List S → ℕ
-end_of next offset [] = offset
-end_of next offset (s ∷ ss) = end_of next (next s) ss
-
-end_last : {S : Type 0} (next : S → ℕ) (offset : ℕ) (ss : List S) (s : S)
+pub end_last : {S : Type 0} (next : S → ℕ) (offset : ℕ) (ss : List S) (s : S)
     → end_of next offset (ss ++ s ∷ []) ≡ next s
 end_last next offset [] s = refl
 end_last next offset (r ∷ ss) s = end_last next (next r) ss s
 
-last_at : {S : Type 0} (IsAt : ℕ → S → Type 0) (next : S → ℕ) (offset : ℕ) (ss : List S) (s : S)
+pub last_at : {S : Type 0} (IsAt : ℕ → S → Type 0) (next : S → ℕ) (offset : ℕ) (ss : List S) (s : S)
     → AreFrom IsAt next offset ss → IsAt (end_of next offset ss) s
     → AreFrom IsAt next offset (ss ++ s ∷ [])
 last_at IsAt next offset [] s are here = (here, tt)
@@ -71,13 +66,13 @@ walk_goes_on IsAt next start old new count offset s w here (no_room few is) = re
 
 -- ---- what they mean
 
-more_trees : {S T : Type 0} (Means : S → T → Type 0) (ss : List S) (ts us : List T)
+pub more_trees : {S T : Type 0} (Means : S → T → Type 0) (ss : List S) (ts us : List T)
     → MeanEach Means ss ts → MeanEach Means ss (ts ++ us)
 more_trees Means [] ts us m = tt
 more_trees Means (s ∷ ss) [] us m = absurd m
 more_trees Means (s ∷ ss) (t ∷ ts) us m = (m.0, more_trees Means ss ts us m.1)
 
-last_means : {S T : Type 0} (Means : S → T → Type 0) (ss : List S) (ts : List T) (s : S) (t : T)
+pub last_means : {S T : Type 0} (Means : S → T → Type 0) (ss : List S) (ts : List T) (s : S) (t : T)
     → MeanEach Means ss ts → length ts ≡ length ss → Means s t
     → MeanEach Means (ss ++ s ∷ []) (ts ++ t ∷ [])
 last_means Means [] [] s t m same here = (here, tt)

@@ -1,4 +1,5 @@
 pub mod Code
+pub mod Fill
 pub mod Output
 pub mod Parameter
 pub mod Part

@@ -8,6 +8,11 @@ abbrev pub AreFrom : {S : Type 0} → (ℕ → S → Type 0) → (S → ℕ) →
 AreFrom IsAt next offset [] = Unit {0}
 AreFrom IsAt next offset (s ∷ ss) = IsAt offset s × AreFrom IsAt next (next s) ss
 
+-- where the next item is after these, the first of which is at an offset
+abbrev pub end_of : {S : Type 0} → (S → ℕ) → ℕ → List S → ℕ
+end_of next offset [] = offset
+end_of next offset (s ∷ ss) = end_of next (next s) ss
+
 -- The structs mean these trees, one for one. There may be more trees.
 abbrev pub MeanEach : {S T : Type 0} → (S → T → Type 0) → List S → List T → Type 0
 MeanEach Means [] trees = Unit {0}

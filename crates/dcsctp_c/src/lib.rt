@@ -7,6 +7,7 @@
 #![tactic(auto)]
 
 mod codes;
+mod fill;
 mod in_place;
 mod lists;
 mod packet;

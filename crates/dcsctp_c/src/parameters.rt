@@ -1,7 +1,7 @@
 //! The parameters and the error causes of a chunk: where they begin, one after the other, and what
 //! they hold.
 
-ghost use Rattle.std.specs.Prelude.{◌≡◌, ◌↔◌, ◌+◌, ◌^◌, ◌<◌, ◌≤◌, ℕ, List, IsTrue, Some, false, length, drop, option_map};
+ghost use Rattle.std.specs.Prelude.{◌≡◌, ◌↔◌, ◌+◌, ◌^◌, ◌<◌, ◌≤◌, ℕ, List, IsTrue, IsSome, IfSome, Some, false, length, drop, option_map};
 ghost use Rattle.dcsctp_tlv.specs.{Frame.{BeginsWithFrame}, Parameter.{ParameterTree}};
 ghost use Rattle.dcsctp_cause.specs.Cause.{CauseTree};
 ghost use Rattle.dcsctp_wire.specs.Chunk.{ChunkTree};
@@ -53,22 +53,10 @@ pub extern "C" fn dcsctp_parameter_at(
     ensures read { IsTrue result → IsParameterAt bytes.now chunk.now offset parameter.new }
     ensures stays { result ≡ false → parameter.new ≡ parameter.old }
 {
-    let Some(list) = value_of(bytes, chunk) else {
+    let Some(found) = parameter_at(bytes, chunk, offset) else {
         return false;
     };
-    if offset < chunk.value_offset || offset - chunk.value_offset > list.len() {
-        return false;
-    }
-    let (_, from) = list.split_at(offset - chunk.value_offset);
-    let Ok((value, rest)) = split_frame(from) else {
-        return false;
-    };
-    *parameter = DcsctpParameter {
-        typ: read_u16_be(from),
-        value_offset: offset + TLV_HEADER_SIZE,
-        value_size: value.len(),
-        next: chunk.value_offset + (list.len() - rest.len()),
-    };
+    *parameter = found;
     true
 }
 
@@ -96,6 +84,32 @@ pub extern "C" fn dcsctp_number(bytes: &[u8], parameter: &DcsctpParameter, numbe
 }
 
 // ---- helpers
+
+/// Reads the parameter or the error cause at an offset.
+#[inline(always)]
+pub(crate) fn parameter_at(
+    bytes: &[u8],
+    chunk: &DcsctpChunk,
+    offset: usize,
+) -> Option<DcsctpParameter>
+    ensures there { IsSome result ↔ BeginsWithFrame (value_from bytes.now chunk.now offset) }
+    ensures read { IfSome result (λ found. IsParameterAt bytes.now chunk.now offset found) }
+{
+    let list = value_of(bytes, chunk)?;
+    if offset < chunk.value_offset || offset - chunk.value_offset > list.len() {
+        return None;
+    }
+    let (_, from) = list.split_at(offset - chunk.value_offset);
+    let Ok((value, rest)) = split_frame(from) else {
+        return None;
+    };
+    Some(DcsctpParameter {
+        typ: read_u16_be(from),
+        value_offset: offset + TLV_HEADER_SIZE,
+        value_size: value.len(),
+        next: chunk.value_offset + (list.len() - rest.len()),
+    })
+}
 
 /// Returns where the parameters or the error causes begin in a value of this type and size: at its
 /// end where it has no place for them.

@@ -354,7 +354,7 @@ pub(crate) fn data_in(chunk: &DcsctpChunk, value: &[u8]) -> Option<DcsctpData>
 
 /// Returns the SACK where it lies.
 #[inline(always)]
-fn sack_ref<'a>(bytes: &'a [u8], chunk: &DcsctpChunk) -> Option<SackRef<'a>>
+pub(crate) fn sack_ref<'a>(bytes: &'a [u8], chunk: &DcsctpChunk) -> Option<SackRef<'a>>
     ensures read { result ≡ sack_at bytes.now chunk.now }
     ensures means { (tree : ChunkTree) → ChunkMeans bytes.now chunk.now tree
         → sack_at bytes.now chunk.now ≡ sack_of tree }
@@ -471,7 +471,7 @@ pub(crate) fn read_number(value: &[u8]) -> Option<u32>
 
 /// Returns the FORWARD-TSN or I-FORWARD-TSN where it lies.
 #[inline(always)]
-fn forward_ref<'a>(bytes: &'a [u8], chunk: &DcsctpChunk) -> Option<ForwardTsnRef<'a>>
+pub(crate) fn forward_ref<'a>(bytes: &'a [u8], chunk: &DcsctpChunk) -> Option<ForwardTsnRef<'a>>
     ensures read { result ≡ forward_at bytes.now chunk.now }
     ensures means { (tree : ChunkTree) → ChunkMeans bytes.now chunk.now tree
         → forward_at bytes.now chunk.now ≡ forward_of tree }
@@ -511,7 +511,7 @@ fn read_skipped(bytes: &[u8], chunk: &DcsctpChunk, index: usize) -> Option<Dcsct
 
 /// Returns the stream as its struct.
 #[inline(always)]
-fn skipped_stream_of(stream: SkippedStream) -> DcsctpSkippedStream
+pub(crate) fn skipped_stream_of(stream: SkippedStream) -> DcsctpSkippedStream
     ensures { HoldsSkipped (skipped_stream_view stream) result }
 {
     match stream {

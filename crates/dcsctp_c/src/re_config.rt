@@ -205,7 +205,7 @@ fn empty(typ: u16) -> DcsctpReConfig
 
 /// Returns the streams of an Outgoing or Incoming SSN Reset Request where they lie.
 #[inline(always)]
-fn reset_streams<'a>(bytes: &'a [u8], parameter: &DcsctpParameter) -> Option<Numbers<'a>>
+pub(crate) fn reset_streams<'a>(bytes: &'a [u8], parameter: &DcsctpParameter) -> Option<Numbers<'a>>
     ensures read { result
         ≡ option_and_then reset_streams (re_config_at bytes.now parameter.now) }
     ensures means { (tree : ParameterTree) → ParameterMeans bytes.now parameter.now tree
@@ -221,7 +221,7 @@ fn reset_streams<'a>(bytes: &'a [u8], parameter: &DcsctpParameter) -> Option<Num
 
 /// Returns the missing types where they lie.
 #[inline(always)]
-fn missing<'a>(bytes: &'a [u8], cause: &DcsctpParameter) -> Option<Numbers<'a>>
+pub(crate) fn missing<'a>(bytes: &'a [u8], cause: &DcsctpParameter) -> Option<Numbers<'a>>
     ensures read { result ≡ missing_at bytes.now cause.now }
     ensures means { (tree : CauseTree) → CauseMeans bytes.now cause.now tree
         → missing_at bytes.now cause.now ≡ missing_of tree }

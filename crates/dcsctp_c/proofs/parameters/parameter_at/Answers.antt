@@ -1,10 +1,10 @@
 use Rattle.std.proofs.Common.{arith}
 use Rattle.dcsctp_c.proofs.Places.{parameter_there}
-use Rattle.dcsctp_c.proofs.parameters.dcsctp_parameter_at.Goals as goal
+use Rattle.dcsctp_c.proofs.parameters.parameter_at.Goals as goal
 
 pub returns-clause-read : goal.returns-clause-read
-returns-clause-read c found =
-    let frame = rw c.split_at.ensures.back at c.in-Ok.ensures.frame.0 found in
+returns-clause-read c =
+    let frame = rw c.split_at.ensures.back at c.in-Ok.ensures.frame.0 refl in
     let value = rw c.split_at.ensures.back at c.in-Ok.ensures.value in
     let rest = rw c.split_at.ensures.back at c.in-Ok.ensures.rest in
     let typ = rw c.split_at.ensures.back at c.read_u16_be.ensures in
