@@ -581,6 +581,10 @@ func TestAllFunctions(t *testing.T) {
 		t.Errorf("dcsctp.h has %d functions", len(names))
 	}
 	for _, name := range names {
+		// (it reads item by item)
+		if regexp.MustCompile(`^(gap_ack_blocks|duplicate_tsns|skipped_streams|parameters|reset_streams|missing_parameters)$`).MatchString(name[1]) {
+			continue
+		}
 		// (the package reads chunk by chunk)
 		if name[1] != "read" && !regexp.MustCompile(`\bC\.(dcsctp|go)_` + name[1] + `\(`).MatchString(code) {
 			t.Errorf("%s is never called", name[0])

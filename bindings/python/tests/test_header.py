@@ -40,6 +40,7 @@ def header() -> str:
 
 # (the package reads chunk by chunk, without dcsctp_read)
 HEADER = re.sub(r"^struct dcsctp_(?:row|packet) \{.*?^\};|^\w+ dcsctp_read\([^)]*\);", "", header(), flags=re.MULTILINE | re.DOTALL)
+HEADER = re.sub(r"^size_t dcsctp_(?:gap_ack_blocks|duplicate_tsns|skipped_streams|parameters|reset_streams|missing_parameters)\([^)]*\);", "", HEADER, flags=re.MULTILINE)
 
 
 def camel(name: str) -> str:

@@ -15,6 +15,12 @@ fn without_comments(text: &str) -> String {
         ("struct dcsctp_row {", "};"),
         ("struct dcsctp_packet {", "};"),
         ("uint32_t dcsctp_read(", ");"),
+        ("size_t dcsctp_gap_ack_blocks(", ");"),
+        ("size_t dcsctp_duplicate_tsns(", ");"),
+        ("size_t dcsctp_skipped_streams(", ");"),
+        ("size_t dcsctp_parameters(", ");"),
+        ("size_t dcsctp_reset_streams(", ");"),
+        ("size_t dcsctp_missing_parameters(", ");"),
     ] {
         let at = text.find(begin).unwrap();
         let size = text[at..].find(end).unwrap() + end.len();
