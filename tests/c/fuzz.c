@@ -400,7 +400,7 @@ static bool next_parameter(const uint8_t *bytes, size_t length, const struct dcs
         const size_t count = write(bytes, length, of, NULL, 0);                                                          \
         REQUIRE(count <= length / 2);                                                                                    \
         const size_t rooms[] = {count + 1 + below(3), count, count - (count > 0), below(count + 1)};                     \
-        for (size_t i = 0; i < 4; i++) {                                                                                 \
+        for (size_t i = 0; i < (count ? 4 : 1); i++) {                                                                   \
             size_t size = rooms[i] * sizeof(type), items = count < rooms[i] ? count : rooms[i];                          \
             struct block block = block_of(&output_pages, size, (enum placing)below(PLACINGS));                           \
             type found, wanted;                                                                                          \
