@@ -94,7 +94,7 @@ from_bytes bytes c offset fits =
     past : (k : ℕ) (xs : List ℕ) → length xs ≤ k → (i : ℕ) → get_or (drop k xs) i 0 < 256
     past k xs le i =
         subst (λ (n : ℕ). n < 256)
-        (sym (get_or_past (drop k xs) i 0 (omega (arith, length-drop k xs, le)))) (omega arith)
+        (sym (get_or_past {X = ℕ} (drop k xs) i 0 (omega (arith, length-drop k xs, le)))) (omega arith)
 
     in_value : (test : Bool) (k : ℕ) (o : Option (List ℕ))
         → ((value : List ℕ) → o ≡ Some value → AreBytes value)
@@ -106,9 +106,9 @@ from_bytes bytes c offset fits =
 -- bytes that begin no frame mean no tree
 none_meant : {T : Type 0} (level : Level T) (bytes : List ℕ) → AreBytes bytes
     → (BeginsWithFrame bytes → ⊥) → (ts : List T) → MeansTrees level bytes ts → ts ≡ []
-none_meant level [] fits no ts m = none_left level [] refl ts m
-none_meant level (b ∷ bs) fits no ts m =
-    absurd (no (front level (b ∷ bs) ((ts, m), fits) (λ e. cc)).frame)
+none_meant level [] fits begins ts m = none_left level [] refl ts m
+none_meant level (b ∷ bs) fits begins ts m =
+    absurd (begins (front level (b ∷ bs) ((ts, m), fits) (λ e. cc)).frame)
 
 -- The trees of the bytes from an offset on are those of the items.
 pub all_mean : {T : Type 0} (level : Level T) (row : DcsctpParameter → Row T) (bytes : List ℕ)

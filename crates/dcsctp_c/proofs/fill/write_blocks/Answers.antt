@@ -24,5 +24,5 @@ loop-index-preserved c =
 pub returns : goal.returns
 returns c =
     let end = c.loop-index.invariant in
-    fills_all Holds c.args.blocks.now c.args.sack.now.blocks c.loop-index.blocks c.gap_ack_block_count.result c.loop-index.index
-    c.gap_ack_block_count.ensures end.size end.few end.room (λ lt. omega (arith, lt)) end.fills
+    fills_all Holds c.args.blocks.now c.args.sack.now.blocks c.loop-index.blocks c.gap_ack_block_count-count.result c.loop-index.index
+    c.gap_ack_block_count-count.ensures end.size end.few end.room (λ lt. omega (arith, lt)) end.fills

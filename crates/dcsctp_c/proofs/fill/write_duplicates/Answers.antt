@@ -24,5 +24,5 @@ loop-index-preserved c =
 pub returns : goal.returns
 returns c =
     let end = c.loop-index.invariant in
-    fills_all Holds c.args.tsns.now c.args.sack.now.duplicates c.loop-index.tsns c.duplicate_tsn_count.result c.loop-index.index
-    c.duplicate_tsn_count.ensures end.size end.few end.room (λ lt. omega (arith, lt)) end.fills
+    fills_all Holds c.args.tsns.now c.args.sack.now.duplicates c.loop-index.tsns c.duplicate_tsn_count-count.result c.loop-index.index
+    c.duplicate_tsn_count-count.ensures end.size end.few end.room (λ lt. omega (arith, lt)) end.fills

@@ -24,5 +24,5 @@ loop-index-preserved c =
 pub returns : goal.returns
 returns c =
     let end = c.loop-index.invariant in
-    fills_all Holds c.args.output.now c.args.numbers.now c.loop-index.output c.count.result c.loop-index.index
-    c.count.ensures end.size end.few end.room (λ lt. omega (arith, lt)) end.fills
+    fills_all Holds c.args.output.now c.args.numbers.now c.loop-index.output c.count-count.result c.loop-index.index
+    c.count-count.ensures end.size end.few end.room (λ lt. omega (arith, lt)) end.fills

@@ -24,5 +24,5 @@ loop-index-preserved c =
 pub returns : goal.returns
 returns c =
     let end = c.loop-index.invariant in
-    fills_all HoldsSkipped c.args.skipped_streams.now c.args.forward.now.streams c.loop-index.skipped_streams c.skipped_stream_count.result c.loop-index.index
-    c.skipped_stream_count.ensures end.size end.few end.room (λ lt. omega (arith, lt)) end.fills
+    fills_all HoldsSkipped c.args.skipped_streams.now c.args.forward.now.streams c.loop-index.skipped_streams c.skipped_stream_count-count.result c.loop-index.index
+    c.skipped_stream_count-count.ensures end.size end.few end.room (λ lt. omega (arith, lt)) end.fills

@@ -1,4 +1,4 @@
-use Rattle.std.proofs.Common.{arith}
+use Rattle.std.proofs.Common.{arith, refl}
 use Rattle.dcsctp_c.proofs.Places.{parameter_there}
 use Rattle.dcsctp_c.proofs.parameters.parameter_at.Goals as goal
 
