@@ -21,11 +21,12 @@ module _ {T S : Type 0} (Keeps : T → S → Type 0) (old : List S) where
     after = others_stay now old count s f.after;
   } where
     last : Adds (take count now) (take (count + 1) (set now count s)) count s
-        → MeanEach (λ (r : S) (u : T). Keeps u r) (take (count + 1) (set now count s)) (ts ++ t ∷ [])
+        → MeanEach (λ (r : S) (u : T). Keeps u r) (take (count + 1) (set now count s))
+        (ts ++ t ∷ [])
     last (has_room size is) =
         subst (λ (ss : List S). MeanEach (λ (r : S) (u : T). Keeps u r) ss (ts ++ t ∷ [])) (sym is)
-        (last_means (λ (r : S) (u : T). Keeps u r) (take count now) ts s t f.each (sym f.number ∙ sym size)
-        here)
+        (last_means (λ (r : S) (u : T). Keeps u r) (take count now) ts s t f.each
+        (sym f.number ∙ sym size) here)
     last (no_room few is) =
         subst (λ (ss : List S). MeanEach (λ (r : S) (u : T). Keeps u r) ss (ts ++ t ∷ [])) (sym is)
         (more_trees (λ (r : S) (u : T). Keeps u r) (take count now) ts (t ∷ []) f.each)
@@ -50,9 +51,11 @@ module _ {T S : Type 0} (Keeps : T → S → Type 0) (old : List S) where
         let at : length now ≤ count = omega (arith, end, lt) in
         record {
           number = same;
-          each = subst (λ (us : List T). MeanEach (λ (r : S) (u : T). Keeps u r) (take count now) us)
+          each = subst (λ (us : List T). MeanEach (λ (r : S) (u : T). Keeps u r) (take count now)
+              us)
               (take-append-drop index ts)
-              (more_trees (λ (r : S) (u : T). Keeps u r) (take count now) (take index ts) (drop index ts)
+              (more_trees (λ (r : S) (u : T). Keeps u r) (take count now) (take index ts)
+              (drop index ts)
               (subst (λ (ss : List S). MeanEach (λ (r : S) (u : T). Keeps u r) ss (take index ts))
               (take_all index now end ∙ sym (take_all count now at)) f.each));
           after = drop_all count now at ∙ sym (drop_all count old (omega (arith, at, size)));
@@ -94,7 +97,8 @@ from_bytes bytes c offset fits =
     past : (k : ℕ) (xs : List ℕ) → length xs ≤ k → (i : ℕ) → get_or (drop k xs) i 0 < 256
     past k xs le i =
         subst (λ (n : ℕ). n < 256)
-        (sym (get_or_past {X = ℕ} (drop k xs) i 0 (omega (arith, length-drop k xs, le)))) (omega arith)
+        (sym (get_or_past {X = ℕ} (drop k xs) i 0 (omega (arith, length-drop k xs, le))))
+        (omega arith)
 
     in_value : (test : Bool) (k : ℕ) (o : Option (List ℕ))
         → ((value : List ℕ) → o ≡ Some value → AreBytes value)
@@ -122,12 +126,12 @@ pub all_mean : {T : Type 0} (level : Level T) (row : DcsctpParameter → Row T) 
     × MeanEach (λ (q : DcsctpParameter). ValueMeans (row q) (parameter_value bytes q)) all ts
 all_mean {T} level row bytes c fits first start [] a ts m =
     let none = none_meant level (value_from bytes c start) (from_bytes bytes c start fits) a.end ts
-        m in
+    m in
     (sym (ap length none), tt)
 all_mean {T} level row bytes c fits first start (p ∷ ps) a ts m =
     let f = first start p a.are.0 ts m in
     let others = all_mean level row bytes c fits first p.next ps
-        (record { are = a.are.1; end = a.end }) f.1 f.4 in
+    (record { are = a.are.1; end = a.end }) f.1 f.4 in
     subst (λ (us : List T). (length (p ∷ ps) ≡ length us)
     × MeanEach (λ (q : DcsctpParameter). ValueMeans (row q) (parameter_value bytes q)) (p ∷ ps) us)
     (sym f.2) (omega (arith, others.0), (f.3, others.1))
@@ -151,7 +155,8 @@ pub one_more : (bytes : List ℕ) (c : DcsctpChunk) (start : ℕ) (old now : Lis
     → Written bytes c start old (set now count p) (count + 1) p.next
 one_more bytes c start old now count offset p before here = record {
   done = before.done ++ p ∷ [];
-  are = last_at (IsParameterAt bytes c) (λ (q : DcsctpParameter). q.next) start before.done p before.are
+  are = last_at (IsParameterAt bytes c) (λ (q : DcsctpParameter). q.next) start before.done p
+      before.are
       (subst (λ (n : ℕ). IsParameterAt bytes c n p) (sym before.ends) here);
   ends = end_last (λ (q : DcsctpParameter). q.next) start before.done p;
   fills = fills_more Holds old before.done now count p p before.fills refl;

@@ -123,9 +123,9 @@ pub extern "C" fn dcsctp_missing_parameters(
 }
 
 /// Writes the parameters (RFC 9260 section 3.2.1) or the error causes (section 3.3.10) of a chunk,
-/// each as `dcsctp_parameter_at` reads it, as many as have room. Returns how many follow one another
-/// from `dcsctp_list_offset` on: 0 if the chunk's type has none, or its value does not lie within
-/// the bytes. The rest of `parameters` stays.
+/// each as `dcsctp_parameter_at` reads it, as many as have room. Returns how many there are from
+/// the offset of `dcsctp_list_offset` on: 0 if the chunk's type has none, or its value does not lie
+/// within the bytes. The rest of `parameters` stays.
 #[unsafe(no_mangle)]
 pub extern "C" fn dcsctp_parameters(
     bytes: &[u8],

@@ -15,14 +15,20 @@ loop-index-preserved c =
     let before = c.loop-index.invariant in
     record {
       few = omega arith;
-      room = omega (arith, length-set c.loop-index.blocks c.loop-index.index c.gap_ack_block.result);
+      room = omega (
+        arith,
+        length-set c.loop-index.blocks c.loop-index.index
+            c.gap_ack_block.result,
+      );
       size = length-set c.loop-index.blocks c.loop-index.index c.gap_ack_block.result ∙ before.size;
-      fills = fills_next Holds c.args.blocks.now c.args.sack.now.blocks c.loop-index.blocks c.loop-index.index
+      fills = fills_next Holds c.args.blocks.now c.args.sack.now.blocks c.loop-index.blocks
+          c.loop-index.index
           _ c.gap_ack_block.result before.fills c.gap_ack_block.ensures refl;
     }
 
 pub returns : goal.returns
 returns c =
     let end = c.loop-index.invariant in
-    fills_all Holds c.args.blocks.now c.args.sack.now.blocks c.loop-index.blocks c.gap_ack_block_count-count.result c.loop-index.index
-    c.gap_ack_block_count-count.ensures end.size end.few end.room (λ lt. omega (arith, lt)) end.fills
+    fills_all Holds c.args.blocks.now c.args.sack.now.blocks c.loop-index.blocks
+    c.gap_ack_block_count-count.result c.loop-index.index c.gap_ack_block_count-count.ensures
+    end.size end.few end.room (λ lt. omega (arith, lt)) end.fills

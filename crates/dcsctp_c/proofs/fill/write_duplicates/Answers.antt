@@ -15,14 +15,20 @@ loop-index-preserved c =
     let before = c.loop-index.invariant in
     record {
       few = omega arith;
-      room = omega (arith, length-set c.loop-index.tsns c.loop-index.index c.duplicate_tsn.result.0);
+      room = omega (
+        arith,
+        length-set c.loop-index.tsns c.loop-index.index
+            c.duplicate_tsn.result.0,
+      );
       size = length-set c.loop-index.tsns c.loop-index.index c.duplicate_tsn.result.0 ∙ before.size;
-      fills = fills_next Holds c.args.tsns.now c.args.sack.now.duplicates c.loop-index.tsns c.loop-index.index
+      fills = fills_next Holds c.args.tsns.now c.args.sack.now.duplicates c.loop-index.tsns
+          c.loop-index.index
           _ c.duplicate_tsn.result.0 before.fills c.duplicate_tsn.ensures refl;
     }
 
 pub returns : goal.returns
 returns c =
     let end = c.loop-index.invariant in
-    fills_all Holds c.args.tsns.now c.args.sack.now.duplicates c.loop-index.tsns c.duplicate_tsn_count-count.result c.loop-index.index
-    c.duplicate_tsn_count-count.ensures end.size end.few end.room (λ lt. omega (arith, lt)) end.fills
+    fills_all Holds c.args.tsns.now c.args.sack.now.duplicates c.loop-index.tsns
+    c.duplicate_tsn_count-count.result c.loop-index.index c.duplicate_tsn_count-count.ensures
+    end.size end.few end.room (λ lt. omega (arith, lt)) end.fills

@@ -17,12 +17,14 @@ loop-index-preserved c =
       few = omega arith;
       room = omega (arith, length-set c.loop-index.output c.loop-index.index c.number.result);
       size = length-set c.loop-index.output c.loop-index.index c.number.result ∙ before.size;
-      fills = fills_next Holds c.args.output.now c.args.numbers.now c.loop-index.output c.loop-index.index
+      fills = fills_next Holds c.args.output.now c.args.numbers.now c.loop-index.output
+          c.loop-index.index
           _ c.number.result before.fills c.number.ensures refl;
     }
 
 pub returns : goal.returns
 returns c =
     let end = c.loop-index.invariant in
-    fills_all Holds c.args.output.now c.args.numbers.now c.loop-index.output c.count-count.result c.loop-index.index
-    c.count-count.ensures end.size end.few end.room (λ lt. omega (arith, lt)) end.fills
+    fills_all Holds c.args.output.now c.args.numbers.now c.loop-index.output c.count-count.result
+    c.loop-index.index c.count-count.ensures end.size end.few end.room (λ lt. omega (arith, lt))
+    end.fills

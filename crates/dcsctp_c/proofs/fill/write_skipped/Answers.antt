@@ -15,14 +15,23 @@ loop-index-preserved c =
     let before = c.loop-index.invariant in
     record {
       few = omega arith;
-      room = omega (arith, length-set c.loop-index.skipped_streams c.loop-index.index c.skipped_stream_of.result);
-      size = length-set c.loop-index.skipped_streams c.loop-index.index c.skipped_stream_of.result ∙ before.size;
-      fills = fills_next HoldsSkipped c.args.skipped_streams.now c.args.forward.now.streams c.loop-index.skipped_streams c.loop-index.index
-          _ c.skipped_stream_of.result before.fills c.skipped_stream.ensures c.skipped_stream_of.ensures;
+      room = omega (
+        arith,
+        length-set c.loop-index.skipped_streams c.loop-index.index
+            c.skipped_stream_of.result,
+      );
+      size = length-set c.loop-index.skipped_streams c.loop-index.index c.skipped_stream_of.result
+          ∙ before.size;
+      fills = fills_next HoldsSkipped c.args.skipped_streams.now c.args.forward.now.streams
+          c.loop-index.skipped_streams c.loop-index.index
+          _ c.skipped_stream_of.result before.fills c.skipped_stream.ensures
+          c.skipped_stream_of.ensures;
     }
 
 pub returns : goal.returns
 returns c =
     let end = c.loop-index.invariant in
-    fills_all HoldsSkipped c.args.skipped_streams.now c.args.forward.now.streams c.loop-index.skipped_streams c.skipped_stream_count-count.result c.loop-index.index
-    c.skipped_stream_count-count.ensures end.size end.few end.room (λ lt. omega (arith, lt)) end.fills
+    fills_all HoldsSkipped c.args.skipped_streams.now c.args.forward.now.streams
+    c.loop-index.skipped_streams c.skipped_stream_count-count.result c.loop-index.index
+    c.skipped_stream_count-count.ensures end.size end.few end.room (λ lt. omega (arith, lt))
+    end.fills

@@ -7,5 +7,6 @@ invariant-loop-index l = record {
   few : l.index ≤ l.count;
   room : l.index ≤ length l.skipped_streams;
   size : length l.skipped_streams ≡ length l.initial.skipped_streams;
-  fills : Fills HoldsSkipped (take l.index l.forward.streams) l.initial.skipped_streams l.skipped_streams l.index;
+  fills : Fills HoldsSkipped (take l.index l.forward.streams) l.initial.skipped_streams
+      l.skipped_streams l.index;
 }

@@ -8,6 +8,6 @@ returns-clause-read c =
     let value = rw c.split_at.ensures.back at c.in-Ok.ensures.value in
     let rest = rw c.split_at.ensures.back at c.in-Ok.ensures.rest in
     let typ = rw c.split_at.ensures.back at c.read_u16_be.ensures in
-    parameter_there c.args.bytes.now c.args.chunk.now c.in-Some.list.now c.args.offset
+    parameter_there c.args.bytes.now c.args.chunk.now c.in_ok-list.list.now c.args.offset
     c.read_u16_be.result c.in-Ok.value.now c.in-Ok.rest.now (λ i. (c.type_inv.bytes i).fits)
-    c.in-Some.ensures (omega arith) frame typ value rest
+    c.in_ok-list.ensures (omega arith) frame typ value rest
