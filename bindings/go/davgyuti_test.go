@@ -575,14 +575,13 @@ func TestAllFunctions(t *testing.T) {
 		return string(text)
 	}
 	header := regexp.MustCompile(`(?s)/\*.*?\*/`).ReplaceAllString(read("dcsctp.h"), "")
-	code := read("davgyuti.go") + read("read.go") + read("write.go")
+	code := read("davgyuti.go") + read("parsed.go") + read("read.go") + read("write.go")
 	names := regexp.MustCompile(`(?m)^\w+ dcsctp_(\w+)\(`).FindAllStringSubmatch(header, -1)
 	if len(names) < 45 {
 		t.Errorf("dcsctp.h has %d functions", len(names))
 	}
 	for _, name := range names {
-		// (the package reads chunk by chunk)
-		if name[1] != "read" && !regexp.MustCompile(`\bC\.(dcsctp|go)_` + name[1] + `\(`).MatchString(code) {
+		if !regexp.MustCompile(`\bC\.(dcsctp|go)_` + name[1] + `\(`).MatchString(code) {
 			t.Errorf("%s is never called", name[0])
 		}
 	}
