@@ -54,9 +54,11 @@ func (parsed *Parsed) Read(packet Packet, policy Policy) error {
 		counts := C.go_read(bytesOf(packet), C.size_t(len(packet)), c, C.bool(policy.AllowedZeroChecksum), room, &parsed.read,
 			&parsed.rows[0], blocksOf(parsed.blocks), (*C.uint32_t)(&parsed.numbers[0]), streamsOf(parsed.streams), &parsed.items[0])
 		parsed.packet, parsed.counts = packet, counts
-		if !parsed.grow(counts) {
+		isWhole := counts.rows <= room.rows && counts.blocks <= room.blocks && counts.numbers <= room.numbers
+		if isWhole && counts.streams <= room.streams && counts.items <= room.items {
 			break
 		}
+		parsed.grow(counts)
 	}
 	if parsed.read.code != C.DCSCTP_OK {
 		return &Error{Code(parsed.read.code), int(parsed.read.fault_offset)}
@@ -81,22 +83,20 @@ func (parsed *Parsed) Read(packet Packet, policy Policy) error {
 	return nil
 }
 
-// grow has place for as many, and returns whether there was none.
-func (parsed *Parsed) grow(counts C.struct_go_counts) bool {
-	grown := grow(&parsed.rows, counts.rows)
+// grow makes place for as many.
+func (parsed *Parsed) grow(counts C.struct_go_counts) {
+	grow(&parsed.rows, counts.rows)
 	grow(&parsed.firsts, counts.rows)
-	grown = grow(&parsed.blocks, counts.blocks) || grown
-	grown = grow(&parsed.numbers, counts.numbers) || grown
-	grown = grow(&parsed.streams, counts.streams) || grown
-	return grow(&parsed.items, counts.items) || grown
+	grow(&parsed.blocks, counts.blocks)
+	grow(&parsed.numbers, counts.numbers)
+	grow(&parsed.streams, counts.streams)
+	grow(&parsed.items, counts.items)
 }
 
-func grow[T any](items *[]T, count C.size_t) bool {
-	if C.size_t(len(*items)) >= count {
-		return false
+func grow[T any](items *[]T, count C.size_t) {
+	if C.size_t(len(*items)) < count {
+		*items = make([]T, count+count/4)
 	}
-	*items = make([]T, count+count/4)
-	return true
 }
 
 // Len returns how many chunks there are.
