@@ -3,6 +3,7 @@
 """Reads and writes packets by the package davgyuti, and by aiortc; bench/packages.py says what such a program does.
 
 usage: beside_aiortc.py ROUNDS MILLIS FILE.."""
+import operator
 import struct
 import sys
 import time
@@ -20,15 +21,18 @@ def sum_of_value(value):
 # What a kind of parameters holds, as bytes; another is written.
 VALUES = {
     davgyuti.ForwardTsnSupported: lambda it: b'',
-    davgyuti.HeartbeatInfo: lambda it: it.info,
-    davgyuti.RawParameter: lambda it: it.value,
-    davgyuti.StateCookie: lambda it: it.cookie,
-    davgyuti.SupportedExtensions: lambda it: it.chunk_types,
+    davgyuti.HeartbeatInfo: operator.attrgetter('info'),
+    davgyuti.StateCookie: operator.attrgetter('cookie'),
+    davgyuti.SupportedExtensions: operator.attrgetter('chunk_types'),
 }
 
 
 def sum_of_parameters(parameters):
-    return sum(it.type + sum_of_value(VALUES.get(type(it), lambda it: bytes(it)[4:])(it)) for it in parameters)
+    total = 0
+    for it in parameters:
+        kind = type(it)
+        total += it.type + sum_of_value(it.value if kind is davgyuti.RawParameter or kind not in VALUES else VALUES[kind](it))
+    return total
 
 
 def sum_of_causes(causes):
@@ -51,10 +55,7 @@ def sum_of_init(it):
 
 
 def sum_of_sack(it):
-    total = it.cumulative_tsn_ack + it.a_rwnd + sum(it.duplicates)
-    for start, end in it.blocks:
-        total += start + end
-    return total
+    return it.cumulative_tsn_ack + it.a_rwnd + sum(it.duplicates) + sum(map(sum, it.blocks))
 
 
 SUMS = {
@@ -97,9 +98,12 @@ def kept_by_davgyuti(data):
     return header.source_port, header.destination_port, header.verification_tag, packet.chunks()
 
 
+builder = davgyuti.PacketBuilder(0, 0, 0)
+
+
 def written_by_davgyuti(kept):
     source_port, destination_port, tag, chunks = kept
-    builder = davgyuti.PacketBuilder(source_port, destination_port, tag)
+    builder.reset(source_port, destination_port, tag)
     for it in chunks:
         builder.add(it)
     return builder.seal()
@@ -122,10 +126,7 @@ def sum_of_its_init(it):
 
 
 def sum_of_its_sack(it):
-    total = it.cumulative_tsn + it.advertised_rwnd + sum(it.duplicates)
-    for start, end in it.gaps:
-        total += start + end
-    return total
+    return it.cumulative_tsn + it.advertised_rwnd + sum(it.duplicates) + sum(map(sum, it.gaps))
 
 
 # The kinds of chunks that the files have.

@@ -39,19 +39,21 @@ func sumOfBits(bits ...bool) (sum uint64) {
 
 // ---- by davgyuti
 
-func sumOfItems(chunk davgyuti.Chunk) (sum uint64) {
-	for list := chunk.Parameters(); list.Next(); {
-		it := list.Value()
+var parsed davgyuti.Parsed
+
+func sumOfItems(i int) (sum uint64) {
+	for k := 0; k < parsed.ParameterCount(i); k++ {
+		it := parsed.Parameter(i, k)
 		sum += uint64(it.Type) + sumOfValue(it.Value)
 	}
-	for list := chunk.Causes(); list.Next(); {
-		it := list.Value()
+	for k := 0; k < parsed.CauseCount(i); k++ {
+		it := parsed.Cause(i, k)
 		sum += uint64(it.Code) + sumOfValue(it.Value)
 	}
 	return sum
 }
 
-func sumOfChunk(chunk davgyuti.Chunk) (sum uint64) {
+func sumOfChunk(chunk davgyuti.Chunk, i int) (sum uint64) {
 	switch chunk.Type {
 	case davgyuti.ChunkData, davgyuti.ChunkIData:
 		it, _ := chunk.Data()
@@ -60,27 +62,26 @@ func sumOfChunk(chunk davgyuti.Chunk) (sum uint64) {
 	case davgyuti.ChunkInit, davgyuti.ChunkInitAck:
 		it, _ := chunk.Init()
 		sum = uint64(it.InitiateTag) + uint64(it.ARwnd) + uint64(it.OutboundStreams) + uint64(it.InboundStreams)
-		return sum + uint64(it.InitialTSN) + sumOfItems(chunk)
+		return sum + uint64(it.InitialTSN) + sumOfItems(i)
 	case davgyuti.ChunkSACK:
 		it, _ := chunk.SACK()
 		sum = uint64(it.CumulativeTSNAck) + uint64(it.ARwnd)
-		for blocks := chunk.GapAckBlocks(); blocks.Next(); {
-			sum += uint64(blocks.Value().Start) + uint64(blocks.Value().End)
+		for _, block := range parsed.GapAckBlocks(i) {
+			sum += uint64(block.Start) + uint64(block.End)
 		}
-		for duplicates := chunk.DuplicateTSNs(); duplicates.Next(); {
-			sum += uint64(duplicates.Value())
+		for _, tsn := range parsed.DuplicateTSNs(i) {
+			sum += uint64(tsn)
 		}
 		return sum
 	case davgyuti.ChunkHeartbeat, davgyuti.ChunkHeartbeatAck, davgyuti.ChunkAbort, davgyuti.ChunkError, davgyuti.ChunkReConfig:
-		return sumOfItems(chunk)
+		return sumOfItems(i)
 	case davgyuti.ChunkShutdown:
 		tsn, _ := chunk.Shutdown()
 		return uint64(tsn)
 	case davgyuti.ChunkForwardTSN, davgyuti.ChunkIForwardTSN:
 		it, _ := chunk.ForwardTSN()
 		sum = uint64(it.NewCumulativeTSN)
-		for streams := chunk.SkippedStreams(); streams.Next(); {
-			it := streams.Value()
+		for _, it := range parsed.SkippedStreams(i) {
 			sum += uint64(it.Stream) + uint64(it.SSN) + uint64(it.MID) + sumOfBits(it.IsUnordered)
 		}
 		return sum
@@ -89,33 +90,27 @@ func sumOfChunk(chunk davgyuti.Chunk) (sum uint64) {
 	}
 }
 
-func sumOfChunks(packet davgyuti.Packet) uint64 {
+func sumOfPacket(raw []byte, policy davgyuti.Policy) uint64 {
+	if parsed.Read(raw, policy) != nil {
+		return 0
+	}
 	sum := uint64(1)
-	for chunks := packet.Chunks(); chunks.Next(); {
-		sum += uint64(chunks.Value().Type) + sumOfChunk(chunks.Value())
+	for i := 0; i < parsed.Len(); i++ {
+		chunk := parsed.Chunk(i)
+		sum += uint64(chunk.Type) + sumOfChunk(chunk, i)
 	}
 	return sum
 }
 
-func readByDavgyuti(raw []byte) uint64 {
-	packet := davgyuti.Packet(raw)
-	if packet.Check(davgyuti.Policy{}) != nil {
-		return 0
-	}
-	return sumOfChunks(packet)
-}
+func readByDavgyuti(raw []byte) uint64 { return sumOfPacket(raw, davgyuti.Policy{}) }
 
 // Compares the checksum with the processor's CRC32c, as the package's README.md says.
 func readWithItsCrc(raw []byte) uint64 {
-	packet := davgyuti.Packet(raw)
-	header, isThere := packet.Header()
-	if !isThere || bits.ReverseBytes32(generatePacketChecksum(raw)) != header.Checksum {
+	sum := sumOfPacket(raw, davgyuti.Policy{AnyChecksum: true})
+	if sum == 0 || bits.ReverseBytes32(generatePacketChecksum(raw)) != parsed.Header.Checksum {
 		return 0
 	}
-	if packet.Check(davgyuti.Policy{AnyChecksum: true}) != nil {
-		return 0
-	}
-	return sumOfChunks(packet)
+	return sum
 }
 
 // What a chunk is written from.

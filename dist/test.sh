@@ -101,6 +101,7 @@ has() {
         python3) python3 -c 'import json, shutil' 2>/dev/null ;;
         rustc-1.85) rustc --edition 2024 --crate-type lib --emit metadata -o "$work/probe" - </dev/null 2>"$work/log" ;;
         python3-venv) python3 -c 'import ensurepip' 2>"$work/log" ;;
+        Python.h) [ -f "$(python3 -c 'import sysconfig; print(sysconfig.get_path("include"))')/Python.h" ] ;;
         git-checkout) git -C "$root" rev-parse --git-dir >/dev/null 2>&1 ;;
         pion) [ -d /usr/share/gocode/src/github.com/pion/sctp ] ;;
         clang-memory)
@@ -668,6 +669,12 @@ python_package() {
         venv/bin/python -m unittest discover -s "$bindings/python/tests"
 }
 
+# The same tests without the module of C, by ctypes.
+python_by_ctypes() {
+    cp -r venv by_ctypes && rm by_ctypes/lib/python3*/site-packages/davgyuti/_fast.abi3.so &&
+        PYTHONPATH=$(echo "$PWD"/by_ctypes/lib/python3*/site-packages) venv/bin/python -m unittest discover -s "$bindings/python/tests"
+}
+
 # The archive of sources is whole, and the same files give the same archive and the same wheel; it is installed in place too.
 python_archives() {
     mkdir one two three && python_backend one && python_backend two && diff -r one two || return
@@ -789,7 +796,8 @@ rust() {
 }
 
 python_and_javascript() {
-    with python3-venv 'pip install' python_package && try 'pip wheel, of the archive of sources' python_archives
+    with python3-venv 'pip install' python_package && try 'pip wheel, of the archive of sources' python_archives &&
+        with Python.h 'pip install: the tests by ctypes' python_by_ctypes
     with 'node-18 npm' 'node --test' node_package
 }
 

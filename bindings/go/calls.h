@@ -62,6 +62,55 @@ WRITES_PACKET(canonical)
 WRITES_PACKET(print)
 WRITES_PACKET(report)
 
+/* The most items of the lists that there is place for; and how many there are, in all chunks. */
+struct go_counts {
+    size_t rows, blocks, numbers, streams, items;
+};
+
+/* Reads a packet with its rows, and the lists of its chunks one after the other, each as far as there is place. Of a row whose
+   list is one of parameters or error causes `count` becomes how many. */
+static inline struct go_counts go_read(const uint8_t *bytes, size_t length, struct dcsctp_policy policy, bool allowed_zero_checksum,
+                                       struct go_counts room, struct dcsctp_packet *packet, struct dcsctp_row *rows,
+                                       struct dcsctp_gap_ack_block *blocks, uint32_t *numbers,
+                                       struct dcsctp_skipped_stream *streams, struct dcsctp_parameter *items)
+{
+    struct go_counts counts = {0};
+    struct dcsctp_parameter item;
+    if (allowed_zero_checksum && !policy.zero_checksum && length <= 0xFFFF && dcsctp_header(bytes, length, &packet->header)
+        && packet->header.checksum == 0)
+        policy.zero_checksum = !go_needs_checksum(bytes, length);
+    dcsctp_read(bytes, length, go_word(bytes, length, policy), &policy, rows, room.rows, packet);
+    counts.rows = packet->chunk_count;
+    for (size_t i = 0; i < counts.rows && i < room.rows; i++) {
+        const struct dcsctp_chunk *chunk = &rows[i].chunk;
+        size_t at = 0, end = rows[i].count;
+        switch (chunk->type) {
+        case DCSCTP_CHUNK_SACK:
+            for (; at < end && counts.blocks + at < room.blocks; at++)
+                dcsctp_gap_ack_block(bytes, length, chunk, at, &blocks[counts.blocks + at]);
+            counts.blocks += end;
+            end = rows[i].duplicate_count;
+            for (at = 0; at < end && counts.numbers + at < room.numbers; at++)
+                dcsctp_duplicate_tsn(bytes, length, chunk, at, &numbers[counts.numbers + at]);
+            counts.numbers += end;
+            break;
+        case DCSCTP_CHUNK_FORWARD_TSN:
+        case DCSCTP_CHUNK_I_FORWARD_TSN:
+            for (; at < end && counts.streams + at < room.streams; at++)
+                dcsctp_skipped_stream(bytes, length, chunk, at, &streams[counts.streams + at]);
+            counts.streams += end;
+            break;
+        default:
+            end = counts.items;
+            for (at = dcsctp_list_offset(chunk); dcsctp_parameter_at(bytes, length, chunk, at, &item); at = item.next)
+                if (counts.items++ < room.items)
+                    items[counts.items - 1] = item;
+            rows[i].count = counts.items - end;
+        }
+    }
+    return counts;
+}
+
 /* ---- the parts of a packet */
 
 /* A value, if it is there; and `type go_NAME(..)`, which reads it. */

@@ -575,7 +575,7 @@ func TestAllFunctions(t *testing.T) {
 		return string(text)
 	}
 	header := regexp.MustCompile(`(?s)/\*.*?\*/`).ReplaceAllString(read("dcsctp.h"), "")
-	code := read("davgyuti.go") + read("read.go") + read("write.go")
+	code := read("davgyuti.go") + read("parsed.go") + read("read.go") + read("write.go")
 	names := regexp.MustCompile(`(?m)^\w+ dcsctp_(\w+)\(`).FindAllStringSubmatch(header, -1)
 	if len(names) < 45 {
 		t.Errorf("dcsctp.h has %d functions", len(names))
@@ -585,8 +585,7 @@ func TestAllFunctions(t *testing.T) {
 		if regexp.MustCompile(`^(gap_ack_blocks|duplicate_tsns|skipped_streams|parameters|reset_streams|missing_parameters)$`).MatchString(name[1]) {
 			continue
 		}
-		// (the package reads chunk by chunk)
-		if name[1] != "read" && !regexp.MustCompile(`\bC\.(dcsctp|go)_` + name[1] + `\(`).MatchString(code) {
+		if !regexp.MustCompile(`\bC\.(dcsctp|go)_` + name[1] + `\(`).MatchString(code) {
 			t.Errorf("%s is never called", name[0])
 		}
 	}

@@ -217,7 +217,7 @@ func (p Packet) part(offset, size C.size_t) []byte {
 // withHeader returns a value, and the four bytes of its header before it; nil where they aren't there.
 func (p Packet) withHeader(offset, size C.size_t) []byte { return p.part(offset-4, size+4) }
 
-// A Chunk is a chunk of a packet (section 3.2), where it lies.
+// A Chunk is a chunk of a packet (section 3.2), where it lies. One of a Parsed has its numbers too: to read them calls no C.
 type Chunk struct {
 	Type       ChunkType
 	Flags      uint8
@@ -226,6 +226,7 @@ type Chunk struct {
 	NextOffset int    // where the next one begins
 	packet     Packet
 	c          C.struct_dcsctp_chunk
+	row        *C.struct_dcsctp_row // of a Parsed
 }
 
 // Chunks goes over the chunks. If the bytes are a packet, these are all; else they end where there is no whole chunk.
@@ -246,15 +247,21 @@ func (p Packet) ChunkAt(offset int) (Chunk, bool) {
 	if !read.is_there {
 		return Chunk{}, false
 	}
+	return p.chunk(read.it, nil), true
+}
+
+// chunk returns the chunk that C has read.
+func (p Packet) chunk(c C.struct_dcsctp_chunk, row *C.struct_dcsctp_row) Chunk {
 	return Chunk{
-		Type:       ChunkType(read.it._type),
-		Flags:      uint8(read.it.flags),
-		Value:      p.part(read.it.value_offset, read.it.value_size),
-		Offset:     offset,
-		NextOffset: int(read.it.next),
+		Type:       ChunkType(c._type),
+		Flags:      uint8(c.flags),
+		Value:      p.part(c.value_offset, c.value_size),
+		Offset:     int(c.value_offset) - 4,
+		NextOffset: int(c.next),
 		packet:     p,
-		c:          read.it,
-	}, true
+		c:          c,
+		row:        row,
+	}
 }
 
 // ReadChunk reads the chunk that the bytes are, without a packet around it, and with or without its padding: as SDP has an
@@ -300,6 +307,24 @@ func (chunk Chunk) IsTagReflected() bool {
 
 // Data reads DATA or I-DATA; false for another type.
 func (chunk Chunk) Data() (Data, bool) {
+	if row := chunk.row; row != nil {
+		if chunk.Type != ChunkData && chunk.Type != ChunkIData {
+			return Data{}, false
+		}
+		return Data{
+			TSN:          uint32(row.tsn),
+			MID:          uint32(row.mid),
+			FSN:          uint32(row.fsn),
+			PPID:         uint32(row.ppid),
+			Stream:       uint16(row.stream),
+			SSN:          uint16(row.ssn),
+			IsUnordered:  bool(row.is_unordered),
+			IsBeginning:  bool(row.is_beginning),
+			IsEnd:        bool(row.is_end),
+			ImmediateAck: bool(row.immediate_ack),
+			Payload:      chunk.packet.part(row.rest_offset, row.rest_size),
+		}, true
+	}
 	bytes, length := chunk.bytes()
 	read := C.go_data(bytes, length, chunk.c)
 	if !read.is_there {
@@ -323,6 +348,12 @@ func (chunk Chunk) Data() (Data, bool) {
 
 // SACK reads the numbers of a SACK; false for another type.
 func (chunk Chunk) SACK() (SACK, bool) {
+	if row := chunk.row; row != nil {
+		if chunk.Type != ChunkSACK {
+			return SACK{}, false
+		}
+		return SACK{uint32(row.tsn), uint32(row.a_rwnd), int(row.count), int(row.duplicate_count)}, true
+	}
 	bytes, length := chunk.bytes()
 	read := C.go_sack(bytes, length, chunk.c)
 	return SACK{
@@ -359,6 +390,13 @@ func (chunk Chunk) IsValidSACK() bool {
 
 // Init reads the numbers of INIT or INIT ACK; false for another type.
 func (chunk Chunk) Init() (Init, bool) {
+	if row := chunk.row; row != nil {
+		if chunk.Type != ChunkInit && chunk.Type != ChunkInitAck {
+			return Init{}, false
+		}
+		return Init{uint32(row.initiate_tag), uint32(row.a_rwnd), uint16(row.outbound_streams), uint16(row.inbound_streams),
+			uint32(row.tsn)}, true
+	}
 	bytes, length := chunk.bytes()
 	read := C.go_init(bytes, length, chunk.c)
 	return Init{
@@ -372,6 +410,12 @@ func (chunk Chunk) Init() (Init, bool) {
 
 // Shutdown reads the cumulative TSN ack of SHUTDOWN; false for another type.
 func (chunk Chunk) Shutdown() (cumulativeTSNAck uint32, ok bool) {
+	if row := chunk.row; row != nil {
+		if chunk.Type != ChunkShutdown {
+			return 0, false
+		}
+		return uint32(row.tsn), true
+	}
 	bytes, length := chunk.bytes()
 	read := C.go_shutdown(bytes, length, chunk.c)
 	return uint32(read.it), bool(read.is_there)
@@ -379,6 +423,12 @@ func (chunk Chunk) Shutdown() (cumulativeTSNAck uint32, ok bool) {
 
 // ForwardTSN reads the numbers of FORWARD-TSN or I-FORWARD-TSN; false for another type.
 func (chunk Chunk) ForwardTSN() (ForwardTSN, bool) {
+	if row := chunk.row; row != nil {
+		if chunk.Type != ChunkForwardTSN && chunk.Type != ChunkIForwardTSN {
+			return ForwardTSN{}, false
+		}
+		return ForwardTSN{uint32(row.tsn), int(row.count)}, true
+	}
 	bytes, length := chunk.bytes()
 	read := C.go_forward_tsn(bytes, length, chunk.c)
 	return ForwardTSN{

@@ -2,7 +2,9 @@
 """Builds the package, for pip and other tools (PEP 517 and 660): `pip install .` in this folder.
 
 The wheel has the Python files and a shared library, which a C compiler links from the text in dist/: $CC, or else cc. ctypes
-loads it, so that one wheel serves every Python of a system. Nothing else is needed, setuptools neither.
+loads it, so that one wheel serves every Python of a system. Where Python.h is there too, the wheel also has a module of the
+limited API (abi3) with the text in it, which does the same at the rate of C; a Python that doesn't take it goes without.
+Nothing else is needed, setuptools neither.
 """
 
 import base64
@@ -31,6 +33,7 @@ if not os.path.isdir(LIBRARY):
 NAME = "davgyuti"
 # The module that a wheel has beside those in src/: the version of dcsctp.h, which the library's has to be.
 VERSION = "_version.py"
+MODULE = "_fast.abi3.so"
 PROCESSORS = {"amd64": "x86_64", "arm64": "aarch64"}
 # The format of the text, the ending of a shared library, and what a linker has to be told.
 FORMATS = {"darwin": ("macho", "dylib", []), "win32": ("coff", "dll", ["-Wl,--export-all-symbols"])}
@@ -88,7 +91,7 @@ def metadata():
 def files_of(*folder):
     """The files of a folder that are to be packed, by name: those of Python, and what the tests read."""
     names = sorted(os.listdir(os.path.join(HERE, *folder)))
-    return {it: read(HERE, *folder, it) for it in names if it.endswith((".py", ".pyi", ".typed", ".txt")) and it != VERSION}
+    return {it: read(HERE, *folder, it) for it in names if it.endswith((".c", ".py", ".pyi", ".typed", ".txt")) and it != VERSION}
 
 
 def texts():
@@ -118,6 +121,26 @@ def shared_library():
             return f"_dcsctp.{ending}", file.read()
 
 
+def module():
+    """The module, by its name; nothing where there is no Python.h, or no limited API, or what is built of it can't be."""
+    header = os.path.join(sysconfig.get_path("include"), "Python.h")
+    if sys.platform in FORMATS or sys.implementation.name != "cpython" or sysconfig.get_config_var("Py_GIL_DISABLED"):
+        return {}
+    if not os.path.isfile(header):
+        print(f"{NAME}: there is no {header}: without it the package calls the library by ctypes, and takes more time", file=sys.stderr)
+        return {}
+    text = os.path.join(LIBRARY, f"dcsctp-{platform.machine().lower()}-elf.s")
+    with tempfile.TemporaryDirectory() as work:
+        out = os.path.join(work, "module")
+        words = ["-O2", "-shared", "-fPIC", "-Wl,-Bsymbolic", "-I", os.path.dirname(header), "-I", LIBRARY, "-o", out, *ELF[2]]
+        source = os.path.join(HERE, "src", NAME, "_fast.c")
+        if subprocess.run([*shlex.split(os.environ.get("CC", "cc")), *words, source, text]).returncode:
+            print(f"{NAME}: {source} isn't compiled: without it the package takes more time", file=sys.stderr)
+            return {}
+        with open(out, "rb") as file:
+            return {MODULE: file.read()}
+
+
 def is_alone(library):
     """Whether a library of ELF has the loader look for no other one, and for no version of one."""
     (begin,), (size, count) = struct.unpack_from("<Q", library, 32), struct.unpack_from("<HH", library, 54)
@@ -129,11 +152,11 @@ def is_alone(library):
     return False
 
 
-def systems(library):
+def systems(*libraries):
     """The systems of the wheel's tags (PEP 425, 600 and 656)."""
     system = sysconfig.get_platform().replace("universal2", platform.machine())
     kind, _, processor = system.partition("-")
-    if kind == "linux" and is_alone(library):
+    if kind == "linux" and all(map(is_alone, libraries)):
         return [f"{it}_{processor}" for it in ("manylinux_2_17", "manylinux2014", "musllinux_1_1")]
     return [re.sub("[-.]", "_", system)]
 
@@ -141,7 +164,8 @@ def systems(library):
 def made():
     """What the package has beside the files in src/, and the systems that it is for."""
     name, library = shared_library()
-    return {VERSION: version_module(), name: library}, systems(library)
+    libraries = {name: library} | module()
+    return {VERSION: version_module()} | libraries, systems(*libraries.values())
 
 
 def write_wheel(folder, files, systems):
@@ -168,20 +192,21 @@ def write_wheel(folder, files, systems):
 
 def build_wheel(wheel_directory, config_settings=None, metadata_directory=None):
     more, systems = made()
-    files = {f"{NAME}/{it}": data for it, data in (files_of("src", NAME) | more).items()}
+    files = {f"{NAME}/{it}": data for it, data in (files_of("src", NAME) | more).items() if not it.endswith(".c")}
     return write_wheel(wheel_directory, files, systems)
 
 
 def build_editable(wheel_directory, config_settings=None, metadata_directory=None):
     """Puts what is made into src/, to which the wheel only leads."""
     more, systems = made()
-    for name, data in more.items():
+    for name in {MODULE, *more}:
         path = os.path.join(HERE, "src", NAME, name)
         # (not over an old library, which a process may have mapped)
         with contextlib.suppress(FileNotFoundError):
             os.remove(path)
-        with open(path, "wb") as file:
-            file.write(data)
+        if name in more:
+            with open(path, "wb") as file:
+                file.write(more[name])
     return write_wheel(wheel_directory, {f"{NAME}.pth": os.path.join(HERE, "src").encode() + b"\n"}, systems)
 
 

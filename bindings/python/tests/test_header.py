@@ -38,9 +38,10 @@ def header() -> str:
     raise FileNotFoundError("there is no dcsctp.h")
 
 
-# (the package reads chunk by chunk, without dcsctp_read)
-HEADER = re.sub(r"^struct dcsctp_(?:row|packet) \{.*?^\};|^\w+ dcsctp_read\([^)]*\);", "", header(), flags=re.MULTILINE | re.DOTALL)
-HEADER = re.sub(r"^size_t dcsctp_(?:gap_ack_blocks|duplicate_tsns|skipped_streams|parameters|reset_streams|missing_parameters)\([^)]*\);", "", HEADER, flags=re.MULTILINE)
+# (the package reads lists item by item, and SACK's by the row's range)
+HEADER = re.sub(
+    r"^size_t dcsctp_(?:gap_ack_blocks|duplicate_tsns|skipped_streams|parameters|reset_streams|missing_parameters)\([^)]*\);",
+    "", header(), flags=re.MULTILINE)
 
 
 def camel(name: str) -> str:
@@ -49,8 +50,11 @@ def camel(name: str) -> str:
 
 def ctype(text: str) -> Any:
     """The type of ctypes for a type of C."""
-    found = re.fullmatch(r"(?:const )?struct dcsctp_(\w+) \*", text)
-    return POINTER(getattr(_library, camel(found[1]))) if found else TYPES[text]
+    found = re.fullmatch(r"(?:const )?struct dcsctp_(\w+)( \*)?", text)
+    if not found:
+        return TYPES[text]
+    struct = getattr(_library, camel(found[1]))
+    return POINTER(struct) if found[2] else struct
 
 
 def split(declaration: str) -> tuple[str, str]:
@@ -83,7 +87,7 @@ class Functions(unittest.TestCase):
 class Structs(unittest.TestCase):
     def test_fields(self) -> None:
         found = re.findall(r"^struct dcsctp_(\w+) \{(.*?)^\};", HEADER, re.MULTILINE | re.DOTALL)
-        self.assertEqual(len(found), 11)
+        self.assertEqual(len(found), 13)
         for name, body in found:
             # (of the policy's reserve the library reads nothing)
             fields = [split(" ".join(it.split())) for it in body.split(";") if it.strip() and "reserved[" not in it]
@@ -93,7 +97,17 @@ class Structs(unittest.TestCase):
 
     def test_none_beside(self) -> None:
         structs = [it for it in vars(_library).values() if isinstance(it, type) and issubclass(it, ctypes.Structure)]
-        self.assertEqual(len(structs), 11)
+        self.assertEqual(len(structs), 13)
+
+    def test_formats(self) -> None:
+        for kind, struct in ((_library.Row, _library.ROW), (_library.Data, _library.DATA)):
+            # Each number is at its place: 1, 2, 3 .. and at the end flags.
+            numbers = [*range(1, len(struct.unpack(bytes(struct.size))) + 1)]
+            value = kind.from_buffer_copy(struct.pack(*numbers))
+            self.assertEqual(struct.size, ctypes.sizeof(value))
+            fields = [(it, name) for it in (getattr(value, "chunk", None), value) if it for name, *_ in it._fields_ if name != "chunk"]
+            found = [getattr(it, name) for it, name in fields]
+            self.assertEqual(found, [True if it is True else number for number, it in zip(numbers, found, strict=True)])
 
 
 class Numbers(unittest.TestCase):

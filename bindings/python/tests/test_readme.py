@@ -119,7 +119,7 @@ class Readme(unittest.TestCase):
     def test_what_is_named_is_there(self) -> None:
         table = re.search(r"^\| to \| use \|\n(.*?)\n\n", README, re.MULTILINE | re.DOTALL)
         assert table
-        for name in set(re.findall(r"`(\w+)`", table[1])) - {"header", "add"}:
+        for name in set(re.findall(r"`(\w+)`", table[1])) - {"header", "add", "reset"}:
             self.assertIn(name, davgyuti.__all__)
 
     def test_all_has_a_docstring(self) -> None:

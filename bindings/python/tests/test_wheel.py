@@ -6,6 +6,7 @@ import platform
 import shutil
 import subprocess
 import sys
+import sysconfig
 import tarfile
 import tempfile
 import unittest
@@ -58,6 +59,21 @@ class Wheel(unittest.TestCase):
             name: str = module("backend", SOURCES, "backend.py").build_wheel(self.work)
         with zipfile.ZipFile(os.path.join(self.work, name)) as archive:
             return name, {it: archive.read(it) for it in archive.namelist()}
+
+    def test_module(self) -> None:
+        name, files = self.built()
+        self.assertIn(ANY_LINUX, name)
+        self.assertEqual("davgyuti/_fast.abi3.so" in files, os.path.exists(os.path.join(sysconfig.get_path("include"), "Python.h")))
+        self.assertFalse([it for it in files if it.endswith(".c")])
+        # Without Python.h, and where Python has no limited API, the wheel has no module.
+        for what in (
+            mock.patch("sysconfig.get_path", lambda name: "/nowhere"),
+            mock.patch("sysconfig.get_config_var", lambda name: name == "Py_GIL_DISABLED"),
+        ):
+            with what:
+                name, files = self.built()
+            self.assertIn(ANY_LINUX, name)
+            self.assertNotIn("davgyuti/_fast.abi3.so", files)
 
     def library(self) -> str:
         path = os.path.join(self.work, "_dcsctp.so")

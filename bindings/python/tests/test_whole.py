@@ -214,17 +214,20 @@ class Value(unittest.TestCase):
         self.assertNotEqual(packet, COOKIE_ACK)
         self.assertEqual(packet.header, davgyuti.Header(5000, 5000, 0x4D2DF52D, 0x67DB78B5))
 
-    def test_iteration_reads_each_chunk_as_it_is_reached(self) -> None:
-        packet = davgyuti.Packet(davgyuti.seal(COOKIE_ACK + COOKIE_ACK[12:]))
-        with mock.patch("davgyuti._reading._chunk", side_effect=_reading._chunk) as read:
-            self.assertEqual(next(iter(packet)), davgyuti.CookieAck())
-            self.assertEqual(read.call_count, 1)
-            self.assertEqual((len(packet.chunks()), read.call_count), (2, 3))
+    def test_iteration_reads_each_of_many_chunks_as_it_is_reached(self) -> None:
+        for count, wanted in ((64, 0), (65, 1)):
+            packet = davgyuti.Packet(davgyuti.seal(COOKIE_ACK[:12] + count * COOKIE_ACK[12:]))
+            with mock.patch("davgyuti._reading._chunk", side_effect=_reading._chunk) as read:
+                self.assertEqual(next(iter(packet)), davgyuti.CookieAck())
+                self.assertEqual((read.call_count, len(packet.chunks()), len([*packet])), (wanted, count, count))
 
-    def test_values_are_frozen(self) -> None:
+    def test_values_have_slots(self) -> None:
         chunk = davgyuti.Shutdown(7)
+        chunk.cumulative_tsn_ack = 8
+        self.assertEqual(chunk, davgyuti.Shutdown(8))
+        chunk.cumulative_tsn_ack = 7
         with self.assertRaises(AttributeError):
-            chunk.cumulative_tsn_ack = 8  # type: ignore[misc]
+            chunk.tsn = 8  # type: ignore[attr-defined]
         self.assertFalse(hasattr(chunk, "__dict__"))
         self.assertEqual(hash(chunk), hash(davgyuti.Shutdown(7)))
         self.assertEqual(pickle.loads(pickle.dumps(chunk)), chunk)

@@ -3,6 +3,7 @@
 
 import ctypes
 import os
+import struct
 from ctypes import POINTER, c_bool, c_char_p, c_size_t, c_uint8, c_uint16, c_uint32
 from typing import Any
 
@@ -99,6 +100,38 @@ class ReConfig(ctypes.Structure):
     ]
 
 
+class Row(ctypes.Structure):
+    _fields_ = [
+        ("chunk", Chunk),
+        ("rest_offset", c_size_t),
+        ("rest_size", c_size_t),
+        ("count", c_size_t),
+        ("duplicate_count", c_size_t),
+        ("tsn", c_uint32),
+        ("a_rwnd", c_uint32),
+        ("initiate_tag", c_uint32),
+        ("mid", c_uint32),
+        ("fsn", c_uint32),
+        ("ppid", c_uint32),
+        ("stream", c_uint16),
+        ("ssn", c_uint16),
+        ("outbound_streams", c_uint16),
+        ("inbound_streams", c_uint16),
+        ("is_unordered", c_bool),
+        ("is_beginning", c_bool),
+        ("is_end", c_bool),
+        ("immediate_ack", c_bool),
+    ]
+
+
+class Packet(ctypes.Structure):
+    _fields_ = [("header", Header), ("code", c_uint32), ("chunk_count", c_size_t), ("fault_offset", c_size_t)]
+
+
+# The same as formats: many numbers at once are read and written by these in less time than one by one.
+ROW = struct.Struct("@BBNNN NNNN IIIIII HHHH ????0N")
+DATA = struct.Struct("@IIIIHH????NN")
+
 _BYTES = (c_char_p, c_size_t)
 _WHOLE = (*_BYTES, c_uint32, POINTER(Policy))
 _OUTPUT = (POINTER(c_uint8), c_size_t, POINTER(c_size_t))
@@ -111,6 +144,7 @@ _STREAMS = (POINTER(SkippedStream), c_size_t)
 FUNCTIONS: dict[str, tuple[Any, ...]] = {
     "dcsctp_check": (c_uint32, *_WHOLE),
     "dcsctp_first_fault": (c_uint32, *_WHOLE, POINTER(c_size_t)),
+    "dcsctp_read": (c_uint32, *_WHOLE, POINTER(Row), c_size_t, POINTER(Packet)),
     "dcsctp_canonical": (c_uint32, *_WHOLE, *_OUTPUT),
     "dcsctp_print": (c_uint32, *_WHOLE, *_OUTPUT),
     "dcsctp_report": (c_uint32, *_WHOLE, *_OUTPUT),
@@ -162,7 +196,7 @@ FUNCTIONS: dict[str, tuple[Any, ...]] = {
 }
 
 
-def _load() -> ctypes.CDLL:
+def _load() -> ctypes.PyDLL:
     folder = os.path.dirname(os.path.abspath(__file__))
     for ending in ("so", "dylib", "dll"):
         path = os.path.join(folder, f"_dcsctp.{ending}")
@@ -171,7 +205,8 @@ def _load() -> ctypes.CDLL:
     else:
         raise ImportError("davgyuti has no shared library here: it has to be installed, by pip")
     try:
-        library = ctypes.CDLL(path)
+        # (each call takes less time than to let another thread go on, and to come back)
+        library = ctypes.PyDLL(path)
     except OSError as error:
         raise ImportError(f"{path} can't be loaded, and has to be installed again: {error}") from None
     try:

@@ -3,25 +3,39 @@
 
 import ctypes
 import operator
+import struct
 from collections.abc import Callable, Iterator
 from ctypes import byref, c_size_t, c_uint8, c_uint16, c_uint32
-from itertools import count
+from functools import partial
+from itertools import count, islice, product
 from typing import Any, TypeAlias, TypeVar
 
 from . import _library as c
 from . import _values as v
 from ._library import functions
 
+try:
+    from . import _fast  # what is below, in C, for what packets have most
+except ImportError:  # (it isn't built, or isn't for this Python)
+    _fast = None  # type: ignore[assignment]
+fast = _fast
+
 Buffer: TypeAlias = bytes | bytearray | memoryview
 """What holds bytes. Those of a bytearray or a memoryview are copied first, in each call, so that no other thread changes them."""
 
-_P = TypeVar("_P")
+_P = TypeVar("_P", bound=v._Part)
 _FIRST_CHUNK = 12
 # (what is larger is no packet, and is refused before it is gone through or copied)
 _LARGEST = 0xFFFF
 _DEFAULT = v.Policy()
 _CHECKSUMMED = {v.ChunkType.INIT, v.ChunkType.COOKIE_ECHO, v.ChunkType.ASCONF}
 _REFLECTING = {v.ChunkType.ABORT, v.ChunkType.SHUTDOWN_COMPLETE}
+_POLICIES = {bits: byref(c.Policy(*bits)) for bits in product((False, True), repeat=3)}
+# How many rows are read with a packet; those of one that has more chunks are read when they are asked for.
+_FEW = 8
+_FewRows = c.Row * _FEW
+# An iteration reads as many chunks at once, and of a packet that has more each as it is reached.
+_AT_ONCE = 64
 
 
 def to_bytes(data: Buffer) -> bytes:
@@ -54,14 +68,23 @@ def _arguments(data: bytes, policy: v.Policy, word: int | None) -> tuple[Any, ..
         and len(data) <= _LARGEST
         and not needs_checksum(data)
     )
-    flags = c.Policy(policy.any_checksum, zero, policy.strict_padding)
-    return data, len(data), right, byref(flags)
+    return data, len(data), right, _POLICIES[policy.any_checksum, zero, policy.strict_padding]
 
 
 def _first_fault(arguments: tuple[Any, ...]) -> v.Fault | None:
     offset = c_size_t()
     code = functions.dcsctp_first_fault(*arguments, byref(offset))
     return v.Fault(v.Result(code), offset.value) if code else None
+
+
+def read(data: bytes, policy: v.Policy, word: int | None, /) -> tuple[int, int, Any]:
+    """The word of a packet, the number of its chunks, and what else is read in the same call, its first rows; raises its first
+    Fault."""
+    arguments = _arguments(data, policy, word)
+    rows, packet = _FewRows(), c.Packet()
+    if functions.dcsctp_read(*arguments, rows, _FEW, byref(packet)):
+        raise v.Fault(v.Result(packet.code), packet.fault_offset)
+    return arguments[2], packet.chunk_count, (rows, packet)
 
 
 def _write(function: Any, data: Buffer, policy: v.Policy, word: int | None, room: int) -> bytes:
@@ -96,6 +119,9 @@ def needs_checksum(data: Buffer) -> bool:
 def check(data: Buffer, policy: v.Policy = _DEFAULT, *, word: int | None = None) -> None:
     """Returns if the bytes are a packet (RFC 9260 section 3), and else raises the first Fault. `word` is the number that
     the checksum field has to be, never what it is; None computes it. So does every function here that has these."""
+    if fast is not None:
+        fast.read(to_bytes(data), policy, word)
+        return
     arguments = _arguments(to_bytes(data), policy, word)
     if functions.dcsctp_check(*arguments):
         fault = _first_fault(arguments)
@@ -137,6 +163,10 @@ def header(data: Buffer) -> v.Header:
     out = c.Header()
     if not functions.dcsctp_header(data, len(data), byref(out)):
         raise v.Fault(v.Result.FAULT_SIZE, len(data))
+    return _header(out)
+
+
+def _header(out: c.Header) -> v.Header:
     return v.Header(out.source_port, out.destination_port, out.verification_tag, out.checksum)
 
 
@@ -197,21 +227,20 @@ def _item(type: int, value: bytes) -> tuple[bytes, c.Parameter]:
 class Packet:
     """A packet, in its bytes, that was checked (RFC 9260 section 3).
 
-    Iterating gives its chunks, each read as it is reached. `bytes(packet)`, `len(packet)` and equality are those of the
-    bytes; packets that mean the same have the same `canonical()`."""
+    Iterating gives its chunks; where there are more than 64, each is read as it is reached. `bytes(packet)`, `len(packet)` and
+    equality are those of the bytes; packets that mean the same have the same `canonical()`."""
 
-    __slots__ = ("_bytes", "_policy", "_word")
+    __slots__ = ("_bytes", "_count", "_policy", "_rows", "_word")
 
     def __init__(self, data: Buffer, policy: v.Policy = _DEFAULT, *, word: int | None = None) -> None:
         """Checks the bytes; raises the first Fault if they are no packet."""
         self._bytes, self._policy = to_bytes(data), policy
-        self._word: int = functions.dcsctp_word(self._bytes, len(self._bytes)) if word is None else word
-        check(self._bytes, policy, word=self._word)
+        self._word, self._count, self._rows = (read if fast is None else fast.read)(self._bytes, policy, word)
 
     @property
     def header(self) -> v.Header:
         """The common header (section 3.1)."""
-        return header(self._bytes)
+        return _header(self._rows[1].header) if fast is None else fast.header(self._bytes)
 
     @property
     def word(self) -> int:
@@ -219,11 +248,11 @@ class Packet:
         return self._word
 
     def __iter__(self) -> Iterator[v.Chunk]:
-        return chunks(self._bytes)
+        return iter(self.chunks()) if self._count <= _AT_ONCE else chunks(self._bytes)
 
     def chunks(self) -> tuple[v.Chunk, ...]:
         """Returns its chunks (section 3.2), at least one. Reads all of them, at each call."""
-        return tuple(self)
+        return _of_rows(self._bytes, self._count, self._rows[0]) if fast is None else fast.chunks(self._bytes)
 
     def raw_chunks(self) -> Iterator[v.RawChunk]:
         """Returns its chunks as they are: with all flags and padding inside."""
@@ -284,8 +313,8 @@ def _value(data: bytes, part: c.Chunk | c.Parameter) -> bytes:
 
 
 def _placed(part: _P, place: c.Chunk | c.Parameter) -> _P:
-    """The part, new and so nobody's yet, with its offset."""
-    object.__setattr__(part, "offset", place.value_offset - 4)
+    """The part, with its offset."""
+    part.offset = place.value_offset - 4
     return part
 
 
@@ -296,6 +325,21 @@ def _each(function: Any, data: bytes, part: ctypes.Structure, new: Callable[[], 
         if not function(data, len(data), byref(part), index, byref(out)):
             return
         yield out
+
+
+def chunk_at(data: bytes, offset: int, /) -> v.Chunk:
+    """The chunk of a packet that is at an offset."""
+    chunk = c.Chunk()
+    functions.dcsctp_chunk_at(data, len(data), offset, byref(chunk))
+    return _chunk(data, chunk)
+
+
+def _of_rows(data: bytes, count: int, rows: Any) -> tuple[v.Chunk, ...]:
+    """The chunks of a packet, of which these are the first rows."""
+    if count > _FEW:
+        rows = (c.Row * count)()
+        functions.dcsctp_read(data, len(data), 0, _POLICIES[True, False, False], rows, count, byref(c.Packet()))
+    return tuple([_ROWS.get(it[0], _rare_of)(data, it) for it in islice(c.ROW.iter_unpack(rows), count)])
 
 
 def _chunk(data: bytes, chunk: c.Chunk) -> v.Chunk:
@@ -395,6 +439,69 @@ _CHUNKS: dict[int, Callable[[bytes, c.Chunk], v.Chunk | None]] = {
     v.ChunkType.RE_CONFIG: lambda data, chunk: v.ReConfig(_parameters(data, chunk)),
     v.ChunkType.FORWARD_TSN: _forward_tsn,
     v.ChunkType.I_FORWARD_TSN: _forward_tsn,
+}
+
+# What makes the same of a row, as its format has it, with fewer calls.
+
+
+def _rare_of(data: bytes, row: tuple[Any, ...]) -> v.Chunk:
+    return _chunk(data, c.Chunk(*row[:5]))
+
+
+def _data_of(data: bytes, row: tuple[Any, ...]) -> v.Data:
+    _, _, start, _, _, rest, size, _, _, tsn, _, _, _, _, ppid, stream, ssn, _, _, unordered, beginning, end, immediate = row
+    return v.Data(
+        offset=start - 4,
+        tsn=tsn,
+        stream=stream,
+        ssn=ssn,
+        ppid=ppid,
+        payload=data[rest : rest + size],
+        is_unordered=unordered,
+        is_beginning=beginning,
+        is_end=end,
+        immediate_ack=immediate,
+    )
+
+
+def _i_data_of(data: bytes, row: tuple[Any, ...]) -> v.IData:
+    _, _, start, _, _, rest, size, _, _, tsn, _, _, mid, fsn, ppid, stream, _, _, _, unordered, beginning, end, immediate = row
+    return v.IData(
+        offset=start - 4,
+        tsn=tsn,
+        stream=stream,
+        mid=mid,
+        ppid=ppid,
+        fsn=fsn,
+        payload=data[rest : rest + size],
+        is_unordered=unordered,
+        is_beginning=beginning,
+        is_end=end,
+        immediate_ack=immediate,
+    )
+
+
+def _init_of(data: bytes, row: tuple[Any, ...]) -> v.Init | v.InitAck:
+    kind: type[v.Init | v.InitAck] = v.Init if row[0] == v.ChunkType.INIT else v.InitAck
+    tsn, a_rwnd, tag = row[9:12]
+    return kind(tag, a_rwnd, row[17], row[18], tsn, _parameters(data, c.Chunk(*row[:5])), offset=row[2] - 4)
+
+
+def _sack_of(data: bytes, row: tuple[Any, ...]) -> v.Sack:
+    _, _, start, _, _, rest, _, count, duplicates, tsn, a_rwnd, *_ = row
+    after = rest + 4 * count
+    blocks = tuple(map(_block, struct.iter_unpack(">HH", data[rest:after])))
+    return v.Sack(tsn, a_rwnd, blocks, struct.unpack_from(f">{duplicates}I", data, after), offset=start - 4)
+
+
+_block: Any = partial(tuple.__new__, v.GapAckBlock)
+_ROWS: dict[int, Callable[[bytes, tuple[Any, ...]], v.Chunk]] = {
+    v.ChunkType.DATA: _data_of,
+    v.ChunkType.I_DATA: _i_data_of,
+    v.ChunkType.INIT: _init_of,
+    v.ChunkType.INIT_ACK: _init_of,
+    v.ChunkType.SACK: _sack_of,
+    v.ChunkType.COOKIE_ACK: lambda data, row: v.CookieAck(offset=row[2] - 4),
 }
 
 # ---- parameters and error causes

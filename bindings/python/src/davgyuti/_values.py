@@ -362,7 +362,7 @@ class Policy:
                 raise TypeError(f"{it.name} has to be a bool, and is {value!r}")
 
 
-@dataclass(frozen=True, slots=True)
+@dataclass(slots=True, unsafe_hash=True)
 class Header:
     """The common header (RFC 9260 section 3.1)."""
 
@@ -395,7 +395,7 @@ class SkippedIStream(NamedTuple):
     is_unordered: bool = False
 
 
-@dataclass(frozen=True, slots=True)
+@dataclass(slots=True, unsafe_hash=True)
 class _Part:
     """What a chunk, a parameter and an error cause have."""
 
@@ -416,7 +416,7 @@ class _Part:
         return bytes(self)[4:]
 
 
-@dataclass(frozen=True, slots=True)
+@dataclass(slots=True, unsafe_hash=True)
 class _ChunkPart(_Part):
     @property
     def name(self) -> str:
@@ -424,7 +424,7 @@ class _ChunkPart(_Part):
         return chunk_name(getattr(self, "type"))
 
 
-@dataclass(frozen=True, slots=True)
+@dataclass(slots=True, unsafe_hash=True)
 class _ParameterPart(_Part):
     @property
     def name(self) -> str:
@@ -432,7 +432,7 @@ class _ParameterPart(_Part):
         return parameter_name(getattr(self, "type"))
 
 
-@dataclass(frozen=True, slots=True)
+@dataclass(slots=True, unsafe_hash=True)
 class _CausePart(_Part):
     @property
     def name(self) -> str:
@@ -443,7 +443,7 @@ class _CausePart(_Part):
 # ---- parameters
 
 
-@dataclass(frozen=True, slots=True)
+@dataclass(slots=True, unsafe_hash=True)
 class RawParameter(_ParameterPart):
     """A parameter as it is (RFC 9260 section 3.2.1): of a type that has no kind of its own here, or whose value isn't one
     of its kind, which a packet that was checked doesn't have."""
@@ -452,7 +452,7 @@ class RawParameter(_ParameterPart):
     value: bytes = b""
 
 
-@dataclass(frozen=True, slots=True)
+@dataclass(slots=True, unsafe_hash=True)
 class HeartbeatInfo(_ParameterPart):
     """Heartbeat Info, type 1 (RFC 9260 section 3.3.5)."""
 
@@ -460,7 +460,7 @@ class HeartbeatInfo(_ParameterPart):
     info: bytes
 
 
-@dataclass(frozen=True, slots=True)
+@dataclass(slots=True, unsafe_hash=True)
 class StateCookie(_ParameterPart):
     """State Cookie, type 7 (RFC 9260 section 3.3.3.1)."""
 
@@ -468,7 +468,7 @@ class StateCookie(_ParameterPart):
     cookie: bytes
 
 
-@dataclass(frozen=True, slots=True)
+@dataclass(slots=True, unsafe_hash=True)
 class OutgoingSsnReset(_ParameterPart):
     """Outgoing SSN Reset Request, type 13 (RFC 6525 section 4.1). Without streams it is for all of them."""
 
@@ -481,7 +481,7 @@ class OutgoingSsnReset(_ParameterPart):
     streams: tuple[int, ...] = ()
 
 
-@dataclass(frozen=True, slots=True)
+@dataclass(slots=True, unsafe_hash=True)
 class IncomingSsnReset(_ParameterPart):
     """Incoming SSN Reset Request, type 14 (RFC 6525 section 4.2). Without streams it is for all of them."""
 
@@ -490,7 +490,7 @@ class IncomingSsnReset(_ParameterPart):
     streams: tuple[int, ...] = ()
 
 
-@dataclass(frozen=True, slots=True)
+@dataclass(slots=True, unsafe_hash=True)
 class SsnTsnReset(_ParameterPart):
     """SSN/TSN Reset Request, type 15 (RFC 6525 section 4.3)."""
 
@@ -498,7 +498,7 @@ class SsnTsnReset(_ParameterPart):
     request_number: int
 
 
-@dataclass(frozen=True, slots=True)
+@dataclass(slots=True, unsafe_hash=True)
 class NextTsns:
     """The TSNs that follow a reset of all (RFC 6525 section 4.4)."""
 
@@ -506,7 +506,7 @@ class NextTsns:
     receiver: int
 
 
-@dataclass(frozen=True, slots=True)
+@dataclass(slots=True, unsafe_hash=True)
 class ReConfigResponse(_ParameterPart):
     """Re-configuration Response, type 16 (RFC 6525 section 4.4)."""
 
@@ -517,7 +517,7 @@ class ReConfigResponse(_ParameterPart):
     next_tsns: NextTsns | None = None
 
 
-@dataclass(frozen=True, slots=True)
+@dataclass(slots=True, unsafe_hash=True)
 class AddOutgoingStreams(_ParameterPart):
     """Add Outgoing Streams Request, type 17 (RFC 6525 section 4.5)."""
 
@@ -527,7 +527,7 @@ class AddOutgoingStreams(_ParameterPart):
     """How many."""
 
 
-@dataclass(frozen=True, slots=True)
+@dataclass(slots=True, unsafe_hash=True)
 class AddIncomingStreams(_ParameterPart):
     """Add Incoming Streams Request, type 18 (RFC 6525 section 4.6)."""
 
@@ -537,7 +537,7 @@ class AddIncomingStreams(_ParameterPart):
     """How many."""
 
 
-@dataclass(frozen=True, slots=True)
+@dataclass(slots=True, unsafe_hash=True)
 class ZeroChecksumAcceptable(_ParameterPart):
     """Zero Checksum Acceptable, type 0x8001 (RFC 9653 section 4)."""
 
@@ -546,7 +546,7 @@ class ZeroChecksumAcceptable(_ParameterPart):
     """The error detection method; 1 is DTLS."""
 
 
-@dataclass(frozen=True, slots=True)
+@dataclass(slots=True, unsafe_hash=True)
 class SupportedExtensions(_ParameterPart):
     """Supported Extensions, type 0x8008 (RFC 5061 section 4.2.7)."""
 
@@ -555,7 +555,7 @@ class SupportedExtensions(_ParameterPart):
     """A type of chunk in each byte."""
 
 
-@dataclass(frozen=True, slots=True)
+@dataclass(slots=True, unsafe_hash=True)
 class ForwardTsnSupported(_ParameterPart):
     """Forward-TSN-Supported, type 0xC000 (RFC 3758 section 3.1)."""
 
@@ -580,7 +580,7 @@ Parameter: TypeAlias = (
 # ---- error causes
 
 
-@dataclass(frozen=True, slots=True)
+@dataclass(slots=True, unsafe_hash=True)
 class RawCause(_CausePart):
     """An error cause as it is (RFC 9260 section 3.3.10): of a code that has no kind of its own here, or whose value isn't
     one of its kind, which a packet that was checked doesn't have."""
@@ -589,7 +589,7 @@ class RawCause(_CausePart):
     value: bytes = b""
 
 
-@dataclass(frozen=True, slots=True)
+@dataclass(slots=True, unsafe_hash=True)
 class MissingMandatoryParameter(_CausePart):
     """Missing Mandatory Parameter, code 2 (RFC 9260 section 3.3.10.2)."""
 
@@ -598,7 +598,7 @@ class MissingMandatoryParameter(_CausePart):
     """The types of the parameters that are missing."""
 
 
-@dataclass(frozen=True, slots=True)
+@dataclass(slots=True, unsafe_hash=True)
 class UnrecognizedChunk(_CausePart):
     """Unrecognized Chunk Type, code 6 (RFC 9260 section 3.3.10.6)."""
 
@@ -607,7 +607,7 @@ class UnrecognizedChunk(_CausePart):
     """The chunk, with its header."""
 
 
-@dataclass(frozen=True, slots=True)
+@dataclass(slots=True, unsafe_hash=True)
 class NoUserData(_CausePart):
     """No User Data, code 9 (RFC 9260 section 3.3.10.9)."""
 
@@ -615,14 +615,14 @@ class NoUserData(_CausePart):
     tsn: int
 
 
-@dataclass(frozen=True, slots=True)
+@dataclass(slots=True, unsafe_hash=True)
 class CookieReceivedWhileShuttingDown(_CausePart):
     """Cookie Received While Shutting Down, code 10 (RFC 9260 section 3.3.10.10)."""
 
     code: ClassVar[CauseCode] = CauseCode.COOKIE_RECEIVED_WHILE_SHUTTING_DOWN
 
 
-@dataclass(frozen=True, slots=True)
+@dataclass(slots=True, unsafe_hash=True)
 class UserInitiatedAbort(_CausePart):
     """User-Initiated Abort, code 12 (RFC 9260 section 3.3.10.12)."""
 
@@ -631,7 +631,7 @@ class UserInitiatedAbort(_CausePart):
     """Of the upper layer; what was received need not be UTF-8."""
 
 
-@dataclass(frozen=True, slots=True)
+@dataclass(slots=True, unsafe_hash=True)
 class ProtocolViolation(_CausePart):
     """Protocol Violation, code 13 (RFC 9260 section 3.3.10.13)."""
 
@@ -653,7 +653,7 @@ Cause: TypeAlias = (
 # ---- chunks
 
 
-@dataclass(frozen=True, slots=True)
+@dataclass(slots=True, unsafe_hash=True)
 class RawChunk(_ChunkPart):
     """A chunk as it is (RFC 9260 section 3.2): of a type that has no kind of its own here, or whose value isn't one of its
     kind, which a packet that was checked doesn't have."""
@@ -663,7 +663,7 @@ class RawChunk(_ChunkPart):
     value: bytes = b""
 
 
-@dataclass(frozen=True, slots=True, kw_only=True)
+@dataclass(slots=True, unsafe_hash=True, kw_only=True)
 class _UserData(_ChunkPart):
     is_unordered: bool = False
     """The U bit."""
@@ -685,7 +685,7 @@ class _UserData(_ChunkPart):
         return replace(self, is_end=e, is_beginning=b, is_unordered=u, immediate_ack=i)
 
 
-@dataclass(frozen=True, slots=True, kw_only=True)
+@dataclass(slots=True, unsafe_hash=True, kw_only=True)
 class Data(_UserData):
     """DATA, type 0 (RFC 9260 section 3.3.1): user data, by default a whole message."""
 
@@ -697,7 +697,7 @@ class Data(_UserData):
     payload: bytes
 
 
-@dataclass(frozen=True, slots=True, kw_only=True)
+@dataclass(slots=True, unsafe_hash=True, kw_only=True)
 class IData(_UserData):
     """I-DATA, type 64 (RFC 8260 section 2.1): user data, by default a whole message."""
 
@@ -712,7 +712,7 @@ class IData(_UserData):
     """0 at the beginning of a message, and not written."""
 
 
-@dataclass(frozen=True, slots=True)
+@dataclass(slots=True, unsafe_hash=True)
 class Init(_ChunkPart):
     """INIT, type 1 (RFC 9260 section 3.3.2)."""
 
@@ -725,7 +725,7 @@ class Init(_ChunkPart):
     parameters: tuple[Parameter, ...] = ()
 
 
-@dataclass(frozen=True, slots=True)
+@dataclass(slots=True, unsafe_hash=True)
 class InitAck(_ChunkPart):
     """INIT ACK, type 2 (RFC 9260 section 3.3.3). It has to have a State Cookie, and may lack it in what was received."""
 
@@ -738,7 +738,7 @@ class InitAck(_ChunkPart):
     parameters: tuple[Parameter, ...] = ()
 
 
-@dataclass(frozen=True, slots=True)
+@dataclass(slots=True, unsafe_hash=True)
 class Sack(_ChunkPart):
     """SACK, type 3 (RFC 9260 section 3.3.4). The blocks may be in any order: see validate_sack."""
 
@@ -750,7 +750,7 @@ class Sack(_ChunkPart):
     """TSNs."""
 
 
-@dataclass(frozen=True, slots=True)
+@dataclass(slots=True, unsafe_hash=True)
 class Heartbeat(_ChunkPart):
     """HEARTBEAT, type 4 (RFC 9260 section 3.3.5)."""
 
@@ -758,7 +758,7 @@ class Heartbeat(_ChunkPart):
     parameters: tuple[Parameter, ...] = ()
 
 
-@dataclass(frozen=True, slots=True)
+@dataclass(slots=True, unsafe_hash=True)
 class HeartbeatAck(_ChunkPart):
     """HEARTBEAT ACK, type 5 (RFC 9260 section 3.3.6)."""
 
@@ -766,7 +766,7 @@ class HeartbeatAck(_ChunkPart):
     parameters: tuple[Parameter, ...] = ()
 
 
-@dataclass(frozen=True, slots=True)
+@dataclass(slots=True, unsafe_hash=True)
 class Abort(_ChunkPart):
     """ABORT, type 6 (RFC 9260 section 3.3.7)."""
 
@@ -777,7 +777,7 @@ class Abort(_ChunkPart):
     packets, sent back to it (section 8.5.1)."""
 
 
-@dataclass(frozen=True, slots=True)
+@dataclass(slots=True, unsafe_hash=True)
 class Shutdown(_ChunkPart):
     """SHUTDOWN, type 7 (RFC 9260 section 3.3.8)."""
 
@@ -785,14 +785,14 @@ class Shutdown(_ChunkPart):
     cumulative_tsn_ack: int
 
 
-@dataclass(frozen=True, slots=True)
+@dataclass(slots=True, unsafe_hash=True)
 class ShutdownAck(_ChunkPart):
     """SHUTDOWN ACK, type 8 (RFC 9260 section 3.3.9)."""
 
     type: ClassVar[ChunkType] = ChunkType.SHUTDOWN_ACK
 
 
-@dataclass(frozen=True, slots=True)
+@dataclass(slots=True, unsafe_hash=True)
 class OperationError(_ChunkPart):
     """ERROR, type 9 (RFC 9260 section 3.3.10)."""
 
@@ -800,7 +800,7 @@ class OperationError(_ChunkPart):
     causes: tuple[Cause, ...]
 
 
-@dataclass(frozen=True, slots=True)
+@dataclass(slots=True, unsafe_hash=True)
 class CookieEcho(_ChunkPart):
     """COOKIE ECHO, type 10 (RFC 9260 section 3.3.11)."""
 
@@ -808,14 +808,14 @@ class CookieEcho(_ChunkPart):
     cookie: bytes
 
 
-@dataclass(frozen=True, slots=True)
+@dataclass(slots=True, unsafe_hash=True)
 class CookieAck(_ChunkPart):
     """COOKIE ACK, type 11 (RFC 9260 section 3.3.12)."""
 
     type: ClassVar[ChunkType] = ChunkType.COOKIE_ACK
 
 
-@dataclass(frozen=True, slots=True)
+@dataclass(slots=True, unsafe_hash=True)
 class ShutdownComplete(_ChunkPart):
     """SHUTDOWN COMPLETE, type 14 (RFC 9260 section 3.3.13)."""
 
@@ -825,7 +825,7 @@ class ShutdownComplete(_ChunkPart):
     packets, sent back to it (section 8.5.1)."""
 
 
-@dataclass(frozen=True, slots=True)
+@dataclass(slots=True, unsafe_hash=True)
 class ReConfig(_ChunkPart):
     """RE-CONFIG, type 130 (RFC 6525 section 3.1)."""
 
@@ -833,7 +833,7 @@ class ReConfig(_ChunkPart):
     parameters: tuple[Parameter, ...] = ()
 
 
-@dataclass(frozen=True, slots=True)
+@dataclass(slots=True, unsafe_hash=True)
 class ForwardTsn(_ChunkPart):
     """FORWARD-TSN, type 192 (RFC 3758 section 3.2)."""
 
@@ -842,7 +842,7 @@ class ForwardTsn(_ChunkPart):
     streams: tuple[SkippedStream, ...] = ()
 
 
-@dataclass(frozen=True, slots=True)
+@dataclass(slots=True, unsafe_hash=True)
 class IForwardTsn(_ChunkPart):
     """I-FORWARD-TSN, type 194 (RFC 8260 section 2.3.1)."""
 

@@ -1,6 +1,7 @@
 # SPDX-License-Identifier: Apache-2.0
 """Writing packets."""
 
+import struct
 import threading
 from collections.abc import Callable, Iterable, Sequence
 from ctypes import byref, c_size_t, c_uint16, c_uint32
@@ -10,7 +11,7 @@ from typing import Any
 from . import _library as c
 from . import _values as v
 from ._library import functions
-from ._reading import Buffer, number, start_of, to_bytes
+from ._reading import Buffer, chunk_at, fast, number, read, start_of, to_bytes
 
 _SMALL = 2048
 
@@ -37,8 +38,17 @@ def _numbers(kind: Any, check: Callable[[int, str], int], values: Iterable[int],
 
 
 def _blocks(blocks: Iterable[tuple[int, int]]) -> tuple[Any, int]:
-    pairs = [c.GapAckBlock(_u16(start, "a block's start"), _u16(end, "a block's end")) for start, end in blocks]
-    return _array(c.GapAckBlock, pairs)
+    numbers = [it for start, end in blocks for it in (start, end)]
+    if not numbers:
+        return None, 0
+    array = (c.GapAckBlock * (len(numbers) // 2))()
+    try:
+        struct.pack_into(f"@{len(numbers)}H", array, 0, *numbers)
+    except struct.error:  # (not all have a place: what is raised says which)
+        for it in range(0, len(numbers), 2):
+            _u16(numbers[it], "a block's start"), _u16(numbers[it + 1], "a block's end")
+        raise
+    return array, len(array)
 
 
 def _bytes(data: Buffer) -> tuple[bytes, int]:
@@ -96,7 +106,8 @@ def validate_sack(sack: v.Sack) -> bool:
 
 
 class PacketBuilder:
-    """Writes a packet (RFC 9260 section 3): a method for each kind of chunk, and `seal` for its bytes.
+    """Writes a packet (RFC 9260 section 3): a method for each kind of chunk, and `seal` for its bytes. `reset` begins the next
+    packet in the same memory.
 
     The values are written as they are: whether RFC 9260 lets them be sent, or `check` would accept the packet, isn't
     checked. A method that raises has changed nothing: NoRoom where the packet would have more bytes than the limit,
@@ -104,47 +115,64 @@ class PacketBuilder:
     is atomic, in any number of threads; but a list that is written call by call, by a ChunkWriter, belongs to one thread:
     no other may add to the packet, or take a chunk back, until it is complete. `add` writes a whole list in one call."""
 
+    __slots__ = ("__dict__", "__weakref__", "_is_taken", "_last", "_limit", "_lock", "_packet", "_size", "_start")
+
     def __init__(
         self, source_port: int, destination_port: int, verification_tag: int, *, limit: int = v.MAX_PACKET_SIZE
     ) -> None:
         """Begins a packet of at most `limit` bytes, and never more than 65,532; NoRoom where the limit is below 12."""
         self._limit = max(0, min(limit, v.MAX_PACKET_SIZE))
         self._packet = bytearray(min(self._limit, _SMALL))
-        self._size = c_size_t()
+        self._start: Any = None
+        self._size = 0
         # The token of the writer whose chunk is the packet's last one.
         self._last: object = None
-        # (C has to be alone with the packet and its size.)
-        self._lock = threading.RLock()
-        self._call(
-            functions.dcsctp_begin,
-            _u16(source_port, "source_port"),
-            _u16(destination_port, "destination_port"),
-            _u32(verification_tag, "verification_tag"),
-        )
+        # (What takes several steps has to be alone with the packet and its size.)
+        self._lock, self._is_taken = threading.RLock(), False
+        self.reset(source_port, destination_port, verification_tag)
+
+    def reset(self, source_port: int, destination_port: int, verification_tag: int) -> None:
+        """Begins another packet in the memory of the one before, which is gone, as is what was written to it; with the same
+        limit. One builder for many packets takes less time than one for each."""
+        if fast is None or not fast.begin(self, source_port, destination_port, verification_tag):
+            self._call(
+                functions.dcsctp_begin,
+                _u16(source_port, "source_port"),
+                _u16(destination_port, "destination_port"),
+                _u32(verification_tag, "verification_tag"),
+            )
+
+    def _alone(self) -> "threading.RLock | _Alone":
+        """What is entered by what is alone with the packet for several steps."""
+        return self._lock if fast is None else _Alone(self)
 
     def _write(self, function: Any, *arguments: Any) -> None:
-        with self._lock:
-            while True:
-                code = function(start_of(self._packet), len(self._packet), byref(self._size), *arguments)
-                if code != v.Result.NO_ROOM or len(self._packet) == self._limit:
-                    break
-                packet = bytearray(min(self._limit, 2 * len(self._packet)))
-                packet[: len(self._packet)] = self._packet
-                self._packet = packet
-            size = self._size.value
-        if code:
-            text = f"{v.Result(code).text}: {function.__name__.removeprefix('dcsctp_')}"
-            value = "".join(f" of {len(it)} bytes" for it in arguments if isinstance(it, bytes))
-            raise v.write_error(code, f"{text}{value}, after {size} of at most {self._limit}")
+        """What is alone calls this."""
+        while True:
+            if self._start is None:
+                self._start = start_of(self._packet)
+            size = c_size_t(self._size)
+            code = function(self._start, len(self._packet), byref(size), *arguments)
+            if code == 0:
+                self._size = size.value
+                return
+            if code != v.Result.NO_ROOM or len(self._packet) == self._limit:
+                break
+            packet = bytearray(min(self._limit, 2 * len(self._packet)))
+            packet[: len(self._packet)] = self._packet
+            self._packet, self._start = packet, None
+        text = f"{v.Result(code).text}: {function.__name__.removeprefix('dcsctp_')}"
+        value = "".join(f" of {len(it)} bytes" for it in arguments if isinstance(it, bytes))
+        raise v.write_error(code, f"{text}{value}, after {self._size} of at most {self._limit}")
 
     def _call(self, function: Any, *arguments: Any) -> None:
-        with self._lock:
+        with self._alone():
             self._write(function, *arguments)
             self._last = None
 
     def _list(self, function: Any, *arguments: Any) -> "ChunkWriter":
-        with self._lock:
-            start = self._size.value
+        with self._alone():
+            start = self._size
             self._write(function, *arguments)
             writer = ChunkWriter(self, start)
             self._last = writer._token
@@ -154,12 +182,12 @@ class PacketBuilder:
 
     def __bytes__(self) -> bytes:
         """The packet with a checksum field of zero, as RFC 9653 has it sent where that was negotiated."""
-        with self._lock:
-            return bytes(self._packet[: self._size.value])
+        with self._alone():
+            return bytes(memoryview(self._packet)[: self._size])
 
     def __len__(self) -> int:
         """The number of bytes."""
-        return self._size.value
+        return self._size
 
     @property
     def limit(self) -> int:
@@ -168,18 +196,27 @@ class PacketBuilder:
 
     def seal(self) -> bytes:
         """Returns the packet, with its CRC32c (RFC 9260 section 6.8). More may be added, and sealed again."""
-        return seal(bytes(self))
+        sealed = None if fast is None else fast.sealed(self)
+        if sealed is not None:
+            return sealed
+        with self._alone():
+            functions.dcsctp_seal(self._start or start_of(self._packet), self._size)
+            sealed = bytes(memoryview(self._packet)[: self._size])
+            self._packet[8:12] = bytes(4)
+            return sealed
 
     # -- chunks
 
     def add(self, chunk: v.Chunk) -> None:
         """Adds a chunk of any kind, with its parameters or error causes: all of it, or nothing."""
-        with self._lock:
-            start, last = self._size.value, self._last
+        if fast is not None and fast.add(self, chunk):
+            return
+        with self._alone():
+            start, last = self._size, self._last
             try:
                 self._add(chunk)
             except BaseException:
-                self._size.value, self._last = start, last
+                self._size, self._last = start, last
                 raise
 
     def _add(self, chunk: v.Chunk) -> None:
@@ -289,18 +326,15 @@ class PacketBuilder:
     def _data(
         self, function: Any, chunk: v.Data | v.IData, payload: Buffer, *, ssn: int = 0, mid: int = 0, fsn: int = 0
     ) -> None:
-        numbers = c.Data(
-            tsn=_u32(chunk.tsn, "tsn"),
-            mid=_u32(mid, "mid"),
-            fsn=_u32(fsn, "fsn"),
-            ppid=_u32(chunk.ppid, "ppid"),
-            stream=_u16(chunk.stream, "stream"),
-            ssn=_u16(ssn, "ssn"),
-            is_unordered=bool(chunk.is_unordered),
-            is_beginning=bool(chunk.is_beginning),
-            is_end=bool(chunk.is_end),
-            immediate_ack=bool(chunk.immediate_ack),
-        )
+        numbers = c.Data()
+        bits = chunk.is_unordered, chunk.is_beginning, chunk.is_end, chunk.immediate_ack
+        try:
+            c.DATA.pack_into(numbers, 0, chunk.tsn, mid, fsn, chunk.ppid, chunk.stream, ssn, *bits, 0, 0)
+        except struct.error:  # (not all have a place: what is raised says which)
+            for value, name in ((chunk.tsn, "tsn"), (mid, "mid"), (fsn, "fsn"), (chunk.ppid, "ppid")):
+                _u32(value, name)
+            _u16(chunk.stream, "stream"), _u16(ssn, "ssn")
+            raise
         self._call(function, byref(numbers), *_bytes(payload))
 
     def sack(
@@ -410,6 +444,27 @@ class PacketBuilder:
         )
 
 
+class _Alone:
+    """Has the module leave the builder alone, which takes no lock, and others wait."""
+
+    __slots__ = ("_before", "_builder")
+
+    def __init__(self, builder: PacketBuilder) -> None:
+        self._builder = builder
+
+    def __enter__(self) -> None:
+        self._builder._lock.acquire()
+        self._before, self._builder._is_taken = self._builder._is_taken, True
+
+    def __exit__(self, *_: object) -> None:
+        self._builder._is_taken = self._before
+        self._builder._lock.release()
+
+
+if fast is not None:
+    fast.prepare(read, chunk_at, PacketBuilder, v)
+
+
 class ChunkWriter:
     """Adds parameters or error causes to the packet's last chunk. In a `with` statement that ends by an exception the chunk
     is taken back; where it isn't the last one any more the packet is left as it is, and BadPlace is raised.
@@ -427,14 +482,14 @@ class ChunkWriter:
         self, kind: type[BaseException] | None, value: BaseException | None, traceback: TracebackType | None
     ) -> None:
         builder = self._builder
-        with builder._lock:
+        with builder._alone():
             if builder._last is self._token and kind is not None:
-                builder._last, builder._size.value = None, self._start
+                builder._last, builder._size = None, self._start
             elif isinstance(value, Exception):
                 raise _not_last() from value
 
     def _add(self, function: Any, *arguments: Any) -> None:
-        with self._builder._lock:
+        with self._builder._alone():
             if self._builder._last is not self._token:
                 raise _not_last()
             self._builder._write(function, self._start, *arguments)

@@ -1,0 +1,162 @@
+// SPDX-License-Identifier: Apache-2.0
+
+package davgyuti_test
+
+import (
+	"fmt"
+	"math/rand"
+	"os"
+	"regexp"
+	"strings"
+	"testing"
+
+	"davgyuti.example/davgyuti"
+)
+
+// isRead tests that Read reads what the single calls do, or has the error of Check.
+func isRead(t *testing.T, parsed *davgyuti.Parsed, packet davgyuti.Packet, policy davgyuti.Policy) bool {
+	t.Helper()
+	what := fmt.Sprintf("%x %v", []byte(packet[:len(packet)%1000]), policy)
+	err := parsed.Read(packet, policy)
+	equal(t, what, err, packet.Check(policy))
+	if err != nil {
+		equal(t, what, parsed.Len(), 0)
+		return false
+	}
+	header, _ := packet.Header()
+	equal(t, what, parsed.Header, header)
+	chunks := packet.Chunks().Slice()
+	if parsed.Len() != len(chunks) {
+		t.Fatalf("%s: there are %d chunks, not %d", what, parsed.Len(), len(chunks))
+	}
+	for i, wanted := range chunks {
+		chunk := parsed.Chunk(i)
+		equal(t, what, []interface{}{chunk.Type, chunk.Flags, chunk.Value, chunk.Offset, chunk.NextOffset, chunk.Bytes()},
+			[]interface{}{wanted.Type, wanted.Flags, wanted.Value, wanted.Offset, wanted.NextOffset, wanted.Bytes()})
+		equal(t, what, numbersOf(chunk), numbersOf(wanted))
+		equal(t, what, append([]davgyuti.GapAckBlock(nil), parsed.GapAckBlocks(i)...), wanted.GapAckBlocks().Slice())
+		equal(t, what, append([]uint32(nil), parsed.DuplicateTSNs(i)...), wanted.DuplicateTSNs().Slice())
+		equal(t, what, append([]davgyuti.SkippedStream(nil), parsed.SkippedStreams(i)...), wanted.SkippedStreams().Slice())
+		var parameters []davgyuti.Parameter
+		for k := 0; k < parsed.ParameterCount(i); k++ {
+			parameters = append(parameters, parsed.Parameter(i, k))
+		}
+		equal(t, what, parameters, wanted.Parameters().Slice())
+		var causes []davgyuti.Cause
+		for k := 0; k < parsed.CauseCount(i); k++ {
+			causes = append(causes, parsed.Cause(i, k))
+		}
+		equal(t, what, causes, wanted.Causes().Slice())
+	}
+	return true
+}
+
+func numbersOf(chunk davgyuti.Chunk) (all []interface{}) {
+	data, isData := chunk.Data()
+	sack, isSACK := chunk.SACK()
+	init, isInit := chunk.Init()
+	shutdown, isShutdown := chunk.Shutdown()
+	forwardTSN, isForwardTSN := chunk.ForwardTSN()
+	return append(all, data, isData, sack, isSACK, init, isInit, shutdown, isShutdown, forwardTSN, isForwardTSN)
+}
+
+var policies = []davgyuti.Policy{{}, {AnyChecksum: true}, {ZeroChecksum: true}, {AllowedZeroChecksum: true}, {StrictPadding: true}}
+
+func TestParsed(t *testing.T) {
+	var parsed davgyuti.Parsed
+	equal(t, "zero value", parsed.Len(), 0)
+	packets := []davgyuti.Packet{nil, make([]byte, 15), make([]byte, 65536)}
+	texts, err := os.ReadFile("../../examples/packets.txt")
+	if err != nil && !os.IsNotExist(err) {
+		t.Fatal(err)
+	}
+	for _, line := range strings.Fields(regexp.MustCompile("(?m)^#.*").ReplaceAllString(string(texts), "")) {
+		packets = append(packets, ofHex(line))
+	}
+	more := []string{"0900002b 0002 000a 00000001 0007 0000  0009 0008 00000005  0006 0008 7f000004 000a 0004  000d 0007 626164 00",
+		"c0000010 0000000a 0001 0002 0003 0004", "c2000018 0000000a 0001 0001 00000002 0003 0000 00000004", "0e010004", "08000004",
+		"82000018 000d 0014 00000001 00000002 00000003 0004 0005", "8200000c 000f 0008 00000008"}
+	for _, text := range append(more, bare...) {
+		packets = append(packets, sealed(text))
+	}
+	for _, it := range []string{strings.Join(append(more, bare...), ""), strings.Repeat(strings.Join(more, ""), 50)} {
+		packets = append(packets, sealed(it))
+	}
+	for _, packet := range packets {
+		for _, policy := range policies {
+			isRead(t, &parsed, packet, policy)
+			isRead(t, new(davgyuti.Parsed), packet, policy) // with too few rows, and places in lists, at first
+		}
+	}
+	random, accepted := rand.New(rand.NewSource(2)), 0
+	for round := 0; round < 3000; round++ {
+		packet := append(davgyuti.Packet(nil), packets[3+random.Intn(len(packets)-4)]...)
+		for changes := random.Intn(4); changes > 0 && len(packet) > 0; changes-- {
+			packet[random.Intn(len(packet))] = byte(random.Intn(256))
+		}
+		packet = packet[:len(packet)-random.Intn(2)*random.Intn(len(packet))]
+		if random.Intn(2) == 0 {
+			_ = packet.Seal()
+		}
+		if isRead(t, &parsed, packet, policies[random.Intn(len(policies))]) {
+			accepted++
+		}
+	}
+	if accepted < 300 || accepted > 2700 {
+		t.Errorf("%d of 3000 are accepted", accepted)
+	}
+}
+
+// A packet of as many chunks as there can be, one of as many blocks, and one of as many parameters.
+func TestParsedLarge(t *testing.T) {
+	var parsed davgyuti.Parsed
+	for _, text := range []string{strings.Repeat("0b000004", 16380), "0300fff0 00000001 00000002 3ff8 0000" + strings.Repeat("00020003", 16376),
+		"8200ffcc" + strings.Repeat("00630004", 16370)} {
+		packet := sealed(text)
+		equal(t, "read", parsed.Read(packet, davgyuti.Policy{}), nil)
+		equal(t, "allocations", testing.AllocsPerRun(5, func() { _ = parsed.Read(packet, davgyuti.Policy{}) }), 0.0)
+	}
+	equal(t, "parameters", []int{parsed.Len(), parsed.ParameterCount(0), parsed.CauseCount(0)}, []int{1, 16370, 0})
+	equal(t, "last", parsed.Parameter(0, 16369).Offset, 16+4*16369)
+}
+
+func TestParsedAllocates(t *testing.T) {
+	var parsed davgyuti.Parsed
+	packet := sealed(strings.Join(bare, ""))
+	equal(t, "read", parsed.Read(packet, davgyuti.Policy{}), nil)
+	sum := 0
+	equal(t, "allocations", testing.AllocsPerRun(100, func() {
+		if parsed.Read(packet, davgyuti.Policy{AllowedZeroChecksum: true}) != nil {
+			t.Error("it is no packet")
+		}
+		for i := 0; i < parsed.Len(); i++ {
+			chunk := parsed.Chunk(i)
+			data, _ := chunk.Data()
+			sack, _ := chunk.SACK()
+			init, _ := chunk.Init()
+			sum += len(data.Payload) + int(sack.ARwnd) + int(init.ARwnd) + len(parsed.GapAckBlocks(i)) + len(parsed.DuplicateTSNs(i))
+			for k := 0; k < parsed.ParameterCount(i); k++ {
+				sum += len(parsed.Parameter(i, k).Value)
+			}
+		}
+	}), 0.0)
+	for _, out := range []func(){func() { parsed.Chunk(len(bare)) }, func() { parsed.Parameter(0, 0) }, func() { parsed.Cause(1, 0) },
+		func() { parsed.GapAckBlocks(-1) }, func() { new(davgyuti.Parsed).Chunk(0) }} {
+		func() {
+			defer func() { equal(t, "panics", recover() != nil, true) }()
+			out()
+		}()
+	}
+}
+
+func BenchmarkParsed(b *testing.B) {
+	var parsed davgyuti.Parsed
+	packet := sealed("0b000004 000b0013 01020304 0005 0006 00000033 616263 00")
+	b.ReportAllocs()
+	for i := 0; i < b.N; i++ {
+		_ = parsed.Read(packet, davgyuti.Policy{})
+		for k := 0; k < parsed.Len(); k++ {
+			parsed.Chunk(k).Data()
+		}
+	}
+}
