@@ -7,9 +7,7 @@ import * as davgyuti from '../davgyuti.mjs';
 import library from '../library.js';
 
 const file = name => readFileSync(new URL(name, import.meta.url), 'utf8');
-// (the package reads chunk by chunk, without dcsctp_read)
-const header = file('../../../include/dcsctp.h').replace(/\/\*[^]*?\*\//g, '')
-  .replace(/struct dcsctp_(row|packet) \{[^}]*\};|\w+ dcsctp_read\([^)]*\);/g, '');
+const header = file('../../../include/dcsctp.h').replace(/\/\*[^]*?\*\//g, '');
 const code = file('../davgyuti.js');
 const camel = name => name.replace(/_(\w)/g, (_, letter) => letter.toUpperCase());
 
@@ -27,13 +25,17 @@ test('the module imports nothing, and exports these functions, its memory, mallo
   const module = new WebAssembly.Module(readFileSync(new URL('../dcsctp.wasm', import.meta.url)));
   assert.deepEqual(WebAssembly.Module.imports(module), []);
   const exports = WebAssembly.Module.exports(module).filter(it => it.kind !== 'global').map(it => it.name);
-  assert.deepEqual(exports.sort(), [...functions, 'dcsctp_read', 'memory', 'malloc', 'free'].sort());
+  assert.deepEqual(exports.sort(), [...functions, 'memory', 'malloc', 'free'].sort());
 });
 
 test('the structs are the header\'s', () => {
   const sizes = { uint8_t: 1, bool: 1, uint16_t: 2, uint32_t: 4, size_t: 8 };
   const found = {};
-  for (const [, name, body] of header.matchAll(/struct dcsctp_(\w+) \{([^}]*)\};/g)) {
+  // (the package has the fields of a struct in a struct among the others: each of them ends where the next field may begin)
+  const bodies = {};
+  for (const [, name, body] of header.matchAll(/struct dcsctp_(\w+) \{([^}]*)\};/g))
+    bodies[name] = body.replace(/struct dcsctp_(\w+) \w+;/, (_, inner) => bodies[inner]);
+  for (const [name, body] of Object.entries(bodies)) {
     const fields = [];
     let at = 0;
     for (const [, type, field] of body.matchAll(/(\w+) (\w+);/g)) {
