@@ -3,7 +3,7 @@
 //
 // usage: node plain.mjs ROUNDS MILLIS FILE..
 import { readFileSync } from 'node:fs';
-import { ChunkType, causes, check, chunks, parameters } from '../bindings/js/davgyuti.mjs';
+import { ChunkType, causes, parameters, read } from '../bindings/js/davgyuti.mjs';
 
 // ---- by the package
 
@@ -72,13 +72,14 @@ function sumOfChunk(chunk) {
 const POLICY = { anyChecksum: true, word: 0 };
 
 function byThePackage(bytes) {
+  let packet;
   try {
-    check(bytes, POLICY);
+    packet = read(bytes, POLICY);
   } catch {
     return 0;
   }
   let sum = 1;
-  for (const chunk of chunks(bytes))
+  for (const chunk of packet.chunks)
     sum += chunk.type + sumOfChunk(chunk);
   return sum;
 }

@@ -337,6 +337,17 @@ export function chunks(bytes: Packet): IterableIterator<Chunk>;
 /** The same of any bytes. They end where no whole chunk is. */
 export function chunks(bytes: Uint8Array): IterableIterator<UncheckedChunk>;
 
+/** A packet that `read` read. */
+export interface ReadPacket {
+  header: Header;
+  /** Its chunks: their fields are getters but for `type`, `flags`, `valueOffset` and `next`. Numbers are those that were read; a
+      list is read of the bytes when it is first asked for, and a view is of the bytes, of no bytes where it is empty. */
+  chunks: Chunk[];
+}
+/** Checks a packet, and reads its header and its chunks, in one call: in less time than `check`, `header` and `chunks` take.
+    Throws as `check` does. */
+export function read(bytes: Uint8Array, policy?: Policy): ReadPacket;
+
 /** The chunk that the bytes are, without a packet around it, and with or without its padding: as SDP has an INIT in
     `a=sctp-init`, and the cause Unrecognized Chunk Type any chunk. Its `bytes` write it. Throws a Fault whose offset is into
     these bytes; with FAULT_LENGTH where the chunk ends if something follows it. */

@@ -3,7 +3,7 @@
 'use strict';
 
 // (`this` is a CommonJS module's exports; in a module of a browser it is undefined)
-const { load, call, instance, number, truth, record, isList, isBytes, Block, Struct, structs } =
+const { load, call, instance, view, number, truth, record, isList, isBytes, Block, Struct, structs } =
   this ? require('./library.js') : globalThis[Symbol.for('davgyuti')];
 
 const version = '0.1.0';
@@ -264,6 +264,8 @@ const SIZE = new Struct({ it: 'size' });
 // takes, a chunk say; of a parameter in it; and of what it writes.
 const input = new Block(), output = new Block(), packet = new Block(), places = new Block();
 const HEAD = 0, ITEM = 64, FOUND = 128, PLACES = 192;
+// The rows of the packet that is read, of which each chunk has one.
+const rows = new Block();
 const NOTHING = new Uint8Array(0);
 
 function reserve(block, size) {
@@ -289,9 +291,16 @@ function putAll(block, struct, all) {
 const valuesOf = (struct, items, name) => Array.from(isList(items, name), it => struct.values(it, `an item of ${name}`));
 const numbersOf = (struct, items, name) => Array.from(isList(items, name), it => [struct.fields[0].check(it, `an item of ${name}`)]);
 
+// Where the places are, in the instance that has them.
+let spots = null, spotsIn = -1;
+
 function place(at) {
-  reserve(places, PLACES);
-  return places.at + BigInt(at);
+  if (spotsIn !== instance()) {
+    reserve(places, PLACES);
+    spots = Object.fromEntries([HEAD, ITEM, FOUND].map(it => [it, places.at + BigInt(it)]));
+    spotsIn = instance();
+  }
+  return spots[at];
 }
 
 /** What a function writes as its last argument, where it returns true. */
@@ -314,12 +323,12 @@ function listed(struct, name, ...words) {
 function asked(bytes, policy) {
   const { anyChecksum = false, zeroChecksum = false, allowedZeroChecksum = false, strictPadding = false, word } =
     record(policy, 'policy');
-  const values = structs.policy.values({ anyChecksum, zeroChecksum, strictPadding });
+  const values = [truth(anyChecksum, 'anyChecksum'), truth(zeroChecksum, 'zeroChecksum'), truth(strictPadding, 'strictPadding')];
   truth(allowedZeroChecksum, 'allowedZeroChecksum');
   if (word !== undefined)
     number(word, 'u32', 'word');
   // (more than 65,535 bytes are refused by their size: so at most one too many is copied)
-  const words = put(input, part(bytes, 0, Math.min(isBytes(bytes, 'bytes').length, 65_536))), at = place(HEAD);
+  const words = put(input, isBytes(bytes, 'bytes').length > 65_536 ? part(bytes, 0, 65_536) : bytes), at = place(HEAD);
   if (allowedZeroChecksum && found(structs.header, 'dcsctp_header', ...words)?.checksum === 0 && !needs(words))
     values[1] = true;
   structs.policy.write(at, values);
@@ -458,6 +467,184 @@ function chunks(bytes) {
   return list.values();
 }
 
+// ---- reading a packet in one call
+
+/** Where the fields of a struct are. */
+const placesOf = struct => Object.freeze(Object.fromEntries(struct.fields.map(({ name, at }) => [name, at])));
+const ROW = placesOf(structs.row), READ = placesOf(structs.packet), ROW_SIZE = structs.row.size, ROW_HEADER = 4;
+
+const CHUNK = placesOf(structs.chunk), PARAMETER = placesOf(structs.parameter), BLOCK = placesOf(structs.gapAckBlock), SKIPPED = placesOf(structs.skippedStream);
+
+/** Indices as the functions take them. */
+const indices = [];
+const indexOf = i => indices[i] ??= BigInt(i);
+
+/** The items of a list of a chunk that lies in the memory, of which its row says how many there are. */
+function counted(name, count, words, make) {
+  const at = place(FOUND), from = Number(at), list = [];
+  for (let i = 0; i < count && call(name, ...words, indexOf(i), at); i++)
+    list.push(make(view(), from));
+  return list;
+}
+
+const blockAt = (memory, at) => ({
+  start: memory.getUint16(at + BLOCK.start, true),
+  end: memory.getUint16(at + BLOCK.end, true),
+});
+
+const skippedAt = (memory, at) => ({
+  stream: memory.getUint16(at + SKIPPED.stream, true),
+  ssn: memory.getUint16(at + SKIPPED.ssn, true),
+  mid: memory.getUint32(at + SKIPPED.mid, true),
+  isUnordered: memory.getUint8(at + SKIPPED.isUnordered) !== 0,
+});
+
+const numberAt = (memory, at) => memory.getUint32(at, true);
+
+/** What `read` keeps of a row besides the chunk: an object of its type's numbers, whose lists and views come when they are asked for. */
+function numbersOfRow(memory, at, type) {
+  switch (type) {
+    case ChunkType.DATA:
+    case ChunkType.I_DATA:
+      return {
+        tsn: memory.getUint32(at + ROW.tsn, true),
+        mid: memory.getUint32(at + ROW.mid, true),
+        fsn: memory.getUint32(at + ROW.fsn, true),
+        ppid: memory.getUint32(at + ROW.ppid, true),
+        stream: memory.getUint16(at + ROW.stream, true),
+        ssn: memory.getUint16(at + ROW.ssn, true),
+        isUnordered: memory.getUint8(at + ROW.isUnordered) !== 0,
+        isBeginning: memory.getUint8(at + ROW.isBeginning) !== 0,
+        isEnd: memory.getUint8(at + ROW.isEnd) !== 0,
+        immediateAck: memory.getUint8(at + ROW.immediateAck) !== 0,
+        payload: null,
+      };
+    case ChunkType.INIT:
+    case ChunkType.INIT_ACK:
+      return {
+        initiateTag: memory.getUint32(at + ROW.initiateTag, true),
+        aRwnd: memory.getUint32(at + ROW.aRwnd, true),
+        outboundStreams: memory.getUint16(at + ROW.outboundStreams, true),
+        inboundStreams: memory.getUint16(at + ROW.inboundStreams, true),
+        initialTsn: memory.getUint32(at + ROW.tsn, true),
+      };
+    case ChunkType.SACK:
+      return {
+        cumulativeTsnAck: memory.getUint32(at + ROW.tsn, true),
+        aRwnd: memory.getUint32(at + ROW.aRwnd, true),
+        blocks: null,
+        duplicates: null,
+        isInOrder: false,
+      };
+    case ChunkType.SHUTDOWN:
+      return { cumulativeTsnAck: memory.getUint32(at + ROW.tsn, true) };
+    case ChunkType.FORWARD_TSN:
+    case ChunkType.I_FORWARD_TSN:
+      return { newCumulativeTsn: memory.getUint32(at + ROW.tsn, true), streams: null };
+    default:
+      return null;
+  }
+}
+
+/** A chunk that `read` gives: what its row has, and the caller's bytes. */
+class RowChunk {
+  #bytes;
+  #size;
+  #restOffset;
+  #count;
+  #duplicateCount;
+  #content;
+
+  // (in each row a size's upper half is 0, as the memory's addresses have 32 bits)
+  constructor(bytes, memory, at) {
+    this.type = memory.getUint8(at + ROW.type);
+    this.flags = memory.getUint8(at + ROW.flags);
+    this.valueOffset = memory.getUint32(at + ROW.valueOffset, true);
+    this.next = memory.getUint32(at + ROW.next, true);
+    this.#bytes = bytes;
+    this.#size = memory.getUint32(at + ROW.valueSize, true);
+    this.#restOffset = memory.getUint32(at + ROW.restOffset, true);
+    this.#count = memory.getUint32(at + ROW.count, true);
+    this.#duplicateCount = memory.getUint32(at + ROW.duplicateCount, true);
+    this.#content = numbersOfRow(memory, at, this.type);
+  }
+
+  get name() {
+    return chunkName(this.type);
+  }
+
+  get offset() {
+    return this.valueOffset - ROW_HEADER;
+  }
+
+  get value() {
+    return this.#size > 0 ? part(this.#bytes, this.valueOffset, this.#size) : NOTHING;
+  }
+
+  get bytes() {
+    return part(this.#bytes, this.offset, ROW_HEADER + this.#size);
+  }
+
+  #of(...types) {
+    return types.includes(this.type) ? this.#content : undefined;
+  }
+
+  get data() {
+    if (this.type !== ChunkType.DATA && this.type !== ChunkType.I_DATA)
+      return undefined;
+    const it = this.#content;
+    it.payload ??= part(this.#bytes, this.#restOffset, this.valueOffset + this.#size - this.#restOffset);
+    return it;
+  }
+
+  get init() {
+    return this.#of(ChunkType.INIT, ChunkType.INIT_ACK);
+  }
+
+  get shutdown() {
+    return this.#of(ChunkType.SHUTDOWN);
+  }
+
+  get sack() {
+    const it = this.#of(ChunkType.SACK);
+    if (it !== undefined && it.blocks === null) {
+      const words = inMemory(this);
+      it.isInOrder = call('dcsctp_validate_sack', ...words) !== 0;
+      it.duplicates = counted('dcsctp_duplicate_tsn', this.#duplicateCount, words, numberAt);
+      it.blocks = counted('dcsctp_gap_ack_block', this.#count, words, blockAt);
+    }
+    return it;
+  }
+
+  get forwardTsn() {
+    const it = this.#of(ChunkType.FORWARD_TSN, ChunkType.I_FORWARD_TSN);
+    if (it !== undefined)
+      it.streams ??= counted('dcsctp_skipped_stream', this.#count, inMemory(this), skippedAt);
+    return it;
+  }
+}
+
+function read(bytes, policy = {}) {
+  const words = asked(bytes, policy), at = place(FOUND);
+  // (no packet has more chunks than one for each four bytes behind its header)
+  reserve(rows, Math.max(0, Math.min(bytes.length, 65_536) - FIRST_CHUNK) / 4 * ROW_SIZE);
+  const code = call('dcsctp_read', ...words, rows.at, BigInt(Math.floor(rows.room / ROW_SIZE)), at);
+  const memory = view(), from = Number(at);
+  if (code !== Result.OK)
+    throw new Fault(code, memory.getUint32(from + READ.faultOffset, true));
+  const header = {
+    sourcePort: memory.getUint16(from + READ.sourcePort, true),
+    destinationPort: memory.getUint16(from + READ.destinationPort, true),
+    verificationTag: memory.getUint32(from + READ.verificationTag, true),
+    checksum: memory.getUint32(from + READ.checksum, true),
+  };
+  const first = Number(rows.at), size = memory.getUint32(from + READ.chunkCount, true) * ROW_SIZE;
+  const list = [];
+  for (let row = 0; row < size; row += ROW_SIZE)
+    list.push(new RowChunk(bytes, memory, first + row));
+  return { header, chunks: list };
+}
+
 function readChunk(bytes) {
   // (no chunk is longer, so at most one byte too many is copied)
   const { length } = isBytes(bytes, 'bytes'), given = part(bytes, 0, Math.min(length, 65_536));
@@ -483,20 +670,31 @@ function withFlags(data, flags) {
   return { ...record(data, 'data'), ...Object.fromEntries(bits) };
 }
 
+/** Copies a chunk's value alone into the memory: the words for it, and for the chunk in it. */
+function inMemory(chunk) {
+  const { flags, value } = chunk, size = isBytes(value, 'value').length;
+  const type = number(chunk.type, 'u8', 'type');
+  number(flags, 'u8', 'flags');
+  const [start, length] = put(input, value), head = place(HEAD), at = Number(head), memory = view();
+  memory.setUint8(at + CHUNK.type, type);
+  memory.setUint8(at + CHUNK.flags, flags);
+  memory.setBigUint64(at + CHUNK.valueOffset, 0n, true);
+  memory.setBigUint64(at + CHUNK.valueSize, length, true);
+  memory.setBigUint64(at + CHUNK.next, length, true);
+  return [start, length, head];
+}
+
 /** The parameters or error causes of a chunk, read from its value alone. */
 function items(chunk, complete) {
-  const { flags, value } = chunk, size = isBytes(value, 'value').length;
-  const at = structs.chunk.values({ type: chunk.type, flags, valueOffset: 0, valueSize: size, next: size });
-  const base = number(chunk.valueOffset, 'size', 'valueOffset'), list = [];
-  const words = put(input, value), head = place(HEAD), item = place(ITEM);
-  structs.chunk.write(head, at);
+  const { value } = chunk, base = number(chunk.valueOffset, 'size', 'valueOffset'), list = [];
+  const [start, length, head] = inMemory(chunk), words = [start, length], item = place(ITEM), at = Number(item);
   for (let offset = Number(call('dcsctp_list_offset', head)); ;) {
     if (!call('dcsctp_parameter_at', ...words, head, BigInt(offset), item))
       return list.values();
-    const { type, valueOffset, valueSize, next } = structs.parameter.read(item);
-    const its = { value: part(value, valueOffset, valueSize), offset: base + offset, next: base + next };
-    its.bytes = part(value, offset, valueOffset + valueSize - offset);
-    list.push(complete(type, its, [...words, item]));
+    const memory = view(), type = memory.getUint16(at + PARAMETER.type, true), next = memory.getUint32(at + PARAMETER.next, true);
+    const valueOffset = memory.getUint32(at + PARAMETER.valueOffset, true), valueSize = memory.getUint32(at + PARAMETER.valueSize, true);
+    const its = part(value, valueOffset, valueSize), bytes = part(value, offset, valueOffset + valueSize - offset);
+    list.push(complete({ type, value: its, bytes, offset: base + offset, next: base + next }, [...words, item]));
     offset = next;
   }
 }
@@ -513,11 +711,12 @@ function withNumber(item, words) {
 function parameters(chunk) {
   if (isCauses(chunk))
     return [].values();
-  return items(chunk, (type, its, words) => {
-    const parameter = { type, name: parameterName(type), ...its };
+  return items(chunk, ({ type, value, bytes, offset, next }, words) => {
+    const parameter = { type, name: parameterName(type), value, bytes, offset, next };
     if (type === ParameterType.ZERO_CHECKSUM_ACCEPTABLE)
       withNumber(parameter, words);
-    const reConfig = found(structs.reConfig, 'dcsctp_re_config', ...words);
+    const isReConfig = type >= ParameterType.OUTGOING_SSN_RESET && type <= ParameterType.ADD_INCOMING_STREAMS;
+    const reConfig = isReConfig ? found(structs.reConfig, 'dcsctp_re_config', ...words) : null;
     if (reConfig !== null) {
       delete reConfig.streamCount;
       reConfig.streams = listed(U16, 'dcsctp_reset_stream', ...words).map(stream => stream.it);
@@ -530,8 +729,8 @@ function parameters(chunk) {
 function causes(chunk) {
   if (!isCauses(chunk))
     return [].values();
-  return items(chunk, (code, its, words) => {
-    const cause = { code, name: causeName(code), ...its };
+  return items(chunk, ({ type: code, value, bytes, offset, next }, words) => {
+    const cause = { code, name: causeName(code), value, bytes, offset, next };
     if (code === CauseCode.NO_USER_DATA)
       withNumber(cause, words);
     if (code === CauseCode.MISSING_MANDATORY_PARAMETER)
@@ -818,7 +1017,7 @@ function begin(wasm) {
 const davgyuti = {
   version, versionNumber, Result, FIRST_CHUNK, ChunkType, TAG_REFLECTED, ParameterType, CauseCode, ReConfigResult, resultText,
   chunkName, parameterName, causeName, isKnownChunk, isKnownParameter, isKnownCause, Fault, WriteError, check, firstFault,
-  canonical, text, report, word, needsChecksum, header, chunks, readChunk, dataFlags, withFlags, parameters, parameter, causes,
+  canonical, text, report, word, needsChecksum, header, chunks, read, readChunk, dataFlags, withFlags, parameters, parameter, causes,
   cause, seal, setTag, Builder, cleanBlocks,
 };
 if (this) {

@@ -2,7 +2,7 @@
 // The library as WebAssembly: its one instance, and what lies in its memory. It is no part of the package's interface.
 'use strict';
 
-let compiled, wasm, held;
+let compiled, wasm, held, heldBytes;
 // How many instances there were before this one, each of them left by an exception.
 let left = 0;
 
@@ -34,6 +34,13 @@ function view() {
   if (held.buffer !== wasm.memory.buffer)
     held = new DataView(wasm.memory.buffer);
   return held;
+}
+
+/** The memory as bytes, likewise. */
+function memory() {
+  if (heldBytes?.buffer !== wasm.memory.buffer)
+    heldBytes = new Uint8Array(wasm.memory.buffer);
+  return heldBytes;
 }
 
 /** A block of the memory, with room for what lies in it. Its place changes where it has to grow. */
@@ -72,7 +79,7 @@ class Block {
   }
 
   put(bytes) {
-    new Uint8Array(view().buffer, Number(this.#at), bytes.length).set(bytes);
+    memory().set(bytes, Number(this.#at));
   }
 
   /** Its bytes between two places, where they lie. */
@@ -206,6 +213,16 @@ const structs = {
   gapAckBlock: new Struct({ start: 'u16', end: 'u16' }),
   init: new Struct({
     initiateTag: 'u32', aRwnd: 'u32', outboundStreams: 'u16', inboundStreams: 'u16', initialTsn: 'u32',
+  }),
+  row: new Struct({
+    type: 'u8', flags: 'u8', valueOffset: 'size', valueSize: 'size', next: 'size', restOffset: 'size', restSize: 'size',
+    count: 'size', duplicateCount: 'size', tsn: 'u32', aRwnd: 'u32', initiateTag: 'u32', mid: 'u32', fsn: 'u32', ppid: 'u32',
+    stream: 'u16', ssn: 'u16', outboundStreams: 'u16', inboundStreams: 'u16', isUnordered: 'bool', isBeginning: 'bool',
+    isEnd: 'bool', immediateAck: 'bool',
+  }),
+  packet: new Struct({
+    sourcePort: 'u16', destinationPort: 'u16', verificationTag: 'u32', checksum: 'u32', code: 'u32', chunkCount: 'size',
+    faultOffset: 'size',
   }),
   forwardTsn: new Struct({ newCumulativeTsn: 'u32', streamCount: 'size' }),
   skippedStream: new Struct({ stream: 'u16', ssn: 'u16', mid: 'u32', isUnordered: 'bool' }),

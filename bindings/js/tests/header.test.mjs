@@ -7,10 +7,9 @@ import * as davgyuti from '../davgyuti.mjs';
 import library from '../library.js';
 
 const file = name => readFileSync(new URL(name, import.meta.url), 'utf8');
-// (the package reads chunk by chunk, without dcsctp_read)
-const header = file('../../../include/dcsctp.h').replace(/\/\*[^]*?\*\//g, '')
-  .replace(/size_t dcsctp_(gap_ack_blocks|duplicate_tsns|skipped_streams|parameters|reset_streams|missing_parameters)\([^)]*\);/g, '') // (nor by lists in one call)
-  .replace(/struct dcsctp_(row|packet) \{[^}]*\};|\w+ dcsctp_read\([^)]*\);/g, '');
+// (the package reads lists item by item, without the calls that fill an array)
+const LISTS = 'gap_ack_blocks|duplicate_tsns|skipped_streams|parameters|reset_streams|missing_parameters';
+const header = file('../../../include/dcsctp.h').replace(/\/\*[^]*?\*\//g, '').replace(new RegExp(`size_t dcsctp_(${LISTS})\\([^)]*\\);`, 'g'), '');
 const code = file('../davgyuti.js');
 const camel = name => name.replace(/_(\w)/g, (_, letter) => letter.toUpperCase());
 
@@ -28,14 +27,18 @@ test('the module imports nothing, and exports these functions, its memory, mallo
   const module = new WebAssembly.Module(readFileSync(new URL('../dcsctp.wasm', import.meta.url)));
   assert.deepEqual(WebAssembly.Module.imports(module), []);
   const exports = WebAssembly.Module.exports(module).filter(it => it.kind !== 'global').map(it => it.name)
-    .filter(it => !/^dcsctp_(gap_ack_blocks|duplicate_tsns|skipped_streams|parameters|reset_streams|missing_parameters)$/.test(it));
-  assert.deepEqual(exports.sort(), [...functions, 'dcsctp_read', 'memory', 'malloc', 'free'].sort());
+    .filter(it => !new RegExp(`^dcsctp_(${LISTS})$`).test(it));
+  assert.deepEqual(exports.sort(), [...functions, 'memory', 'malloc', 'free'].sort());
 });
 
 test('the structs are the header\'s', () => {
   const sizes = { uint8_t: 1, bool: 1, uint16_t: 2, uint32_t: 4, size_t: 8 };
   const found = {};
-  for (const [, name, body] of header.matchAll(/struct dcsctp_(\w+) \{([^}]*)\};/g)) {
+  // (the package has the fields of a struct in a struct among the others: each of them ends where the next field may begin)
+  const bodies = {};
+  for (const [, name, body] of header.matchAll(/struct dcsctp_(\w+) \{([^}]*)\};/g))
+    bodies[name] = body.replace(/struct dcsctp_(\w+) \w+;/, (_, inner) => bodies[inner]);
+  for (const [name, body] of Object.entries(bodies)) {
     const fields = [];
     let at = 0;
     for (const [, type, field] of body.matchAll(/(\w+) (\w+);/g)) {

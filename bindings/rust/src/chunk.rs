@@ -159,6 +159,7 @@ impl Content<'_> {
     /// assert_eq!(Content::CookieAck.chunk_type(), Some(ChunkType::COOKIE_ACK));
     /// ```
     #[must_use]
+    #[inline]
     pub const fn chunk_type(&self) -> Option<ChunkType> {
         Some(match self {
             Self::Data(_) => ChunkType::DATA,
@@ -197,6 +198,7 @@ impl<'a> Chunk<'a> {
     /// ```
     #[doc(alias = "dcsctp_chunk_at")]
     #[must_use]
+    #[inline]
     pub fn at(bytes: &'a [u8], offset: usize) -> Option<Self> {
         let (start, length) = (bytes.as_ptr(), bytes.len());
         // SAFETY: `bytes` is a slice, and `chunk` a reference.
@@ -243,6 +245,7 @@ impl<'a> Chunk<'a> {
     /// assert_eq!(chunk.chunk_type(), davgyuti::ChunkType::COOKIE_ECHO);
     /// ```
     #[must_use]
+    #[inline]
     pub const fn chunk_type(&self) -> ChunkType {
         ChunkType(self.raw.r#type)
     }
@@ -255,6 +258,7 @@ impl<'a> Chunk<'a> {
     /// assert_eq!(chunk.flags(), davgyuti::TAG_REFLECTED);
     /// ```
     #[must_use]
+    #[inline]
     pub const fn flags(&self) -> u8 {
         self.raw.flags
     }
@@ -268,6 +272,7 @@ impl<'a> Chunk<'a> {
     /// assert_eq!(chunk.value(), b"abc");
     /// ```
     #[must_use]
+    #[inline]
     pub fn value(&self) -> &'a [u8] {
         part(self.bytes, self.raw.value_offset, self.raw.value_size)
     }
@@ -281,6 +286,7 @@ impl<'a> Chunk<'a> {
     /// assert_eq!(chunk.as_bytes(), b"\x0a\0\0\x07abc");
     /// ```
     #[must_use]
+    #[inline]
     pub fn as_bytes(&self) -> &'a [u8] {
         part(self.bytes, self.offset(), CHUNK_HEADER + self.raw.value_size)
     }
@@ -307,6 +313,7 @@ impl<'a> Chunk<'a> {
     /// assert_eq!(chunk.offset(), 12);
     /// ```
     #[must_use]
+    #[inline]
     pub const fn offset(&self) -> usize {
         self.raw.value_offset - CHUNK_HEADER
     }
@@ -320,6 +327,7 @@ impl<'a> Chunk<'a> {
     /// assert_eq!(chunk.next_offset(), 12 + 4 + 3 + 1);
     /// ```
     #[must_use]
+    #[inline]
     pub const fn next_offset(&self) -> usize {
         self.raw.next
     }
@@ -332,10 +340,12 @@ impl<'a> Chunk<'a> {
     /// assert_eq!(chunk.content(), davgyuti::Content::CookieEcho(b"abc"));
     /// ```
     #[must_use]
+    #[inline]
     pub fn content(&self) -> Content<'a> {
         self.known_content().unwrap_or(Content::Other)
     }
 
+    #[inline]
     fn known_content(&self) -> Option<Content<'a>> {
         let tag_reflected = self.flags() & TAG_REFLECTED != 0;
         let has_no_value = self.raw.value_size == 0;
@@ -374,6 +384,7 @@ impl<'a> Chunk<'a> {
     /// ```
     #[doc(alias = "dcsctp_data")]
     #[must_use]
+    #[inline]
     pub fn data(&self) -> Option<Data<'a>> {
         let data: ffi::Data = read!(self, dcsctp_data)?;
         Some(Data {
@@ -403,6 +414,7 @@ impl<'a> Chunk<'a> {
     /// ```
     #[doc(alias = "dcsctp_init")]
     #[must_use]
+    #[inline]
     pub fn init(&self) -> Option<Init> {
         read!(self, dcsctp_init)
     }
@@ -416,6 +428,7 @@ impl<'a> Chunk<'a> {
     /// ```
     #[doc(alias = "dcsctp_sack")]
     #[must_use]
+    #[inline]
     pub fn sack(&self) -> Option<Sack<'a>> {
         let sack: ffi::Sack = read!(self, dcsctp_sack)?;
         Some(Sack {
@@ -436,6 +449,7 @@ impl<'a> Chunk<'a> {
     /// ```
     #[doc(alias = "dcsctp_shutdown")]
     #[must_use]
+    #[inline]
     pub fn shutdown(&self) -> Option<u32> {
         read!(self, dcsctp_shutdown)
     }
@@ -450,6 +464,7 @@ impl<'a> Chunk<'a> {
     /// ```
     #[doc(alias = "dcsctp_forward_tsn")]
     #[must_use]
+    #[inline]
     pub fn forward_tsn(&self) -> Option<ForwardTsn<'a>> {
         let it: ffi::ForwardTsn = read!(self, dcsctp_forward_tsn)?;
         Some(ForwardTsn {
@@ -472,6 +487,7 @@ impl<'a> Chunk<'a> {
     /// }
     /// ```
     #[must_use]
+    #[inline]
     pub fn parameters(&self) -> Parameters<'a> {
         Parameters::of(*self)
     }
@@ -485,22 +501,26 @@ impl<'a> Chunk<'a> {
     /// assert_eq!(chunk.causes().next().unwrap().code(), davgyuti::CauseCode::OUT_OF_RESOURCE);
     /// ```
     #[must_use]
+    #[inline]
     pub fn causes(&self) -> Causes<'a> {
         Causes::of(*self)
     }
 
     /// The packet's bytes.
+    #[inline]
     pub(crate) const fn bytes(&self) -> &'a [u8] {
         self.bytes
     }
 
     /// What the C API knows of it.
+    #[inline]
     pub(crate) const fn raw(&self) -> &ffi::Chunk {
         &self.raw
     }
 }
 
 /// The bytes at an offset. The C API returns only those within a packet.
+#[inline]
 pub(crate) fn part(bytes: &[u8], offset: usize, size: usize) -> &[u8] {
     &bytes[offset..offset + size]
 }
@@ -535,6 +555,7 @@ impl<'a> Chunks<'a> {
     /// assert!(Chunks::of(&bytes).map(|it| it.chunk_type()).eq([ChunkType::COOKIE_ACK]));
     /// ```
     #[must_use]
+    #[inline]
     pub const fn of(bytes: &'a [u8]) -> Self {
         Self { bytes, next: FIRST_CHUNK }
     }
@@ -543,7 +564,12 @@ impl<'a> Chunks<'a> {
 impl<'a> Iterator for Chunks<'a> {
     type Item = Chunk<'a>;
 
+    #[inline]
     fn next(&mut self) -> Option<Chunk<'a>> {
+        // (at the end there is nothing to ask)
+        if self.next >= self.bytes.len() {
+            return None;
+        }
         let chunk = Chunk::at(self.bytes, self.next)?;
         self.next = chunk.raw.next;
         Some(chunk)
@@ -594,6 +620,7 @@ impl<'a> Sack<'a> {
     /// assert!(sack.gap_ack_blocks().eq([davgyuti::GapAckBlock::new(2, 3)]));
     /// ```
     #[must_use]
+    #[inline]
     pub const fn gap_ack_blocks(&self) -> GapAckBlocks<'a> {
         GapAckBlocks { chunk: self.chunk, indices: 0..self.block_count }
     }
@@ -606,6 +633,7 @@ impl<'a> Sack<'a> {
     /// assert!(chunk.sack().unwrap().duplicate_tsns().eq([40]));
     /// ```
     #[must_use]
+    #[inline]
     pub const fn duplicate_tsns(&self) -> DuplicateTsns<'a> {
         DuplicateTsns { chunk: self.chunk, indices: 0..self.duplicate_count }
     }
@@ -665,6 +693,7 @@ impl<'a> ForwardTsn<'a> {
     /// ```
     #[doc(alias = "dcsctp_skipped_stream")]
     #[must_use]
+    #[inline]
     pub const fn skipped_streams(&self) -> SkippedStreams<'a> {
         SkippedStreams { chunk: self.chunk, indices: 0..self.stream_count }
     }
@@ -692,6 +721,7 @@ macro_rules! indexed {
         list_of_items!($name);
 
         impl $name<'_> {
+            #[inline]
             fn read(&self, index: usize) -> Option<$item> {
                 read!(self.$from, $function, index).map(<$item>::from)
             }
@@ -700,15 +730,18 @@ macro_rules! indexed {
         impl Iterator for $name<'_> {
             type Item = $item;
 
+            #[inline]
             fn next(&mut self) -> Option<$item> {
                 let index = self.indices.next()?;
                 self.read(index)
             }
 
+            #[inline]
             fn size_hint(&self) -> (usize, Option<usize>) {
                 self.indices.size_hint()
             }
 
+            #[inline]
             fn nth(&mut self, n: usize) -> Option<$item> {
                 let index = self.indices.nth(n)?;
                 self.read(index)
@@ -716,6 +749,7 @@ macro_rules! indexed {
         }
 
         impl DoubleEndedIterator for $name<'_> {
+            #[inline]
             fn next_back(&mut self) -> Option<$item> {
                 let index = self.indices.next_back()?;
                 self.read(index)

@@ -86,6 +86,7 @@ pub struct ReConfig {
 }
 
 /// Returns what `read` writes, if it returns true.
+#[inline]
 pub fn read<T: Default>(read: impl FnOnce(&mut T) -> bool) -> Option<T> {
     let mut value = T::default();
     read(&mut value).then_some(value)

@@ -35,6 +35,7 @@ impl<'a> Item<'a> {
         Ok(Self { bytes, raw: ffi::Parameter { r#type: number, value_offset, value_size, next } })
     }
 
+    #[inline]
     const fn offset(&self) -> usize {
         self.raw.value_offset - ITEM_HEADER
     }
@@ -43,18 +44,22 @@ impl<'a> Item<'a> {
         part(self.bytes, self.offset(), ITEM_HEADER + self.raw.value_size)
     }
 
+    #[inline]
     fn value(&self) -> &'a [u8] {
         part(self.bytes, self.raw.value_offset, self.raw.value_size)
     }
 
+    #[inline]
     fn number(&self) -> Option<u32> {
         read!(self, dcsctp_number)
     }
 
+    #[inline]
     const fn bytes(&self) -> &'a [u8] {
         self.bytes
     }
 
+    #[inline]
     const fn raw(&self) -> &ffi::Parameter {
         &self.raw
     }
@@ -72,6 +77,7 @@ struct Items<'a> {
 
 impl<'a> Items<'a> {
     /// Those of a chunk whose list has the items that are asked for; of another none.
+    #[inline]
     fn of(chunk: Chunk<'a>, has_them: bool) -> Self {
         let next = if has_them {
             // SAFETY: the chunk is a reference.
@@ -82,7 +88,13 @@ impl<'a> Items<'a> {
         Self { chunk, next }
     }
 
+    #[inline]
     fn next(&mut self) -> Option<Item<'a>> {
+        let chunk = self.chunk.raw();
+        // (no item begins where the value ends)
+        if self.next >= chunk.value_offset + chunk.value_size {
+            return None;
+        }
         let raw: ffi::Parameter = read!(self.chunk, dcsctp_parameter_at, self.next)?;
         self.next = raw.next;
         Some(Item { bytes: self.chunk.bytes(), raw })
@@ -90,6 +102,7 @@ impl<'a> Items<'a> {
 }
 
 /// Whether a chunk's list has error causes (RFC 9260 sections 3.3.7 and 3.3.10).
+#[inline]
 const fn has_causes(chunk: &Chunk) -> bool {
     matches!(chunk.chunk_type(), ChunkType::ABORT | ChunkType::ERROR)
 }
@@ -109,6 +122,7 @@ pub struct Parameters<'a>(Items<'a>);
 list_of_items!(Parameters);
 
 impl<'a> Parameters<'a> {
+    #[inline]
     pub(crate) fn of(chunk: Chunk<'a>) -> Self {
         Self(Items::of(chunk, !has_causes(&chunk)))
     }
@@ -117,6 +131,7 @@ impl<'a> Parameters<'a> {
 impl<'a> Iterator for Parameters<'a> {
     type Item = Parameter<'a>;
 
+    #[inline]
     fn next(&mut self) -> Option<Parameter<'a>> {
         self.0.next().map(Parameter)
     }
@@ -138,6 +153,7 @@ pub struct Causes<'a>(Items<'a>);
 list_of_items!(Causes);
 
 impl<'a> Causes<'a> {
+    #[inline]
     pub(crate) fn of(chunk: Chunk<'a>) -> Self {
         Self(Items::of(chunk, has_causes(&chunk)))
     }
@@ -146,6 +162,7 @@ impl<'a> Causes<'a> {
 impl<'a> Iterator for Causes<'a> {
     type Item = Cause<'a>;
 
+    #[inline]
     fn next(&mut self) -> Option<Cause<'a>> {
         self.0.next().map(Cause)
     }
@@ -201,6 +218,7 @@ impl<'a> Parameter<'a> {
     /// assert_eq!(chunk.parameters().next().unwrap().parameter_type().name(), "Heartbeat Info");
     /// ```
     #[must_use]
+    #[inline]
     pub const fn parameter_type(&self) -> ParameterType {
         ParameterType(self.0.raw.r#type)
     }
@@ -214,6 +232,7 @@ impl<'a> Parameter<'a> {
     /// assert_eq!(chunk.parameters().next().unwrap().value(), b"info");
     /// ```
     #[must_use]
+    #[inline]
     pub fn value(&self) -> &'a [u8] {
         self.0.value()
     }
@@ -285,6 +304,7 @@ impl<'a> Parameter<'a> {
     /// assert_eq!((info.offset(), info.value()), (16, &b"info"[..]));
     /// ```
     #[must_use]
+    #[inline]
     pub const fn offset(&self) -> usize {
         self.0.offset()
     }
@@ -300,6 +320,7 @@ impl<'a> Parameter<'a> {
     /// ```
     #[doc(alias = "dcsctp_number")]
     #[must_use]
+    #[inline]
     pub fn number(&self) -> Option<u32> {
         self.0.number()
     }
@@ -393,6 +414,7 @@ impl<'a> Cause<'a> {
     /// assert_eq!(chunk.causes().next().unwrap().code(), davgyuti::CauseCode::NO_USER_DATA);
     /// ```
     #[must_use]
+    #[inline]
     pub const fn code(&self) -> CauseCode {
         CauseCode(self.0.raw.r#type)
     }
@@ -406,6 +428,7 @@ impl<'a> Cause<'a> {
     /// assert_eq!(chunk.causes().next().unwrap().value(), [0, 0, 0, 41]);
     /// ```
     #[must_use]
+    #[inline]
     pub fn value(&self) -> &'a [u8] {
         self.0.value()
     }
@@ -434,6 +457,7 @@ impl<'a> Cause<'a> {
     /// assert!(chunk.causes().map(|it| it.offset()).eq([16, 24, 36]));
     /// ```
     #[must_use]
+    #[inline]
     pub const fn offset(&self) -> usize {
         self.0.offset()
     }
@@ -448,6 +472,7 @@ impl<'a> Cause<'a> {
     /// ```
     #[doc(alias = "dcsctp_number")]
     #[must_use]
+    #[inline]
     pub fn number(&self) -> Option<u32> {
         self.0.number()
     }

@@ -51,6 +51,7 @@ pub fn needs_checksum(bytes: &[u8]) -> bool {
 }
 
 /// What C takes of a policy, for these bytes.
+#[inline]
 fn raw_policy(policy: Policy, bytes: &[u8]) -> ffi::Policy {
     let is_allowed = policy.allowed_zero_checksum
         && Header::read(bytes).is_some_and(|it| it.checksum == 0)
@@ -262,6 +263,7 @@ impl<'a> Packet<'a> {
     ///
     /// # Errors
     /// The first fault.
+    #[inline]
     pub fn parse_with(bytes: &'a [u8], word: u32, policy: Policy) -> Result<Self, Fault> {
         let packet = Packet { bytes, word, policy };
         first_fault(bytes, word, policy).map_or(Ok(packet), Err)
@@ -276,6 +278,7 @@ impl<'a> Packet<'a> {
     /// # Ok::<(), davgyuti::Fault>(())
     /// ```
     #[must_use]
+    #[inline]
     pub const fn as_bytes(&self) -> &'a [u8] {
         self.bytes
     }
@@ -291,6 +294,7 @@ impl<'a> Packet<'a> {
     /// # Ok::<(), davgyuti::Fault>(())
     /// ```
     #[must_use]
+    #[inline]
     pub fn header(&self) -> Header {
         Header::read(self.bytes).unwrap_or_default()
     }
@@ -308,6 +312,7 @@ impl<'a> Packet<'a> {
     /// # Ok::<(), davgyuti::Fault>(())
     /// ```
     #[must_use]
+    #[inline]
     pub fn chunks(&self) -> Chunks<'a> {
         Chunks::of(self.bytes)
     }

@@ -1,0 +1,91 @@
+// SPDX-License-Identifier: Apache-2.0
+// What `read` gives is what `check`, `header` and `chunks` give, of packets and of what is none.
+import assert from 'node:assert/strict';
+import { readFileSync } from 'node:fs';
+import { test } from 'node:test';
+import * as davgyuti from '../davgyuti.mjs';
+
+const { Builder, ChunkType, Fault, causes, chunks, parameters, read } = davgyuti;
+const POLICIES = [{}, { zeroChecksum: true, strictPadding: true }, { anyChecksum: true }, { allowedZeroChecksum: true }];
+const FIELDS = ['type', 'name', 'flags', 'offset', 'valueOffset', 'next', 'value', 'bytes', 'data', 'sack', 'init', 'shutdown', 'forwardTsn'];
+const fieldsOf = chunk => Object.fromEntries(FIELDS.map(name => [name, chunk[name]]));
+
+/** Compares what is read in one call with what the single calls read; returns whether it is a packet. */
+function compare(bytes, policy) {
+  const fault = davgyuti.firstFault(bytes, policy);
+  if (fault !== null) {
+    assert.throws(() => read(bytes, policy), error => {
+      assert.ok(error instanceof Fault);
+      assert.deepEqual({ code: error.code, offset: error.offset }, fault);
+      return true;
+    });
+    return false;
+  }
+  const packet = read(bytes, policy), single = [...chunks(bytes)];
+  assert.deepEqual(packet.header, davgyuti.header(bytes));
+  assert.deepEqual(packet.chunks.map(fieldsOf), single.map(fieldsOf));
+  packet.chunks.forEach((chunk, i) => {
+    assert.deepEqual([...parameters(chunk)], [...parameters(single[i])]);
+    assert.deepEqual([...causes(chunk)], [...causes(single[i])]);
+  });
+  return true;
+}
+
+test('the rows are those of the single calls', () => {
+  const examples = readFileSync(new URL('../../../examples/packets.txt', import.meta.url), 'utf8').split('\n')
+    .map(line => line.replace(/\s|#.*/g, '')).filter(line => /^([0-9a-f]{2})+$/i.test(line)).map(line => Uint8Array.from(Buffer.from(line, 'hex')));
+  assert.ok(examples.length > 3);
+  let seed = 1;
+  const random = most => {
+    seed = Math.imul(seed, 1103515245) + 12345 >>> 0;
+    return (seed >>> 8) % most;
+  };
+  const types = Object.values(ChunkType), counts = [0, 0];
+  for (let i = 0; i < 20_000; i++) {
+    let packet = Uint8Array.from({ length: random(90) }, () => random(256));
+    for (let at = 12; at + 4 <= packet.length; at += 4 + random(5) * 4)
+      packet.set([types[random(types.length)], random(8), 0, random(40)], at);
+    if (i % 4 === 0) {
+      packet = examples[random(examples.length)].slice();
+      packet[random(packet.length)] = random(256);
+    }
+    if (packet.length >= 12 && random(2) === 1)
+      davgyuti.seal(packet);
+    counts[compare(packet, POLICIES[random(POLICIES.length)]) ? 0 : 1]++;
+  }
+  for (const packet of examples) {
+    for (const policy of POLICIES)
+      compare(packet, policy);
+  }
+  assert.ok(counts[0] > 500 && counts[1] > 500, `${counts}`);
+});
+
+test('packets of the largest size', () => {
+  const ports = { sourcePort: 1, destinationPort: 2, verificationTag: 3 }, acks = new Builder(ports);
+  while (acks.size < acks.room)
+    acks.addCookieAck();
+  const { chunks: rows } = read(acks.finish());
+  assert.equal(rows.length, 16_380);
+  assert.ok(rows.every((it, i) => it.type === ChunkType.COOKIE_ACK && it.offset === 12 + 4 * i && it.value.length === 0));
+  const blocks = Array.from({ length: 16_000 }, (_, i) => ({ start: i, end: 65_535 - i }));
+  const [{ sack }] = read(new Builder(ports).addSack({ cumulativeTsnAck: 1, aRwnd: 2, blocks, duplicates: [7] }).finish()).chunks;
+  assert.deepEqual([sack.blocks, sack.duplicates, sack.isInOrder], [blocks, [7], false]);
+  for (const size of [0, 11, 12, 15, 65_536, 70_000])
+    compare(new Uint8Array(size), { anyChecksum: true });
+});
+
+test('chunks stay when another packet is read, and a type has no other one\'s fields', () => {
+  const ports = { sourcePort: 1, destinationPort: 2, verificationTag: 3 };
+  const of = tsn => new Builder(ports).addShutdown({ cumulativeTsnAck: tsn }).addCookieAck().finish();
+  const [first, second] = read(of(1)).chunks, other = read(of(2));
+  assert.deepEqual([first.shutdown, other.chunks[0].shutdown], [{ cumulativeTsnAck: 1 }, { cumulativeTsnAck: 2 }]);
+  assert.deepEqual([second.data, second.sack, second.init, second.shutdown, second.forwardTsn], Array(5).fill(undefined));
+  assert.equal(first.shutdown, first.shutdown);
+});
+
+test('what is no Uint8Array, and no policy, is refused', () => {
+  for (const it of [null, undefined, 'ab', [1], new ArrayBuffer(20)])
+    assert.throws(() => read(it), TypeError);
+  for (const it of [false, 5, null])
+    assert.throws(() => read(new Uint8Array(20), it), TypeError);
+});
