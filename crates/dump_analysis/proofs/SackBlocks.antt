@@ -2,7 +2,7 @@
 use Rattle.std.proofs.Common.{◌≡◌, ◌+◌, ◌*◌, ◌≤◌, ◌↔◌, ◌&&◌, ◌||◌, ◌==◌, ℕ, zero, suc, Bool, true, false, List, length, drop, nat_le, nat_lt, Ok, refl, sym, ap, subst, ◌∙◌, arith, length-drop}
 use Rattle.std.proofs.lemmas.Bool.{cond-false, le-ltb, lt-ltb, le-leb, ltb-true, leb-true, eqb-true, and_parts, and_from, both_ways, not-false, not_from_true, true_from_ne_false}
 use Rattle.dcsctp_tlv.{specs.Fault.{Length}, specs.Fields.{fields}, proofs.FieldLaws.{fields-first}, proofs.KindLaws.{of_ok, passed}}
-use Rattle.dcsctp_chunk.{specs.Apart.{IsApart}, specs.Cover.{AreValid}, specs.Sack.{Tree, read, block_at, block_count, duplicate_count}, proofs.Runs.{valid_iff}}
+use Rattle.dcsctp_chunk.{specs.Apart.{IsApart}, specs.Cover.{AreValid}, specs.Sack.{Tree, read, block_at, numbers_at}, proofs.Runs.{valid_iff}}
 use Rattle.dcsctp_borrowed.specs.Part.{Part, Item, after}
 use Rattle.dump_analysis.specs.Chunks.{are_isolated, block_start, block_end, has_wrong_blocks, has_wrong_list}
 
@@ -37,12 +37,12 @@ isolated_apart (suc n) end p long =
 
 -- the blocks of the tree, and that they lie in the value
 blocks_of : (value : List ℕ) (s : Tree) → read value ≡ Ok s
-    → (12 + 4 * block_count value ≤ length value)
-    × (fields block_at 4 (block_count value) (drop 12 value) ≡ s.blocks)
+    → (12 + 4 * (numbers_at value).gap_ack_block_count ≤ length value)
+    × (fields block_at 4 (numbers_at value).gap_ack_block_count (drop 12 value) ≡ s.blocks)
 unfolding read
 blocks_of value s is =
-    let n = block_count value in
-    let m = duplicate_count value in
+    let n = (numbers_at value).gap_ack_block_count in
+    let m = (numbers_at value).duplicate_tsn_count in
     let whole = passed (length value == 12 + 4 * n + 4 * m) _ Length s is in
     let size = eqb-true (length value) (12 + 4 * n + 4 * m) whole.0 in
     (omega (arith, size), ap (λ (t : Tree). t.blocks) (of_ok _ s whole.1))
@@ -59,9 +59,9 @@ pub wrong_right : (c : Item) (s : Tree) → c.first ≡ 3 → read c.value.bytes
     → (has_wrong_blocks c ≡ false) ↔ AreValid s.blocks
 wrong_right c s sack is =
     let value = c.value.bytes in
-    let isolated = are_isolated (block_count value) 0 (after 12 c.value) in
+    let isolated = are_isolated (numbers_at value).gap_ack_block_count 0 (after 12 c.value) in
     let blocks = blocks_of value s is in
-    let apart = isolated_apart (block_count value) 0 (after 12 c.value)
+    let apart = isolated_apart (numbers_at value).gap_ack_block_count 0 (after 12 c.value)
     (omega (arith, blocks.0, length-drop 12 value)) in (
       (λ right. (valid_iff s.blocks).1 (subst (IsApart 2) blocks.1
           (apart.0 (not-false isolated (sym (wrong_list c sack) ∙ right))))),
