@@ -414,6 +414,39 @@ bool dcsctp_reset_stream(const uint8_t *bytes, size_t length, const struct dcsct
 bool dcsctp_missing_parameter(const uint8_t *bytes, size_t length, const struct dcsctp_parameter *cause, size_t index,
                               uint16_t *type);
 
+/* ---- reading a list in one call
+
+   Each writes the items of a list to the front of an array, each item as the function above reads it, and returns how many
+   items there are: 0 where there is no such list. The last argument is how many the array has room for. Where the list has
+   more, the first ones are written; where it has fewer, the rest of the array stays. */
+
+/* Writes a SACK's gap ack blocks, as dcsctp_gap_ack_block reads them: block_count of dcsctp_sack. */
+size_t dcsctp_gap_ack_blocks(const uint8_t *bytes, size_t length, const struct dcsctp_chunk *chunk,
+                             struct dcsctp_gap_ack_block *blocks, size_t block_count);
+
+/* Writes a SACK's duplicate TSNs, as dcsctp_duplicate_tsn reads them: duplicate_count of dcsctp_sack. */
+size_t dcsctp_duplicate_tsns(const uint8_t *bytes, size_t length, const struct dcsctp_chunk *chunk, uint32_t *tsns,
+                             size_t tsn_count);
+
+/* Writes the streams of FORWARD-TSN or I-FORWARD-TSN, as dcsctp_skipped_stream reads them: stream_count of
+   dcsctp_forward_tsn. */
+size_t dcsctp_skipped_streams(const uint8_t *bytes, size_t length, const struct dcsctp_chunk *chunk,
+                              struct dcsctp_skipped_stream *skipped_streams, size_t skipped_stream_count);
+
+/* Writes a chunk's parameters or error causes, as dcsctp_parameter_at reads them from dcsctp_list_offset on: in a checked
+   packet all of them, in other bytes those before the first that isn't whole. */
+size_t dcsctp_parameters(const uint8_t *bytes, size_t length, const struct dcsctp_chunk *chunk,
+                         struct dcsctp_parameter *parameters, size_t parameter_count);
+
+/* Writes the streams of an Outgoing or Incoming SSN Reset, as dcsctp_reset_stream reads them: stream_count of
+   dcsctp_re_config, which is 0 in a request for all streams. */
+size_t dcsctp_reset_streams(const uint8_t *bytes, size_t length, const struct dcsctp_parameter *parameter,
+                            uint16_t *streams, size_t stream_count);
+
+/* Writes the types of the cause Missing Mandatory Parameter, as dcsctp_missing_parameter reads them. */
+size_t dcsctp_missing_parameters(const uint8_t *bytes, size_t length, const struct dcsctp_parameter *cause,
+                                 uint16_t *types, size_t type_count);
+
 /* ---- changing a packet in place
 
    Each returns DCSCTP_OK; or DCSCTP_BAD_PLACE, and changes nothing, for fewer than 12 bytes. */

@@ -54,6 +54,10 @@
 #define DCSCTP_MSAN_ITEM(name, owner, item)                                                                              \
     DCSCTP_MSAN(bool, name, (const uint8_t *bytes, size_t length, const struct owner *of, size_t at, item *it),          \
                 (bytes, length, of, at, it), DCSCTP_MSAN_NOTHING, DCSCTP_MSAN_WRITES(returned, it, 1))
+#define DCSCTP_MSAN_LIST(name, owner, item)                                                                              \
+    DCSCTP_MSAN(size_t, name, (const uint8_t *bytes, size_t length, const struct owner *of, item *list, size_t room),    \
+                (bytes, length, of, list, room), DCSCTP_MSAN_NOTHING,                                                    \
+                DCSCTP_MSAN_WRITES(true, list, returned < room ? returned : room))
 
 /* Those that add to a packet: what is new is initialized. */
 #define DCSCTP_MSAN_TO uint8_t *packet, size_t room, size_t *size
@@ -101,6 +105,12 @@ DCSCTP_MSAN_PART(dcsctp_number, dcsctp_parameter, uint32_t)
 DCSCTP_MSAN_PART(dcsctp_re_config, dcsctp_parameter, struct dcsctp_re_config)
 DCSCTP_MSAN_ITEM(dcsctp_reset_stream, dcsctp_parameter, uint16_t)
 DCSCTP_MSAN_ITEM(dcsctp_missing_parameter, dcsctp_parameter, uint16_t)
+DCSCTP_MSAN_LIST(dcsctp_gap_ack_blocks, dcsctp_chunk, struct dcsctp_gap_ack_block)
+DCSCTP_MSAN_LIST(dcsctp_duplicate_tsns, dcsctp_chunk, uint32_t)
+DCSCTP_MSAN_LIST(dcsctp_skipped_streams, dcsctp_chunk, struct dcsctp_skipped_stream)
+DCSCTP_MSAN_LIST(dcsctp_parameters, dcsctp_chunk, struct dcsctp_parameter)
+DCSCTP_MSAN_LIST(dcsctp_reset_streams, dcsctp_parameter, uint16_t)
+DCSCTP_MSAN_LIST(dcsctp_missing_parameters, dcsctp_parameter, uint16_t)
 
 DCSCTP_MSAN(uint32_t, dcsctp_seal, (uint8_t *packet, size_t length), (packet, length),
             DCSCTP_MSAN_READS_PACKET(packet, length), DCSCTP_MSAN_WRITES(returned == DCSCTP_OK, packet + 8, 4))
