@@ -671,7 +671,7 @@ python_package() {
 
 # The same tests without the module of C, by ctypes.
 python_by_ctypes() {
-    cp -r venv by_ctypes && rm by_ctypes/lib/python3*/site-packages/davgyuti/_fast.abi3.so &&
+    cp -r venv by_ctypes && rm -f by_ctypes/lib/python3*/site-packages/davgyuti/_fast.abi3.so &&
         PYTHONPATH=$(echo "$PWD"/by_ctypes/lib/python3*/site-packages) venv/bin/python -m unittest discover -s "$bindings/python/tests"
 }
 
