@@ -8,27 +8,22 @@ ghost use Rattle.dcsctp_tlv.specs.IncomingSsnResetRequest as incoming_kind;
 ghost use Rattle.dcsctp_borrowed.specs.ReConfig.{re_config_view, re_config_of, read_re_config};
 
 use crate::numbers::Numbers;
-use dcsctp_tlv::number::read_u32_be;
 use dcsctp_tlv::parameter::add_incoming_streams_request_parameter::{
     self, AddIncomingStreamsRequestParameter,
 };
 use dcsctp_tlv::parameter::add_outgoing_streams_request_parameter::{
     self, AddOutgoingStreamsRequestParameter,
 };
+use dcsctp_tlv::parameter::outgoing_ssn_reset_request_parameter::{
+    self, OutgoingSsnResetRequestNumbers,
+};
 use dcsctp_tlv::parameter::reconfiguration_response_parameter::{
     self, ReconfigurationResponseParameter,
 };
+use dcsctp_tlv::parameter::request_numbers::RequestNumbers;
 use dcsctp_tlv::parameter::ssn_tsn_reset_request_parameter::{self, SsnTsnResetRequestParameter};
-use dcsctp_tlv::parameter::{
-    RawParameter, incoming_ssn_reset_request_parameter, outgoing_ssn_reset_request_parameter,
-};
+use dcsctp_tlv::parameter::{RawParameter, incoming_ssn_reset_request_parameter};
 use dcsctp_types::types::Tsn;
-
-/// Bytes of an Outgoing SSN Reset Request's value before the stream ids.
-const OUTGOING_SIZE: usize = 12;
-
-/// Bytes of an Incoming SSN Reset Request's value before the stream ids.
-const INCOMING_SIZE: usize = 4;
 
 /// A request or the response of RE-CONFIG (RFC 6525 section 4), whose stream ids stay where they
 /// lie in the packet. The variants are those of `Parameter`.
@@ -115,17 +110,19 @@ fn outgoing_request(value: &[u8]) -> Option<ReConfigRef>
     ensures { option_map re_config_view result ≡ option_map parameter.OutgoingSsnResetRequest
         (result_ok (outgoing_kind.read value.now)) }
 {
-    if value.len() < OUTGOING_SIZE {
+    const SIZE: usize = OutgoingSsnResetRequestNumbers::SIZE;
+    if value.len() < SIZE {
         return None;
     }
-    if !(value.len() - OUTGOING_SIZE).is_multiple_of(2) {
+    if !(value.len() - SIZE).is_multiple_of(2) {
         return None;
     }
+    let numbers = OutgoingSsnResetRequestNumbers::read(value);
     Some(ReConfigRef::OutgoingSsnResetRequest {
-        request_seq_nbr: read_u32_be(value),
-        response_seq_nbr: read_u32_be(&value[4..]),
-        sender_last_assigned_tsn: Tsn(read_u32_be(&value[8..])),
-        streams: Numbers::new((value.len() - OUTGOING_SIZE) / 2, &value[OUTGOING_SIZE..]),
+        request_seq_nbr: numbers.request_seq_nbr,
+        response_seq_nbr: numbers.response_seq_nbr,
+        sender_last_assigned_tsn: numbers.sender_last_assigned_tsn,
+        streams: Numbers::new((value.len() - SIZE) / 2, &value[SIZE..]),
     })
 }
 
@@ -135,14 +132,15 @@ fn incoming_request(value: &[u8]) -> Option<ReConfigRef>
     ensures { option_map re_config_view result ≡ option_map parameter.IncomingSsnResetRequest
         (result_ok (incoming_kind.read value.now)) }
 {
-    if value.len() < INCOMING_SIZE {
+    const SIZE: usize = RequestNumbers::SIZE;
+    if value.len() < SIZE {
         return None;
     }
-    if !(value.len() - INCOMING_SIZE).is_multiple_of(2) {
+    if !(value.len() - SIZE).is_multiple_of(2) {
         return None;
     }
     Some(ReConfigRef::IncomingSsnResetRequest {
-        request_seq_nbr: read_u32_be(value),
-        streams: Numbers::new((value.len() - INCOMING_SIZE) / 2, &value[INCOMING_SIZE..]),
+        request_seq_nbr: RequestNumbers::read(value).request_seq_nbr,
+        streams: Numbers::new((value.len() - SIZE) / 2, &value[SIZE..]),
     })
 }

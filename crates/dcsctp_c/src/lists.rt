@@ -12,7 +12,13 @@ ghost use Rattle.dcsctp_c.specs.{Writing.{AddsItem, AddsParameter, has_streams, 
 use crate::codes::{OK, unwritable, write_code};
 use crate::structs::DcsctpReConfig;
 use dcsctp_buffer::item::{add_item, is_last_chunk};
-use dcsctp_tlv::number::{put_u16, put_u32};
+use dcsctp_tlv::fields::put_fields;
+use dcsctp_tlv::frame::put_bytes;
+use dcsctp_tlv::parameter::add_streams_request::AddStreamsNumbers;
+use dcsctp_tlv::parameter::outgoing_ssn_reset_request_parameter::OutgoingSsnResetRequestNumbers;
+use dcsctp_tlv::parameter::reconfiguration_response_parameter::ReconfigurationResponseNumbers;
+use dcsctp_tlv::parameter::request_numbers::RequestNumbers;
+use dcsctp_types::types::Tsn;
 use dcsctp_wire::packet::{
     add_incoming_streams_request_parameter, add_outgoing_streams_request_parameter,
     incoming_ssn_reset_request_parameter, missing_mandatory_parameter_error_cause,
@@ -124,36 +130,47 @@ fn put_leading(re_config: &DcsctpReConfig, bytes: &mut [u8]) -> Option<usize>
 {
     let size = match re_config.typ {
         outgoing_ssn_reset_request_parameter::PARAMETER_TYPE => {
-            put_u32(bytes, 0, re_config.request_number);
-            put_u32(bytes, 4, re_config.response_number);
-            put_u32(bytes, 8, re_config.last_tsn);
-            12
+            let numbers = OutgoingSsnResetRequestNumbers {
+                request_seq_nbr: re_config.request_number,
+                response_seq_nbr: re_config.response_number,
+                sender_last_assigned_tsn: Tsn(re_config.last_tsn),
+            };
+            put_fields::<u32>(bytes, 0, &numbers.words());
+            OutgoingSsnResetRequestNumbers::SIZE
         }
         incoming_ssn_reset_request_parameter::PARAMETER_TYPE
         | ssn_tsn_reset_request_parameter::PARAMETER_TYPE => {
-            put_u32(bytes, 0, re_config.request_number);
-            4
+            let numbers = RequestNumbers {
+                request_seq_nbr: re_config.request_number,
+            };
+            put_fields::<u32>(bytes, 0, &numbers.words());
+            RequestNumbers::SIZE
         }
         reconfiguration_response_parameter::PARAMETER_TYPE => {
             if re_config.result > LAST_RESULT {
                 return None;
             }
-            put_u32(bytes, 0, re_config.response_number);
-            put_u32(bytes, 4, re_config.result);
+            let numbers = ReconfigurationResponseNumbers {
+                response_seq_nbr: re_config.response_number,
+                result: re_config.result,
+            };
+            put_fields::<u32>(bytes, 0, &numbers.words());
             if !re_config.has_next_tsns {
-                8
+                ReconfigurationResponseNumbers::SIZE
             } else {
-                put_u32(bytes, 8, re_config.sender_next_tsn);
-                put_u32(bytes, 12, re_config.receiver_next_tsn);
-                16
+                let next = [re_config.sender_next_tsn, re_config.receiver_next_tsn];
+                put_fields::<u32>(bytes, ReconfigurationResponseNumbers::SIZE, &next);
+                ReconfigurationResponseNumbers::SIZE_WITH_NEXT_TSNS
             }
         }
         add_outgoing_streams_request_parameter::PARAMETER_TYPE
         | add_incoming_streams_request_parameter::PARAMETER_TYPE => {
-            put_u32(bytes, 0, re_config.request_number);
-            put_u16(bytes, 4, re_config.new_streams);
-            put_u16(bytes, 6, 0);
-            8
+            let numbers = AddStreamsNumbers {
+                request_seq_nbr: re_config.request_number,
+                nbr_new_streams: re_config.new_streams,
+            };
+            put_bytes(bytes, 0, &numbers.bytes());
+            AddStreamsNumbers::SIZE
         }
         _ => return None,
     };

@@ -33,7 +33,7 @@ number_bytes n =
     numbers w32 (n.cumulative_tsn_ack.0 ∷ n.a_rwnd ∷ [])
     ++ numbers w16 (n.gap_ack_block_count ∷ n.duplicate_tsn_count ∷ [])
 
--- the size of the value with so many blocks and duplicates
+-- the size of a value with as many blocks and duplicates as the numbers say
 abbrev pub size_of_value : SackNumbers → ℕ
 size_of_value n = 12 + 4 * n.gap_ack_block_count + 4 * n.duplicate_tsn_count
 

@@ -81,7 +81,7 @@ impl SackNumbers {
         }
     }
 
-    /// Returns the bytes of a value with so many blocks and duplicates.
+    /// Returns the size in bytes of a value with as many blocks and duplicates as the numbers say.
     #[inline(always)]
     pub fn value_size(self) -> usize
         ensures { result ≡ kind.size_of_value self }

@@ -2,7 +2,7 @@
 -- response number and the sender's last assigned TSN, four bytes each, and then stream ids, two
 -- bytes each.
 use Rattle.std.specs.{Prelude.{ℕ, ◌+◌, ◌-◌, ◌*◌, ◌/◌, ◌<◌, ◌^◌, List, [], ◌∷◌, ◌++◌, ◌==◌, Result, Ok, Err, if◌then◌else◌, length, drop, codes, refl}, Fmt.{decimal}, List.{AllByRecursion}, Int.{w16, w32}}
-use Rattle.dcsctp_tlv.specs.{Kind.{Fault, Length, fields, stream_numbers, number16, number32, numbers, Format, sized_tlv, length-words, Kind, plain_kind, Varied}, declared.parameter.outgoing_ssn_reset_request_parameter.OutgoingSsnResetRequestParameter.{OutgoingSsnResetRequestParameter}}
+use Rattle.dcsctp_tlv.specs.{Kind.{Fault, Length, fields, stream_numbers, number16, number32, numbers, Format, sized_tlv, length-words, Kind, plain_kind, Varied}, declared.parameter.outgoing_ssn_reset_request_parameter.{OutgoingSsnResetRequestParameter.{OutgoingSsnResetRequestParameter}, OutgoingSsnResetRequestNumbers.{OutgoingSsnResetRequestNumbers}}}
 
 pub record Tree : Type 0 where
   pub request : ℕ
@@ -14,13 +14,21 @@ pub record Tree : Type 0 where
 abbrev pub stream_count : List ℕ → ℕ
 stream_count value = (length value - 12) / 2
 
+-- the numbers before the stream ids, as they are read
+abbrev pub numbers_at : List ℕ → OutgoingSsnResetRequestNumbers
+numbers_at value = record {
+  request_seq_nbr = number32 value;
+  response_seq_nbr = number32 (drop 4 value);
+  sender_last_assigned_tsn = record { 0 = number32 (drop 8 value) };
+}
+
 -- the value has at least 12 bytes, and after them an even number
 unfoldable pub read : List ℕ → Result Tree Fault
 read value =
     if length value == 12 + 2 * stream_count value then Ok (record {
-      request = number32 value;
-      response = number32 (drop 4 value);
-      last_tsn = number32 (drop 8 value);
+      request = (numbers_at value).request_seq_nbr;
+      response = (numbers_at value).response_seq_nbr;
+      last_tsn = (numbers_at value).sender_last_assigned_tsn.0;
       streams = fields number16 2 (stream_count value) (drop 12 value);
     }) else
     Err Length

@@ -2,7 +2,7 @@
 -- the result, four bytes each, and then both next TSNs, four bytes each, or neither.
 use Rattle.std.specs.{Prelude.{ℕ, ◌+◌, ◌*◌, ◌<◌, ◌^◌, ◌↔◌, List, [], ◌∷◌, ◌++◌, ◌==◌, Option, Some, None, IsSome, IfSome, option_map, Result, Ok, Err, if◌then◌else◌, length, drop, codes, refl}, Fmt.{decimal}, Int.{w32}}
 use Rattle.dcsctp_types.specs.declared.types.tsn.Tsn.{Tsn}
-use Rattle.dcsctp_tlv.specs.{Level.{map_ok}, Kind.{Fault, Length, Value, number32, numbers, Format, sized_tlv, length-words, Kind, kept_kind, Fixed}, declared.parameter.reconfiguration_response_parameter.ReconfigurationResponseResult.{ReconfigurationResponseResult}, declared.parameter.reconfiguration_response_parameter.ReconfigurationResponseResult.TheVariants.{SuccessNothingToDo, SuccessPerformed, Denied, ErrorWrongSSN, ErrorRequestAlreadyInProgress, ErrorBadSequenceNumber, InProgress}, declared.parameter.reconfiguration_response_parameter.ReconfigurationResponseParameter.{ReconfigurationResponseParameter}}
+use Rattle.dcsctp_tlv.specs.{Level.{map_ok}, Kind.{Fault, Length, Value, number32, numbers, Format, sized_tlv, length-words, Kind, kept_kind, Fixed}, declared.parameter.reconfiguration_response_parameter.ReconfigurationResponseResult.{ReconfigurationResponseResult}, declared.parameter.reconfiguration_response_parameter.ReconfigurationResponseResult.TheVariants.{SuccessNothingToDo, SuccessPerformed, Denied, ErrorWrongSSN, ErrorRequestAlreadyInProgress, ErrorBadSequenceNumber, InProgress}, declared.parameter.reconfiguration_response_parameter.ReconfigurationResponseParameter.{ReconfigurationResponseParameter}, declared.parameter.reconfiguration_response_parameter.ReconfigurationResponseNumbers.{ReconfigurationResponseNumbers}}
 
 pub record Tree : Type 0 where
   pub response : ℕ
@@ -31,15 +31,22 @@ result_number ErrorRequestAlreadyInProgress = 4
 result_number ErrorBadSequenceNumber = 5
 result_number InProgress = 6
 
+-- the numbers before the next TSNs, as they are read
+abbrev pub numbers_at : List ℕ → ReconfigurationResponseNumbers
+numbers_at value = record {
+  response_seq_nbr = number32 value;
+  result = number32 (drop 4 value);
+}
+
 -- a value with these next TSNs
 abbrev pub response_with : List ℕ → Option ℕ → Option ℕ → Result Tree Fault
 response_with value sender receiver =
     map_ok (λ result. record {
-      response = number32 value;
+      response = (numbers_at value).response_seq_nbr;
       result = result;
       sender_next_tsn = sender;
       receiver_next_tsn = receiver;
-    }) (result_of (number32 (drop 4 value)))
+    }) (result_of (numbers_at value).result)
 
 -- the length comes before the result
 unfoldable pub read : List ℕ → Result Tree Fault

@@ -12,13 +12,14 @@
 
 pub mod add_incoming_streams_request_parameter;
 pub mod add_outgoing_streams_request_parameter;
-mod add_streams_request;
+pub mod add_streams_request;
 pub mod forward_tsn_supported_parameter;
 pub mod heartbeat_info_parameter;
 pub mod incoming_ssn_reset_request_parameter;
 pub mod outgoing_ssn_reset_request_parameter;
 pub mod raw_parameter;
 pub mod reconfiguration_response_parameter;
+pub mod request_numbers;
 pub mod ssn_tsn_reset_request_parameter;
 pub mod state_cookie_parameter;
 pub mod supported_extensions_parameter;

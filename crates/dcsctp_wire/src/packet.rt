@@ -32,9 +32,9 @@ pub use dcsctp_tlv::number::{
 };
 pub use dcsctp_tlv::parameter::{
     self, PARAMETER_HEADER_SIZE, add_incoming_streams_request_parameter,
-    add_outgoing_streams_request_parameter, forward_tsn_supported_parameter,
+    add_outgoing_streams_request_parameter, add_streams_request, forward_tsn_supported_parameter,
     heartbeat_info_parameter, incoming_ssn_reset_request_parameter,
-    outgoing_ssn_reset_request_parameter, reconfiguration_response_parameter,
+    outgoing_ssn_reset_request_parameter, reconfiguration_response_parameter, request_numbers,
     ssn_tsn_reset_request_parameter, state_cookie_parameter, supported_extensions_parameter,
     unknown_parameter, zero_checksum_acceptable_parameter,
 };

@@ -3,8 +3,13 @@
 use crate::fields::{Fields, Form, Number, walk_named, walk_numbers};
 use dcsctp_borrowed::part::{Item, Part};
 use dcsctp_borrowed::re_config_ref::ReConfigRef;
+use dcsctp_wire::packet::add_streams_request::AddStreamsNumbers;
+use dcsctp_wire::packet::outgoing_ssn_reset_request_parameter::OutgoingSsnResetRequestNumbers;
 use dcsctp_wire::packet::parameter::RawParameter;
-use dcsctp_wire::packet::reconfiguration_response_parameter::ReconfigurationResponseParameter;
+use dcsctp_wire::packet::reconfiguration_response_parameter::{
+    ReconfigurationResponseNumbers, ReconfigurationResponseParameter,
+};
+use dcsctp_wire::packet::request_numbers::RequestNumbers;
 use dump_text::names::{Level, NamedBy};
 use dump_text::registry::result_name;
 use std::fmt;
@@ -100,22 +105,34 @@ fn walk_re_config<F: Fields>(item: &Item<'_>, fields: &mut F) -> Result<bool, fm
     };
     match &parameter {
         ReConfigRef::OutgoingSsnResetRequest { streams, .. } => {
-            fields.number(&Number::read(": request ", "request", item, 4, 4))?;
-            fields.number(&Number::read(", response ", "response", item, 8, 4))?;
-            fields.number(&Number::read(", last tsn ", "last_tsn", item, 12, 4))?;
-            walk_streams(streams.count(), 16, item, fields)?;
+            let request = OutgoingSsnResetRequestNumbers::REQUEST_SEQ_NBR;
+            let response = OutgoingSsnResetRequestNumbers::RESPONSE_SEQ_NBR;
+            let last_tsn = OutgoingSsnResetRequestNumbers::SENDER_LAST_ASSIGNED_TSN;
+            fields.number(&Number::at(": request ", "request", item, request, 4))?;
+            fields.number(&Number::at(", response ", "response", item, response, 4))?;
+            fields.number(&Number::at(", last tsn ", "last_tsn", item, last_tsn, 4))?;
+            walk_streams(
+                streams.count(),
+                OutgoingSsnResetRequestNumbers::SIZE,
+                item,
+                fields,
+            )?;
         }
         ReConfigRef::IncomingSsnResetRequest { streams, .. } => {
-            fields.number(&Number::read(": request ", "request", item, 4, 4))?;
-            walk_streams(streams.count(), 8, item, fields)?;
+            let request = RequestNumbers::REQUEST_SEQ_NBR;
+            fields.number(&Number::at(": request ", "request", item, request, 4))?;
+            walk_streams(streams.count(), RequestNumbers::SIZE, item, fields)?;
         }
         ReConfigRef::SsnTsnResetRequest(_) => {
-            fields.number(&Number::read(": request ", "request", item, 4, 4))?;
+            let request = RequestNumbers::REQUEST_SEQ_NBR;
+            fields.number(&Number::at(": request ", "request", item, request, 4))?;
         }
         ReConfigRef::ReconfigurationResponse(response) => walk_response(response, item, fields)?,
         ReConfigRef::AddOutgoingStreamsRequest(_) | ReConfigRef::AddIncomingStreamsRequest(_) => {
-            fields.number(&Number::read(": request ", "request", item, 4, 4))?;
-            fields.number(&Number::read(", new streams ", "new_streams", item, 8, 2))?;
+            let request = AddStreamsNumbers::REQUEST_SEQ_NBR;
+            let new_streams = AddStreamsNumbers::NBR_NEW_STREAMS;
+            fields.number(&Number::at(": request ", "request", item, request, 4))?;
+            fields.number(&Number::at(", new streams ", "new_streams", item, new_streams, 2))?;
         }
     }
     Ok(true)
@@ -124,11 +141,11 @@ fn walk_re_config<F: Fields>(item: &Item<'_>, fields: &mut F) -> Result<bool, fm
 /// Hands over the streams of a reset request.
 fn walk_streams<F: Fields>(
     count: usize,
-    offset: usize,
+    place: usize,
     item: &Item<'_>,
     fields: &mut F,
 ) -> fmt::Result {
-    let first = Number::read("\n    stream ", "stream", item, offset, 2);
+    let first = Number::at("\n    stream ", "stream", item, place, 2);
     walk_numbers("streams", count, first, item, fields)
 }
 
@@ -138,16 +155,25 @@ fn walk_response<F: Fields>(
     item: &Item<'_>,
     fields: &mut F,
 ) -> fmt::Result {
-    fields.number(&Number::read(": response ", "response", item, 4, 4))?;
-    let result = Number::read(", result ", "result", item, 8, 4);
+    let number = ReconfigurationResponseNumbers::RESPONSE_SEQ_NBR;
+    fields.number(&Number::at(": response ", "response", item, number, 4))?;
+    let result = Number::at(
+        ", result ",
+        "result",
+        item,
+        ReconfigurationResponseNumbers::RESULT,
+        4,
+    );
     fields.named(&result, result_name(result.value))?;
     if response.sender_next_tsn.is_some() {
         let words = "\n    sender's next tsn ";
-        fields.number(&Number::read(words, "sender_next_tsn", item, 12, 4))?;
+        let place = ReconfigurationResponseNumbers::SENDER_NEXT_TSN;
+        fields.number(&Number::at(words, "sender_next_tsn", item, place, 4))?;
     }
     if response.receiver_next_tsn.is_some() {
         let words = "\n    receiver's next tsn ";
-        fields.number(&Number::read(words, "receiver_next_tsn", item, 16, 4))?;
+        let place = ReconfigurationResponseNumbers::RECEIVER_NEXT_TSN;
+        fields.number(&Number::at(words, "receiver_next_tsn", item, place, 4))?;
     }
     Ok(())
 }

@@ -19,8 +19,7 @@ ghost use Rattle.dcsctp_tlv.specs.AddOutgoingStreamsRequest as kind;
 
 use crate::error::ChunkParseError;
 use crate::frame::put_parameter;
-use crate::number::{read_u16_be, read_u32_be};
-use crate::parameter::add_streams_request::add_streams_value;
+use crate::parameter::add_streams_request::AddStreamsNumbers;
 use crate::parameter::raw_parameter::RawParameter;
 use crate::tlv::SerializableTlv;
 use std::fmt;
@@ -61,7 +60,7 @@ impl AddOutgoingStreamsRequestParameter {
     pub(crate) fn check(value: &[u8]) -> Result<(), ChunkParseError>
         ensures { Exactly checking (λ u. u) (Tested (request.read value.now)) result }
     {
-        if value.len() != 8 {
+        if value.len() != AddStreamsNumbers::SIZE {
             return Err(ChunkParseError::InvalidLength);
         }
         Ok(())
@@ -72,9 +71,10 @@ impl AddOutgoingStreamsRequestParameter {
         requires { IsOk (request.read value.now) }
         ensures { request.read value.now ≡ Ok (kind.view result) }
     {
+        let numbers = AddStreamsNumbers::read(value);
         AddOutgoingStreamsRequestParameter {
-            request_seq_nbr: read_u32_be(value),
-            nbr_new_streams: read_u16_be(&value[4..]),
+            request_seq_nbr: numbers.request_seq_nbr,
+            nbr_new_streams: numbers.nbr_new_streams,
         }
     }
 }
@@ -83,12 +83,15 @@ impl SerializableTlv for AddOutgoingStreamsRequestParameter {
     ghost format = { λ p. kind.format (kind.view p) };
 
     fn serialize_to(&self, output: &mut [u8]) {
-        let value = add_streams_value(self.request_seq_nbr, self.nbr_new_streams);
-        put_parameter(PARAMETER_TYPE, &value, output);
+        let numbers = AddStreamsNumbers {
+            request_seq_nbr: self.request_seq_nbr,
+            nbr_new_streams: self.nbr_new_streams,
+        };
+        put_parameter(PARAMETER_TYPE, &numbers.bytes(), output);
     }
 
     fn value_size(&self) -> usize {
-        8
+        AddStreamsNumbers::SIZE
     }
 
     fn encodable(&self) -> bool {

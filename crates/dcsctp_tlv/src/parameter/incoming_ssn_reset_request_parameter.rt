@@ -19,8 +19,8 @@ ghost use Rattle.dcsctp_tlv.specs.IncomingSsnResetRequest as kind;
 use crate::error::ChunkParseError;
 use crate::fields::{fields_from_bytes, put_parameter_fields};
 use crate::frame::MAX_VALUE_SIZE;
-use crate::number::read_u32_be;
 use crate::parameter::raw_parameter::RawParameter;
+use crate::parameter::request_numbers::RequestNumbers;
 use crate::tlv::SerializableTlv;
 use crate::widths::are_in_width;
 use dcsctp_types::api::StreamId;
@@ -29,9 +29,6 @@ use std::fmt;
 
 /// The type of Incoming SSN Reset Request.
 pub const PARAMETER_TYPE: u16 = 14;
-
-/// Bytes of the value before the stream ids.
-const FIXED_SIZE: usize = 4;
 
 /// Incoming SSN Reset Request (RFC 6525 section 4.2).
 #[derive(Debug, Drop)]
@@ -70,7 +67,7 @@ impl IncomingSsnResetRequestParameter {
     pub(crate) fn check(value: &[u8]) -> Result<(), ChunkParseError>
         ensures { Exactly checking (λ u. u) (Tested (kind.read value.now)) result }
     {
-        if value.len() < FIXED_SIZE {
+        if value.len() < RequestNumbers::SIZE {
             return Err(ChunkParseError::InvalidLength);
         }
         if !value.len().is_multiple_of(2) {
@@ -85,10 +82,10 @@ impl IncomingSsnResetRequestParameter {
         ensures meant { IfOk result (λ x. kind.read value.now ≡ Ok (kind.view x)) }
         ensures tight { IfOk result (λ x. vec_capacity x.streams ≡ vec_len x.streams) }
     {
-        let count = (value.len() - FIXED_SIZE) / 2;
-        let streams = fields_from_bytes::<StreamId>(alloc, &value[FIXED_SIZE..], count)?;
+        let count = (value.len() - RequestNumbers::SIZE) / 2;
+        let streams = fields_from_bytes::<StreamId>(alloc, &value[RequestNumbers::SIZE..], count)?;
         Ok(IncomingSsnResetRequestParameter {
-            request_seq_nbr: read_u32_be(value),
+            request_seq_nbr: RequestNumbers::read(value).request_seq_nbr,
             streams,
         })
     }
@@ -98,16 +95,17 @@ impl SerializableTlv for IncomingSsnResetRequestParameter {
     ghost format = { λ p. kind.format (kind.view p) };
 
     fn serialize_to(&self, output: &mut [u8]) {
-        let leading = [self.request_seq_nbr];
-        put_parameter_fields::<StreamId>(PARAMETER_TYPE, &leading, &self.streams, output);
+        let request_seq_nbr = self.request_seq_nbr;
+        let words = RequestNumbers { request_seq_nbr }.words();
+        put_parameter_fields::<StreamId>(PARAMETER_TYPE, &words, &self.streams, output);
     }
 
     fn value_size(&self) -> usize {
-        FIXED_SIZE + 2 * self.streams.len()
+        RequestNumbers::SIZE + 2 * self.streams.len()
     }
 
     fn encodable(&self) -> bool {
-        self.streams.len() <= (MAX_VALUE_SIZE - FIXED_SIZE) / 2
+        self.streams.len() <= (MAX_VALUE_SIZE - RequestNumbers::SIZE) / 2
     }
 
     fn has_widths(&self) {

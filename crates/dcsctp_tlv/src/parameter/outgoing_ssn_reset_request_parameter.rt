@@ -16,7 +16,7 @@
 //! +-+-+-+-+-+-+-+-+-+-+-+-+-+-+-+-+-+-+-+-+-+-+-+-+-+-+-+-+-+-+-+-+
 //! ```
 
-ghost use Rattle.std.specs.Prelude.{◌≡◌, ◌≢◌, ◌↔◌, Some, IsOk, IsErrOf, IfOk, Ok, vec_len, vec_capacity};
+ghost use Rattle.std.specs.Prelude.{◌≡◌, ◌≢◌, ◌↔◌, ◌≤◌, ◌∷◌, [], length, Some, IsOk, IsErrOf, IfOk, Ok, vec_len, vec_capacity};
 ghost use Rattle.dcsctp_tlv.specs.Reading.{Exactly, reading, checking, Tested};
 ghost use Rattle.dcsctp_tlv.specs.OutgoingSsnResetRequest as kind;
 
@@ -35,8 +35,61 @@ use std::fmt;
 /// The type of Outgoing SSN Reset Request.
 pub const PARAMETER_TYPE: u16 = 13;
 
-/// Bytes of the value before the stream ids.
-const FIXED_SIZE: usize = 12;
+/// The numbers at the front of an Outgoing SSN Reset Request's value, before its stream ids
+/// (RFC 6525 section 4.1).
+#[derive(Clone, Copy, Debug)]
+pub struct OutgoingSsnResetRequestNumbers {
+    /// The sequence number of this request.
+    pub request_seq_nbr: u32,
+    /// The sequence number of the incoming request that it answers, if it answers one.
+    pub response_seq_nbr: u32,
+    /// The last TSN that was assigned before the reset.
+    pub sender_last_assigned_tsn: Tsn,
+}
+
+impl OutgoingSsnResetRequestNumbers {
+    /// Their bytes.
+    pub const SIZE: usize = 12;
+
+    /// The offset of the request's number in the value.
+    pub const REQUEST_SEQ_NBR: usize = 0;
+
+    /// The offset of the response's number in the value.
+    pub const RESPONSE_SEQ_NBR: usize = 4;
+
+    /// The offset of the last assigned TSN in the value.
+    pub const SENDER_LAST_ASSIGNED_TSN: usize = 8;
+
+    /// Reads the numbers of a value, which has at least `SIZE` bytes.
+    #[inline(always)]
+    pub fn read(value: &[u8]) -> OutgoingSsnResetRequestNumbers
+        requires { 12 ≤ length value.now }
+        ensures { result ≡ kind.numbers_at value.now }
+    {
+        OutgoingSsnResetRequestNumbers {
+            request_seq_nbr: read_u32_be(value),
+            response_seq_nbr: read_u32_be(
+                &value[OutgoingSsnResetRequestNumbers::RESPONSE_SEQ_NBR..],
+            ),
+            sender_last_assigned_tsn: Tsn(read_u32_be(
+                &value[OutgoingSsnResetRequestNumbers::SENDER_LAST_ASSIGNED_TSN..],
+            )),
+        }
+    }
+
+    /// Returns the numbers in the order in which they are written, four bytes each.
+    #[inline(always)]
+    pub fn words(self) -> [u32; 3]
+        ensures { result ≡ self.request_seq_nbr ∷ self.response_seq_nbr
+            ∷ self.sender_last_assigned_tsn.0 ∷ [] }
+    {
+        [
+            self.request_seq_nbr,
+            self.response_seq_nbr,
+            self.sender_last_assigned_tsn.0,
+        ]
+    }
+}
 
 /// Outgoing SSN Reset Request (RFC 6525 section 4.1).
 #[derive(Debug, Drop)]
@@ -79,7 +132,7 @@ impl OutgoingSsnResetRequestParameter {
     pub(crate) fn check(value: &[u8]) -> Result<(), ChunkParseError>
         ensures { Exactly checking (λ u. u) (Tested (kind.read value.now)) result }
     {
-        if value.len() < FIXED_SIZE {
+        if value.len() < OutgoingSsnResetRequestNumbers::SIZE {
             return Err(ChunkParseError::InvalidLength);
         }
         if !value.len().is_multiple_of(2) {
@@ -94,12 +147,14 @@ impl OutgoingSsnResetRequestParameter {
         ensures meant { IfOk result (λ x. kind.read value.now ≡ Ok (kind.view x)) }
         ensures tight { IfOk result (λ x. vec_capacity x.streams ≡ vec_len x.streams) }
     {
-        let count = (value.len() - FIXED_SIZE) / 2;
-        let streams = fields_from_bytes::<StreamId>(alloc, &value[FIXED_SIZE..], count)?;
+        let numbers = OutgoingSsnResetRequestNumbers::read(value);
+        let rest = &value[OutgoingSsnResetRequestNumbers::SIZE..];
+        let count = (value.len() - OutgoingSsnResetRequestNumbers::SIZE) / 2;
+        let streams = fields_from_bytes::<StreamId>(alloc, rest, count)?;
         Ok(OutgoingSsnResetRequestParameter {
-            request_seq_nbr: read_u32_be(value),
-            response_seq_nbr: read_u32_be(&value[4..]),
-            sender_last_assigned_tsn: Tsn(read_u32_be(&value[8..])),
+            request_seq_nbr: numbers.request_seq_nbr,
+            response_seq_nbr: numbers.response_seq_nbr,
+            sender_last_assigned_tsn: numbers.sender_last_assigned_tsn,
             streams,
         })
     }
@@ -109,20 +164,21 @@ impl SerializableTlv for OutgoingSsnResetRequestParameter {
     ghost format = { λ p. kind.format (kind.view p) };
 
     fn serialize_to(&self, output: &mut [u8]) {
-        let leading = [
-            self.request_seq_nbr,
-            self.response_seq_nbr,
-            self.sender_last_assigned_tsn.0,
-        ];
+        let numbers = OutgoingSsnResetRequestNumbers {
+            request_seq_nbr: self.request_seq_nbr,
+            response_seq_nbr: self.response_seq_nbr,
+            sender_last_assigned_tsn: self.sender_last_assigned_tsn,
+        };
+        let leading = numbers.words();
         put_parameter_fields::<StreamId>(PARAMETER_TYPE, &leading, &self.streams, output);
     }
 
     fn value_size(&self) -> usize {
-        FIXED_SIZE + 2 * self.streams.len()
+        OutgoingSsnResetRequestNumbers::SIZE + 2 * self.streams.len()
     }
 
     fn encodable(&self) -> bool {
-        self.streams.len() <= (MAX_VALUE_SIZE - FIXED_SIZE) / 2
+        self.streams.len() <= (MAX_VALUE_SIZE - OutgoingSsnResetRequestNumbers::SIZE) / 2
     }
 
     fn has_widths(&self) {

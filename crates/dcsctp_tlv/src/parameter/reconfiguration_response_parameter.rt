@@ -16,7 +16,7 @@
 //! +-+-+-+-+-+-+-+-+-+-+-+-+-+-+-+-+-+-+-+-+-+-+-+-+-+-+-+-+-+-+-+-+
 //! ```
 
-ghost use Rattle.std.specs.Prelude.{◌≡◌, ◌≢◌, ◌↔◌, ◌≤◌, Some, Ok, IsOk, IsErrOf};
+ghost use Rattle.std.specs.Prelude.{◌≡◌, ◌≢◌, ◌↔◌, ◌≤◌, ◌∷◌, [], length, Some, Ok, IsOk, IsErrOf};
 ghost use Rattle.dcsctp_tlv.specs.{Reading.{Exactly, reading, checking, Tested}, ReconfigurationResponse.{result_of, result_number}};
 ghost use Rattle.dcsctp_tlv.specs.ReconfigurationResponse as kind;
 
@@ -85,6 +85,56 @@ impl ReconfigurationResponseResult {
     }
 }
 
+/// The numbers at the front of a Re-configuration Response's value, before the next TSNs (RFC 6525
+/// section 4.4).
+#[derive(Clone, Copy, Debug)]
+pub struct ReconfigurationResponseNumbers {
+    /// The sequence number of the request.
+    pub response_seq_nbr: u32,
+    /// The number of the result; above 6 it has no meaning.
+    pub result: u32,
+}
+
+impl ReconfigurationResponseNumbers {
+    /// Their bytes, and those of a value without next TSNs.
+    pub const SIZE: usize = 8;
+
+    /// The bytes of a value with both next TSNs.
+    pub const SIZE_WITH_NEXT_TSNS: usize = 16;
+
+    /// The offset of the response's number in the value.
+    pub const RESPONSE_SEQ_NBR: usize = 0;
+
+    /// The offset of the result in the value.
+    pub const RESULT: usize = 4;
+
+    /// The offset of the sender's next TSN in the value.
+    pub const SENDER_NEXT_TSN: usize = 8;
+
+    /// The offset of the receiver's next TSN in the value.
+    pub const RECEIVER_NEXT_TSN: usize = 12;
+
+    /// Reads the numbers of a value, which has at least `SIZE` bytes.
+    #[inline(always)]
+    pub fn read(value: &[u8]) -> ReconfigurationResponseNumbers
+        requires { 8 ≤ length value.now }
+        ensures { result ≡ kind.numbers_at value.now }
+    {
+        ReconfigurationResponseNumbers {
+            response_seq_nbr: read_u32_be(value),
+            result: read_u32_be(&value[ReconfigurationResponseNumbers::RESULT..]),
+        }
+    }
+
+    /// Returns the numbers in the order in which they are written, four bytes each.
+    #[inline(always)]
+    pub fn words(self) -> [u32; 2]
+        ensures { result ≡ self.response_seq_nbr ∷ self.result ∷ [] }
+    {
+        [self.response_seq_nbr, self.result]
+    }
+}
+
 /// Re-configuration Response (RFC 6525 section 4.4).
 ///
 /// The next TSNs answer an SSN/TSN Reset Request. One without the other can't be written: then
@@ -126,10 +176,12 @@ impl ReconfigurationResponseParameter {
     pub(crate) fn check(value: &[u8]) -> Result<(), ChunkParseError>
         ensures { Exactly checking (λ u. u) (Tested (kind.read value.now)) result }
     {
-        if value.len() != 8 && value.len() != 16 {
+        if value.len() != ReconfigurationResponseNumbers::SIZE
+            && value.len() != ReconfigurationResponseNumbers::SIZE_WITH_NEXT_TSNS
+        {
             return Err(ChunkParseError::InvalidLength);
         }
-        if read_u32_be(&value[4..]) > MAX_RESULT {
+        if ReconfigurationResponseNumbers::read(value).result > MAX_RESULT {
             return Err(ChunkParseError::InvalidValue);
         }
         Ok(())
@@ -140,9 +192,10 @@ impl ReconfigurationResponseParameter {
         requires { IsOk (kind.read value.now) }
         ensures { kind.read value.now ≡ Ok (kind.view result) }
     {
-        let response_seq_nbr = read_u32_be(value);
-        let result = ReconfigurationResponseResult::of(read_u32_be(&value[4..]));
-        if value.len() == 8 {
+        let numbers = ReconfigurationResponseNumbers::read(value);
+        let response_seq_nbr = numbers.response_seq_nbr;
+        let result = ReconfigurationResponseResult::of(numbers.result);
+        if value.len() == ReconfigurationResponseNumbers::SIZE {
             return ReconfigurationResponseParameter {
                 response_seq_nbr,
                 result,
@@ -153,8 +206,12 @@ impl ReconfigurationResponseParameter {
         ReconfigurationResponseParameter {
             response_seq_nbr,
             result,
-            sender_next_tsn: Some(Tsn(read_u32_be(&value[8..]))),
-            receiver_next_tsn: Some(Tsn(read_u32_be(&value[12..]))),
+            sender_next_tsn: Some(Tsn(read_u32_be(
+                &value[ReconfigurationResponseNumbers::SENDER_NEXT_TSN..],
+            ))),
+            receiver_next_tsn: Some(Tsn(read_u32_be(
+                &value[ReconfigurationResponseNumbers::RECEIVER_NEXT_TSN..],
+            ))),
         }
     }
 }
@@ -163,7 +220,11 @@ impl SerializableTlv for ReconfigurationResponseParameter {
     ghost format = { λ p. kind.format (kind.view p) };
 
     fn serialize_to(&self, output: &mut [u8]) {
-        let leading = [self.response_seq_nbr, self.result.number()];
+        let numbers = ReconfigurationResponseNumbers {
+            response_seq_nbr: self.response_seq_nbr,
+            result: self.result.number(),
+        };
+        let leading = numbers.words();
         match (self.sender_next_tsn, self.receiver_next_tsn) {
             (Some(sender), Some(receiver)) => put_parameter_fields::<Tsn>(
                 PARAMETER_TYPE,
@@ -177,8 +238,8 @@ impl SerializableTlv for ReconfigurationResponseParameter {
 
     fn value_size(&self) -> usize {
         match (self.sender_next_tsn, self.receiver_next_tsn) {
-            (Some(_), Some(_)) => 16,
-            _ => 8,
+            (Some(_), Some(_)) => ReconfigurationResponseNumbers::SIZE_WITH_NEXT_TSNS,
+            _ => ReconfigurationResponseNumbers::SIZE,
         }
     }
 

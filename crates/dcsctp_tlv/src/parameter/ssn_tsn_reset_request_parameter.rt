@@ -16,8 +16,8 @@ ghost use Rattle.dcsctp_tlv.specs.SsnTsnResetRequest as kind;
 
 use crate::error::ChunkParseError;
 use crate::frame::put_parameter;
-use crate::number::read_u32_be;
 use crate::parameter::raw_parameter::RawParameter;
+use crate::parameter::request_numbers::RequestNumbers;
 use crate::tlv::SerializableTlv;
 use std::fmt;
 
@@ -55,7 +55,7 @@ impl SsnTsnResetRequestParameter {
     pub(crate) fn check(value: &[u8]) -> Result<(), ChunkParseError>
         ensures { Exactly checking (λ u. u) (Tested (kind.read value.now)) result }
     {
-        if value.len() != 4 {
+        if value.len() != RequestNumbers::SIZE {
             return Err(ChunkParseError::InvalidLength);
         }
         Ok(())
@@ -67,7 +67,7 @@ impl SsnTsnResetRequestParameter {
         ensures { kind.read value.now ≡ Ok (kind.view result) }
     {
         SsnTsnResetRequestParameter {
-            request_seq_nbr: read_u32_be(value),
+            request_seq_nbr: RequestNumbers::read(value).request_seq_nbr,
         }
     }
 }
@@ -80,7 +80,7 @@ impl SerializableTlv for SsnTsnResetRequestParameter {
     }
 
     fn value_size(&self) -> usize {
-        4
+        RequestNumbers::SIZE
     }
 
     fn encodable(&self) -> bool {

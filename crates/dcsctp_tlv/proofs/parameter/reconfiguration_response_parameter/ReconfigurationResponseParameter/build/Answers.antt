@@ -1,5 +1,5 @@
 use Rattle.std.proofs.{Common.{◌≡◌, ◌≢◌, sym, ap, ◌∙◌, ℕ, List, drop, length, Some, Ok, refl, ◌==◌, IsOk, ne_eqb}, lemmas.List.{take_rest}}
-use Rattle.dcsctp_tlv.{specs.Fault.{Length}, specs.Number.{number32}, specs.ReconfigurationResponse.{result_of}, proofs.Readings.{ok_passed}, specs.declared.parameter.reconfiguration_response_parameter.ReconfigurationResponseResult.{ReconfigurationResponseResult}}
+use Rattle.dcsctp_tlv.{specs.Fault.{Length}, specs.Number.{number32}, specs.ReconfigurationResponse.{result_of}, proofs.Readings.{ok_passed}, specs.declared.parameter.reconfiguration_response_parameter.{ReconfigurationResponseNumbers.{ReconfigurationResponseNumbers}, ReconfigurationResponseResult.{ReconfigurationResponseResult}}}
 use Rattle.dcsctp_tlv.specs.ReconfigurationResponse as kind
 use Rattle.dcsctp_tlv.proofs.parameter.reconfiguration_response_parameter.ReconfigurationResponseParameter.build.Goals as goal
 
@@ -22,8 +22,9 @@ with_tsns value response sender receiver result ok short a b c d =
 pub returns : goal.returns
 returns c =
     let value = c.args.value.now in
-    with_tsns value _ _ _ _ c.requires c.if-value-eq8.false c.read_u32_be-response_seq_nbr.ensures
-    (ap (λ (n : ℕ). result_of n) (sym (c.read_u32_be.ensures ∙ ap number32 (take_rest value 4)))
-    ∙ c.of-result.ensures)
-    (c.read_u32_be-2.ensures ∙ ap number32 (take_rest value 8)) (c.read_u32_be-3.ensures
+    let numbers = c.read-numbers.ensures in
+    with_tsns value _ _ _ _ c.requires c.if-value-eq-SIZE.false
+    (ap (λ (n : ReconfigurationResponseNumbers). n.response_seq_nbr) numbers)
+    (ap (λ (n : ReconfigurationResponseNumbers). result_of n.result) (sym numbers) ∙ c.of-result.ensures)
+    (c.read_u32_be.ensures ∙ ap number32 (take_rest value 8)) (c.read_u32_be-2.ensures
     ∙ ap number32 (take_rest value 12))
