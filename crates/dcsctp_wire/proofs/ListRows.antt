@@ -6,7 +6,7 @@ use Rattle.dcsctp_tlv.specs.Parameter as parameter
 use Rattle.dcsctp_cause.specs.Cause as cause
 use Rattle.dcsctp_cause.proofs.CauseLaws.{causes_lawful, causes_looser, causes_unpadded, causes_form, causes_account, causes_read_back}
 use Rattle.dcsctp_chunk.proofs.FlagLaws.{one_again}
-use Rattle.dcsctp_wire.specs.{InitFields.{Tree as InitTree, tree_of as init_of, row as init_row, IsInWidth as IsInitInWidth, format as init_format, leading as init_leading, kind_of as init_kind}, ParameterList.{format as parameter_list_format, kind_of as parameter_list_kind}, Abort.{row as abort_row}, Error.{row as error_row}}
+use Rattle.dcsctp_wire.specs.{InitFields.{Tree as InitTree, tree_of as init_of, row as init_row, IsInWidth as IsInitInWidth, format as init_format, leading as init_leading, kind_of as init_kind}, ParameterList.{format as parameter_list_format, kind_of as parameter_list_kind}}
 use Rattle.dcsctp_wire.specs.Abort as abort
 use Rattle.dcsctp_wire.specs.Error as error
 
