@@ -51,8 +51,8 @@ impl<'a> fmt::Display for Shown<'a> {
     }
 }
 
-/// Rows of sixteen bytes, each after a line break: the offset of the first, all in hexadecimal, and
-/// as ASCII, where a dot stands for what isn't printable.
+/// Rows of sixteen bytes, each after a line break: the last four digits of its offset, its bytes in
+/// hexadecimal, and as ASCII, where a dot stands for what isn't printable.
 #[derive(Clone, Copy)]
 pub struct Rows<'a>(pub &'a [u8]);
 
@@ -60,10 +60,8 @@ impl<'a> fmt::Display for Rows<'a> {
     fn fmt<W: fmt::Write>(&self, f: &mut fmt::Formatter<W>) -> fmt::Result {
         let mut rest = self.0;
         for i in 0..rest.len().div_ceil(ROW) {
-            let offset = ROW * i;
             let (row, after) = rest.split_at(rest.len().min(ROW));
-            write!(f, "\n    {offset:04x}: ")?;
-            write_row(row, f)?;
+            write_row(ROW * i, row, f)?;
             rest = after;
         }
         Ok(())

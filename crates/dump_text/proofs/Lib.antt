@@ -4,5 +4,6 @@ pub mod JsonStrings
 pub mod Leads
 pub mod PrintedTexts
 pub mod ReadBack
+pub mod Rows
 pub mod ShownFronts
 pub mod Written

@@ -1,6 +1,6 @@
 //! Bytes in hexadecimal.
 
-ghost use Rattle.std.specs.Prelude.{◌≡◌, ◌<◌, ◌≤◌, false, ℕ, List, All, length};
+ghost use Rattle.std.specs.Prelude.{◌≡◌, ◌<◌, ◌≤◌, ◌+◌, ◌/◌, ◌%◌, ◌∷◌, false, ℕ, List, All, length, set};
 ghost use Rattle.std.specs.Fmt.{WritesOnOk, digit_glyph};
 ghost use Rattle.dump_text.specs.Hexadecimal.{IsPrintable, digits_of};
 
@@ -12,19 +12,20 @@ const BLOCK: usize = 32;
 /// The bytes of a row.
 pub const ROW: usize = 16;
 
+/// The column of a row's first byte, after a line break, four blanks, the offset and a colon.
+const FIRST: usize = 11;
+
 /// The column of a row's first bar.
-const BAR: usize = 3 * ROW + 1;
+const BAR: usize = FIRST + 3 * ROW + 1;
 
 /// Returns the digit of a value.
+#[inline(always)]
 pub fn digit(value: u8) -> u8
     requires { value < 16 }
-    ensures { result ≡ digit_glyph false value }
+    ensures glyph { result ≡ digit_glyph false value }
+    ensures printable { IsPrintable result }
 {
-    if value < 10 {
-        b'0' + value
-    } else {
-        b'a' + (value - 10)
-    }
+    b"0123456789abcdef"[value as usize]
 }
 
 /// Writes two digits for each byte, in blocks.
@@ -47,10 +48,31 @@ fn write_block<W: fmt::Write>(block: &[u8], f: &mut fmt::Formatter<W>) -> fmt::R
 {
     let mut digits = [b'0'; 2 * BLOCK];
     for i in 0..block.len() {
-        digits[2 * i] = digit(block[i] / 16);
-        digits[2 * i + 1] = digit(block[i] % 16);
+        put_digits(&mut digits, 2 * i, block[i]);
     }
-    write_utf8(&digits[..2 * block.len()], f)
+    write_ascii(&digits[..2 * block.len()], f)
+}
+
+/// Writes the two digits of a byte at a place.
+#[inline(always)]
+fn put_digits(text: &mut [u8], place: usize, byte: u8)
+    requires { place + 1 < length text.old }
+    ensures digits { text.new ≡ set (set text.old place (digit_glyph false (byte / 16)))
+        (place + 1) (digit_glyph false (byte % 16)) }
+    ensures size { length text.new ≡ length text.old }
+    ensures printable { All IsPrintable text.old → All IsPrintable text.new }
+{
+    text[place] = digit(byte / 16);
+    text[place + 1] = digit(byte % 16);
+}
+
+/// Writes bytes of ASCII.
+fn write_ascii<W: fmt::Write>(bytes: &[u8], f: &mut fmt::Formatter<W>) -> fmt::Result
+    requires { All (λ byte. byte < 128) bytes.now }
+    ensures { WritesOnOk W.write_str_gives f.old result bytes.now f.new }
+{
+    // Proved to be UTF-8, since it is ASCII: a test costs as much as all that makes the text.
+    f.write_str(unsafe { str::from_utf8_unchecked(bytes) })
 }
 
 /// Writes bytes of UTF-8.
@@ -63,22 +85,25 @@ pub fn write_utf8<W: fmt::Write>(bytes: &[u8], f: &mut fmt::Formatter<W>) -> fmt
     }
 }
 
-/// Writes a row of bytes: each in hexadecimal and a blank, then all as ASCII between bars, where a
-/// dot stands for what isn't printable.
-pub fn write_row<W: fmt::Write>(row: &[u8], f: &mut fmt::Formatter<W>) -> fmt::Result
+/// Writes a row of bytes after a line break: the last four digits of its offset, each byte in
+/// hexadecimal, and then all as ASCII between bars, where a dot stands for what isn't printable.
+pub fn write_row<W: fmt::Write>(offset: usize, row: &[u8], f: &mut fmt::Formatter<W>) -> fmt::Result
     requires { length row.now ≤ ROW }
-    ensures { (text : List ℕ) × WritesOnOk W.write_str_gives f.old result text f.new
+    ensures { (text : List ℕ) × WritesOnOk W.write_str_gives f.old result (10 ∷ text) f.new
         × All IsPrintable text }
 {
     let mut text = [b' '; BAR + ROW + 2];
+    put_digits(&mut text, 5, (offset / 256 % 256) as u8);
+    put_digits(&mut text, 7, (offset % 256) as u8);
+    text[9] = b':';
     for i in 0..row.len() {
-        text[3 * i] = digit(row[i] / 16);
-        text[3 * i + 1] = digit(row[i] % 16);
+        put_digits(&mut text, FIRST + 3 * i, row[i]);
         text[BAR + 1 + i] = printable(row[i]);
     }
     text[BAR] = b'|';
     text[BAR + 1 + row.len()] = b'|';
-    write_utf8(&text[..BAR + 2 + row.len()], f)
+    text[0] = b'\n';
+    write_ascii(&text[..BAR + 2 + row.len()], f)
 }
 
 /// Returns a byte of printable ASCII, and a dot of any other.

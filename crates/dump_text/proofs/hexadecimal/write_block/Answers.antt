@@ -1,13 +1,27 @@
-use Rattle.std.proofs.Common.{◌≡◌, [], ◌∷◌, get_or, length-set, ◌∙◌, arith}
-use Rattle.dump_text.specs.Hexadecimal.{two_digits}
-use Rattle.dump_text.proofs.HexDigits.{digits_more}
+use Rattle.std.proofs.Common.{◌+◌, ◌*◌, length, take, refl, ap, length-set, ◌∙◌, arith}
+use Rattle.std.proofs.lemmas.List.Elements.{All-replicate, All-take}
+use Rattle.dump_text.specs.Hexadecimal.{IsPrintable}
+use Rattle.dump_text.proofs.{HexDigits.{digits_more}, Rows.{printable_is_ascii}}
 use Rattle.dump_text.proofs.hexadecimal.write_block.Goals as goal
+
+pub loop-i-init : goal.loop-i-init
+loop-i-init g c = record {
+  size = refl;
+  front = refl;
+  printable = All-replicate IsPrintable 64 48 (omega arith, omega arith);
+}
 
 pub loop-i-preserved : goal.loop-i-preserved
 loop-i-preserved g c =
     let now = c.loop-i.invariant in
-    let two : c.digit.result ∷ c.digit-in-loop-i.result ∷ [] ≡ two_digits (get_or c.args.block.now c.loop-i.i 0) = cc in (
-      length-set _ _ _ ∙ length-set _ _ _ ∙ now.0,
-      digits_more c.loop-i.digits c.args.block.now c.loop-i.i c.digit.result c.digit-in-loop-i.result
-          (omega (arith, now.0)) (omega arith) two now.1,
-    )
+    let put = c.put_digits.ensures in record {
+      size = ap length put.digits ∙ length-set _ _ _ ∙ length-set _ _ _ ∙ now.size;
+      front = ap (λ l. take (2 * (c.loop-i.i + 1)) l) put.digits
+          ∙ digits_more c.loop-i.digits c.args.block.now c.loop-i.i _ _
+          (omega (arith, now.size)) (omega arith) refl now.front;
+      printable = put.printable now.printable;
+    }
+
+pub write_ascii-requires : goal.write_ascii-requires
+write_ascii-requires g c =
+    printable_is_ascii _ (All-take IsPrintable _ c.loop-i.digits c.loop-i.invariant.printable)

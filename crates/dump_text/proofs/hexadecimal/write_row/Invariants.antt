@@ -4,4 +4,4 @@ use Rattle.dump_text.specs.Hexadecimal.{IsPrintable}
 use Rattle.dump_text.proofs.hexadecimal.write_row.Given as goal
 
 abbrev pub invariant-loop-i : goal.invariant-loop-i
-invariant-loop-i g l = record { size : length l.text ≡ 67; printable : All IsPrintable l.text }
+invariant-loop-i g l = record { size : length l.text ≡ 78; printable : All IsPrintable l.text }
