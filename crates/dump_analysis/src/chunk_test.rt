@@ -68,18 +68,23 @@ impl ChunkTest {
             ChunkTest::Any => true,
             ChunkTest::Type(wanted) => typ == wanted,
             ChunkTest::OtherThan(wanted) => typ != wanted,
-            ChunkTest::Stream(stream) => is_user_data(typ) && is_u16(value.after(4), stream),
+            // DATA and I-DATA have it at one place.
+            ChunkTest::Stream(stream) => {
+                is_user_data(typ) && is_u16(value.after(DataNumbers::STREAM_ID), stream)
+            }
             ChunkTest::Ppid(ppid) => has_ppid(chunk, ppid),
             ChunkTest::UserData => is_user_data(typ),
             ChunkTest::Control => !(is_user_data(typ) || typ == chunk_type::PAD),
             ChunkTest::NoUserData => {
-                typ == chunk_type::DATA && value.size == 12
-                    || typ == chunk_type::I_DATA && value.size == 16
+                typ == chunk_type::DATA && value.size == DataNumbers::SIZE
+                    || typ == chunk_type::I_DATA && value.size == IDataNumbers::SIZE
             }
             ChunkTest::StandsAlone => is_init(typ) || typ == chunk_type::SHUTDOWN_COMPLETE,
             ChunkTest::NoInitiateTag => is_init(typ) && is_u32(value, 0),
             ChunkTest::NoStreams => {
-                is_init(typ) && (is_u16(value.after(8), 0) || is_u16(value.after(10), 0))
+                is_init(typ)
+                    && (is_u16(value.after(InitNumbers::NBR_OUTBOUND_STREAMS), 0)
+                        || is_u16(value.after(InitNumbers::NBR_INBOUND_STREAMS), 0))
             }
             ChunkTest::SmallWindow => is_init(typ) && has_small_window(value),
             ChunkTest::NeedsChecksum => needs_checksum(chunk),

@@ -1,5 +1,5 @@
 -- A printer that hasn't failed counted one event more, and the rules that its packet breaks.
-use Rattle.std.proofs.Common.{◌≡◌, Bool, true, false, map, ℕ, List, [], ◌∷◌, ◌++◌, Option, None, Some, is_some, Result, Ok, Err, IsOk, IfOk, refl, subst, sym}
+use Rattle.std.proofs.Common.{◌≡◌, false, ℕ, List, [], ◌∷◌, ◌++◌, Option, None, Some, is_some, Result, Ok, Err, IsOk, IfOk, refl, subst, sym}
 use Rattle.dump_capture.specs.Event.{Event}
 use Rattle.dump_capture.specs.Frame.{Packet}
 use Rattle.dump_capture.specs.declared.frame.NoPacket.{NoPacket}
