@@ -1,7 +1,8 @@
 -- Whether bytes are a character that is shown.
-use Rattle.std.proofs.Common.{◌≡◌, ℕ, Bool, true, false, List, [], ◌∷◌, ◌++◌, length, get_or, refl, sym, ap, ◌∙◌, subst, length-append, arith}
+use Rattle.std.proofs.Common.{◌≡◌, ◌<◌, ℕ, Bool, true, false, List, [], ◌∷◌, ◌++◌, length, get_or, refl, sym, ap, ◌∙◌, subst, length-append, arith}
 use Rattle.std.specs.{Prelude.{IsUtf8}, Str.{is_utf8, chars}}
-use Rattle.std.proofs.lemmas.Str.{IsUtf8-from_is_utf8, is_utf8-from_IsUtf8, chars-encodes, encode_same, length-encode, len_utf8_bounds}
+use Rattle.std.proofs.lemmas.{List.Elements.{All-nil, All-cons}, Str.Ascii.{IsAscii-from_all}}
+use Rattle.std.proofs.lemmas.Str.{IsUtf8-from_ascii, encode_ascii, IsUtf8-from_is_utf8, is_utf8-from_IsUtf8, chars-encodes, encode_same, length-encode, len_utf8_bounds}
 use lib.Utf8.{encode, encodes}
 use Rattle.dump_text.specs.Printed.{is_shown, is_character}
 
@@ -24,3 +25,14 @@ first_character is_word bytes rest c u front =
     subst (λ l. get_or (chars l) 0 0 ≡ c) u.1.1
     (rw (chars-encodes u.0 u.1.0) (first_of_encodes u.0 c rest (sym front ∙ sym u.1.1))) in
     rw (is_utf8-from_IsUtf8 bytes u, first)
+
+-- one byte of ASCII
+pub ascii_character : (is_word : Bool) (bytes : List ℕ) → length bytes ≡ 1 → get_or bytes 0 0 < 128
+    → is_shown is_word (get_or bytes 0 0) ≡ is_character is_word bytes
+ascii_character is_word [] one low = absurd (omega (arith, one))
+ascii_character is_word (byte ∷ []) one low =
+    let all = All-cons (λ b. b < 128) byte [] low (All-nil (λ b. b < 128)) in
+    first_character is_word (byte ∷ []) [] byte
+    (IsUtf8-from_ascii (byte ∷ []) (IsAscii-from_all (byte ∷ []) all))
+    (sym (ap (λ l. l ++ []) (encode_ascii byte low)))
+ascii_character is_word (byte ∷ next ∷ rest) one low = absurd (omega (arith, one))

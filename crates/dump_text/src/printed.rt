@@ -99,6 +99,10 @@ fn size_from(byte: u8) -> usize
 fn is_character(bytes: &[u8], is_word: bool) -> bool
     ensures { result ≡ is_character is_word bytes.now }
 {
+    // Most characters are one byte of ASCII, whose UTF-8 needn't be tested.
+    if bytes.len() == 1 && bytes[0] < 0x80 {
+        return is_shown(char::from(bytes[0]), is_word);
+    }
     match str::from_utf8(bytes) {
         Ok(text) => match text.chars().next() {
             Some(character) => is_shown(character, is_word),
