@@ -132,15 +132,15 @@ fn incoming_request(value: &[u8]) -> Option<ReConfigRef>
     ensures { option_map re_config_view result ≡ option_map parameter.IncomingSsnResetRequest
         (result_ok (incoming_kind.read value.now)) }
 {
-    const SIZE: usize = RequestNumbers::SIZE;
-    if value.len() < SIZE {
+    if value.len() < RequestNumbers::SIZE {
         return None;
     }
-    if !(value.len() - SIZE).is_multiple_of(2) {
+    let ids = &value[RequestNumbers::SIZE..];
+    if !ids.len().is_multiple_of(2) {
         return None;
     }
     Some(ReConfigRef::IncomingSsnResetRequest {
         request_seq_nbr: RequestNumbers::read(value).request_seq_nbr,
-        streams: Numbers::new((value.len() - SIZE) / 2, &value[SIZE..]),
+        streams: Numbers::new(ids.len() / 2, ids),
     })
 }
