@@ -3,7 +3,7 @@
 'use strict';
 
 // (`this` is a CommonJS module's exports; in a module of a browser it is undefined)
-const { load, call, instance, view, big, setSize, number, truth, record, isList, isBytes, Block, Struct, structs } =
+const { load, call, calls, instance, view, big, setSize, number, truth, record, isList, isBytes, Block, Struct, structs } =
   this ? require('./library.js') : globalThis[Symbol.for('davgyuti')];
 
 const version = '0.1.0';
@@ -304,21 +304,12 @@ function found(struct, name, ...words) {
   return call(name, ...words, place(answer)) ? struct.read(answer.from) : null;
 }
 
-/** The items of a list that lies in the memory and has at most so many, each made of where a function writes it. */
-function listed(block, struct, make, most, name, ...words) {
-  reserve(block, most * struct.size);
-  const count = Number(call(name, ...words, block.at, big(most))), all = [];
-  for (let i = 0, at = block.from; i < count; i++, at += struct.size)
-    all.push(make(view(), at));
-  return all;
-}
-
 // ---- reading a whole packet
 
 /** Where the fields of a struct are. */
 const placesOf = struct => Object.freeze(Object.fromEntries(struct.fields.map(({ name, at }) => [name, at])));
-const [POLICY, CHUNK, PARAMETER, BLOCK, SKIPPED, ROW, READ] =
-  ['policy', 'chunk', 'parameter', 'gapAckBlock', 'skippedStream', 'row', 'packet'].map(name => placesOf(structs[name]));
+const [POLICY, CHUNK, PARAMETER, BLOCK, ROW, READ] =
+  ['policy', 'chunk', 'parameter', 'gapAckBlock', 'row', 'packet'].map(name => placesOf(structs[name]));
 
 /** The words for a packet, its checksum's word, and a policy. */
 function asked(bytes, policy) {
@@ -405,26 +396,35 @@ const header = bytes => found(structs.header, 'dcsctp_header', ...put(input, byt
 /** A part of the caller's bytes, where they lie. */
 const part = (bytes, offset, size) => new Uint8Array(bytes.buffer, bytes.byteOffset + offset, size);
 
-const numberAt = (memory, at) => memory.getUint32(at, true);
-const shortAt = (memory, at) => memory.getUint16(at, true);
+/** Has room for a list that is at most as long. */
+function room(block, count, size) {
+  reserve(block, count * size);
+  return big(count);
+}
 
-const blockAt = (memory, at) => ({
-  start: memory.getUint16(at + BLOCK.start, true),
-  end: memory.getUint16(at + BLOCK.end, true),
-});
+// The lists of a chunk whose value has a size: an item has at least four bytes. (Each has a loop of its own, as a function that
+// makes any item takes longer than the item.)
+function blocksOf(size, [start, length, chunk]) {
+  const most = room(list, size >> 2, structs.gapAckBlock.size);
+  const all = new Array(Number(calls.gapAckBlocks(start, length, chunk, list.at, most))), memory = view();
+  for (let i = 0, at = list.from; i < all.length; i++, at += 4)
+    all[i] = { start: memory.getUint16(at + BLOCK.start, true), end: memory.getUint16(at + BLOCK.end, true) };
+  return all;
+}
 
-const skippedAt = (memory, at) => ({
-  stream: memory.getUint16(at + SKIPPED.stream, true),
-  ssn: memory.getUint16(at + SKIPPED.ssn, true),
-  mid: memory.getUint32(at + SKIPPED.mid, true),
-  isUnordered: memory.getUint8(at + SKIPPED.isUnordered) !== 0,
-});
+function duplicatesOf(size, [start, length, chunk]) {
+  const most = room(list, size >> 2, U32.size);
+  const all = new Array(Number(calls.duplicateTsns(start, length, chunk, list.at, most))), memory = view();
+  for (let i = 0, at = list.from; i < all.length; i++, at += 4)
+    all[i] = memory.getUint32(at, true);
+  return all;
+}
 
-// (an item of these lists has at least four bytes, or two)
-const blocksOf = (size, words) => listed(list, structs.gapAckBlock, blockAt, size >> 2, 'dcsctp_gap_ack_blocks', ...words);
-const duplicatesOf = (size, words) => listed(list, U32, numberAt, size >> 2, 'dcsctp_duplicate_tsns', ...words);
-const streamsOf = (size, words) => listed(list, structs.skippedStream, skippedAt, size >> 2, 'dcsctp_skipped_streams', ...words);
-const isInOrder = words => call('dcsctp_validate_sack', ...words) !== 0;
+function streamsOf(size, words) {
+  const { size: step } = structs.skippedStream, most = room(list, size >> 2, step);
+  const count = Number(call('dcsctp_skipped_streams', ...words, list.at, most));
+  return Array.from({ length: count }, (_, i) => structs.skippedStream.read(list.from + i * step));
+}
 
 /** What the kinds of chunks hold: the name of it in a chunk, and how it is read. */
 const CONTENTS = {
@@ -453,7 +453,7 @@ function readSack(words, bytes, size) {
     aRwnd: it.aRwnd,
     blocks: blocksOf(size, words),
     duplicates: duplicatesOf(size, words),
-    isInOrder: isInOrder(words),
+    isInOrder: calls.validateSack(...words) !== 0,
   };
 }
 
@@ -494,7 +494,7 @@ function chunks(bytes) {
 
 // ---- reading a packet in one call
 
-const ROW_SIZE = structs.row.size, HEADER = 4;
+const ROW_SIZE = structs.row.size, PARAMETER_SIZE = structs.parameter.size, HEADER = 4;
 
 /** What `read` keeps of a row besides the chunk: an object of its type's numbers, whose lists and views come when they are asked for. */
 function numbersOfRow(memory, at, type) {
@@ -512,7 +512,8 @@ function numbersOfRow(memory, at, type) {
         isBeginning: memory.getUint8(at + ROW.isBeginning) !== 0,
         isEnd: memory.getUint8(at + ROW.isEnd) !== 0,
         immediateAck: memory.getUint8(at + ROW.immediateAck) !== 0,
-        payload: null,
+        // (where it begins, until it is asked for)
+        payload: memory.getUint32(at + ROW.restOffset, true),
       };
     case ChunkType.INIT:
     case ChunkType.INIT_ACK:
@@ -541,52 +542,76 @@ function numbersOfRow(memory, at, type) {
   }
 }
 
-/** A view of a packet that `read` gave. */
-const partOf = (packet, offset, size) => (size > 0 ? part(packet.bytes, offset, size) : NOTHING);
+/** A view of a packet that `read` gave. (Of an array of that class itself there is one in less time.) */
+function partOf({ bytes, isPlain }, offset, size) {
+  if (size === 0)
+    return NOTHING;
+  return isPlain ? bytes.subarray(offset, offset + size) : part(bytes, offset, size);
+}
+
+/** Two numbers of 16 bits as one: so has each offset and size in a packet. What `read` gives is kept in few words, as a packet can
+    have 16,380 chunks. */
+const both = (high, low) => high << 16 | low;
+const high = it => it >>> 16;
+const low = it => it & 0xffff;
 
 /** A chunk that `read` gives: what its row has, and the packet, whose `bytes` are the caller's. */
 class RowChunk {
   #packet;
-  #size;
-  #restOffset;
+  #kind;
+  #place;
   #content;
 
   // (in each row a size's upper half is 0, as the memory's addresses have 32 bits)
   constructor(packet, memory, at) {
-    this.type = memory.getUint8(at + ROW.type);
-    this.flags = memory.getUint8(at + ROW.flags);
-    this.valueOffset = memory.getUint32(at + ROW.valueOffset, true);
-    this.next = memory.getUint32(at + ROW.next, true);
+    const type = memory.getUint8(at + ROW.type);
     this.#packet = packet;
-    this.#size = memory.getUint32(at + ROW.valueSize, true);
-    this.#restOffset = memory.getUint32(at + ROW.restOffset, true);
-    this.#content = numbersOfRow(memory, at, this.type);
+    this.#kind = both(memory.getUint32(at + ROW.next, true), memory.getUint8(at + ROW.flags) << 8 | type);
+    this.#place = both(memory.getUint32(at + ROW.valueOffset, true), memory.getUint32(at + ROW.valueSize, true));
+    this.#content = numbersOfRow(memory, at, type);
+  }
+
+  get type() {
+    return this.#kind & 0xff;
   }
 
   get name() {
     return chunkName(this.type);
   }
 
+  get flags() {
+    return low(this.#kind) >> 8;
+  }
+
   get offset() {
-    return this.valueOffset - HEADER;
+    return high(this.#place) - HEADER;
+  }
+
+  get valueOffset() {
+    return high(this.#place);
+  }
+
+  get next() {
+    return high(this.#kind);
   }
 
   get value() {
-    return partOf(this.#packet, this.valueOffset, this.#size);
+    return partOf(this.#packet, high(this.#place), low(this.#place));
   }
 
   get bytes() {
-    return partOf(this.#packet, this.offset, HEADER + this.#size);
+    return partOf(this.#packet, this.offset, HEADER + low(this.#place));
   }
 
   #of(one, other) {
-    return this.type === one || this.type === other ? this.#content : undefined;
+    const { type } = this;
+    return type === one || type === other ? this.#content : undefined;
   }
 
   get data() {
     const it = this.#of(ChunkType.DATA, ChunkType.I_DATA);
-    if (it !== undefined)
-      it.payload ??= partOf(this.#packet, this.#restOffset, this.valueOffset + this.#size - this.#restOffset);
+    if (it !== undefined && typeof it.payload === 'number')
+      it.payload = partOf(this.#packet, it.payload, high(this.#place) + low(this.#place) - it.payload);
     return it;
   }
 
@@ -601,10 +626,10 @@ class RowChunk {
   get sack() {
     const it = this.#of(ChunkType.SACK);
     if (it !== undefined && it.blocks === null) {
-      const words = this.#words();
-      it.isInOrder = isInOrder(words);
-      it.duplicates = duplicatesOf(this.#size, words);
-      it.blocks = blocksOf(this.#size, words);
+      const words = this.#words(), size = low(this.#place);
+      it.isInOrder = calls.validateSack(words[0], words[1], words[2]) !== 0;
+      it.duplicates = duplicatesOf(size, words);
+      it.blocks = blocksOf(size, words);
     }
     return it;
   }
@@ -612,24 +637,26 @@ class RowChunk {
   get forwardTsn() {
     const it = this.#of(ChunkType.FORWARD_TSN, ChunkType.I_FORWARD_TSN);
     if (it !== undefined)
-      it.streams ??= streamsOf(this.#size, this.#words());
+      it.streams ??= streamsOf(low(this.#place), this.#words());
     return it;
   }
 
   /** The words for the packet and this chunk in it; copies it into the memory if it isn't what was read last. */
   #words() {
+    const { bytes } = this.#packet;
     if (inInput !== this.#packet || !input.isHeld) {
-      put(input, this.#packet.bytes);
+      put(input, bytes);
       inInput = this.#packet;
     }
-    return [input.at, big(this.#packet.bytes.length), head(this.type, this.flags, this.valueOffset, this.#size, this.next)];
+    return [input.at, big(bytes.length), head(this.type, this.flags, high(this.#place), low(this.#place), this.next)];
   }
 
-  /** Its parameters or error causes: of a class, what it takes being the word for the item. */
-  static items(chunk, Item) {
-    const packet = chunk.#packet, words = chunk.#words();
-    const make = (memory, at) => new Item(packet, memory, at, words);
-    return listed(items, structs.parameter, make, chunk.#size >> 2, 'dcsctp_parameters', ...words);
+  /** Its parameters or error causes, each completed by a function. */
+  static items(chunk, complete) {
+    const words = chunk.#words(), all = new Array(parametersOf(low(chunk.#place), words));
+    for (let i = 0, at = items.from; i < all.length; i++, at += PARAMETER_SIZE)
+      all[i] = complete(new RowItem(chunk.#packet, view(), at, complete === completeCause), words, at);
+    return all;
   }
 
   static is(chunk) {
@@ -640,54 +667,52 @@ class RowChunk {
 /** A parameter or an error cause of a chunk that `read` gave. */
 class RowItem {
   #packet;
-  #size;
+  #kind;
+  #place;
+  #isCause;
 
-  constructor(packet, memory, at) {
-    this.offset = memory.getUint32(at + PARAMETER.valueOffset, true) - HEADER;
-    this.next = memory.getUint32(at + PARAMETER.next, true);
+  constructor(packet, memory, at, isCause) {
     this.#packet = packet;
-    this.#size = memory.getUint32(at + PARAMETER.valueSize, true);
+    this.#kind = both(memory.getUint32(at + PARAMETER.next, true), memory.getUint16(at + PARAMETER.type, true));
+    this.#place = both(memory.getUint32(at + PARAMETER.valueOffset, true), memory.getUint32(at + PARAMETER.valueSize, true));
+    this.#isCause = isCause;
+  }
+
+  get type() {
+    return this.#isCause ? undefined : low(this.#kind);
+  }
+
+  get code() {
+    return this.#isCause ? low(this.#kind) : undefined;
+  }
+
+  get name() {
+    return (this.#isCause ? causeName : parameterName)(low(this.#kind));
+  }
+
+  get offset() {
+    return high(this.#place) - HEADER;
+  }
+
+  get next() {
+    return high(this.#kind);
   }
 
   get value() {
-    return partOf(this.#packet, this.offset + HEADER, this.#size);
+    return partOf(this.#packet, high(this.#place), low(this.#place));
   }
 
   get bytes() {
-    return partOf(this.#packet, this.offset, HEADER + this.#size);
-  }
-}
-
-class RowParameter extends RowItem {
-  constructor(packet, memory, at, words) {
-    super(packet, memory, at);
-    this.type = memory.getUint16(at + PARAMETER.type, true);
-    completeParameter(this, words, at);
-  }
-
-  get name() {
-    return parameterName(this.type);
-  }
-}
-
-class RowCause extends RowItem {
-  constructor(packet, memory, at, words) {
-    super(packet, memory, at);
-    this.code = memory.getUint16(at + PARAMETER.type, true);
-    completeCause(this, words, at);
-  }
-
-  get name() {
-    return causeName(this.code);
+    return partOf(this.#packet, this.offset, HEADER + low(this.#place));
   }
 }
 
 function read(bytes, policy = {}) {
-  const words = asked(bytes, policy), at = place(answer);
+  const [start, length, word, accepted] = asked(bytes, policy), at = place(answer);
   // (no packet has more chunks than one for each four bytes behind its header)
   const most = Math.max(0, Math.min(bytes.length, 65_536) - FIRST_CHUNK) >> 2;
   reserve(rows, most * ROW_SIZE);
-  const code = call('dcsctp_read', ...words, rows.at, big(most), at);
+  const code = calls.read(start, length, word, accepted, rows.at, big(most), at);
   const memory = view(), from = answer.from;
   if (code !== Result.OK)
     throw new Fault(code, memory.getUint32(from + READ.faultOffset, true));
@@ -697,10 +722,10 @@ function read(bytes, policy = {}) {
     verificationTag: memory.getUint32(from + READ.verificationTag, true),
     checksum: memory.getUint32(from + READ.checksum, true),
   };
-  const end = rows.from + memory.getUint32(from + READ.chunkCount, true) * ROW_SIZE;
-  const packet = { bytes }, chunks = [];
-  for (let row = rows.from; row < end; row += ROW_SIZE)
-    chunks.push(new RowChunk(packet, memory, row));
+  const packet = { bytes, isPlain: bytes.constructor === Uint8Array };
+  const chunks = new Array(memory.getUint32(from + READ.chunkCount, true));
+  for (let i = 0, at = rows.from; i < chunks.length; i++, at += ROW_SIZE)
+    chunks[i] = new RowChunk(packet, memory, at);
   inInput = packet;
   return { header, chunks };
 }
@@ -741,19 +766,25 @@ function head(type, flags, valueOffset, valueSize, next) {
   return word;
 }
 
+/** Reads the parameters or error causes of a chunk whose value has a size; returns how many there are. */
+function parametersOf(size, [start, length, chunk]) {
+  const most = room(items, size >> 2, PARAMETER_SIZE);
+  return Number(calls.parameters(start, length, chunk, items.at, most));
+}
+
 /** The parameters or error causes of a chunk, read from its value alone. */
 function itemsOf(chunk, make) {
   const { value, flags } = chunk, size = isBytes(value, 'value').length, type = number(chunk.type, 'u8', 'type');
   const base = number(chunk.valueOffset, 'size', 'valueOffset');
   number(flags, 'u8', 'flags');
   const words = [...put(input, value), head(type, flags, 0, size, size)];
-  const item = (memory, at) => {
+  return Array.from({ length: parametersOf(size, words) }, (_, i) => {
+    const memory = view(), at = items.from + i * PARAMETER_SIZE;
     const valueOffset = memory.getUint32(at + PARAMETER.valueOffset, true), valueSize = memory.getUint32(at + PARAMETER.valueSize, true);
     const offset = valueOffset - HEADER, next = base + memory.getUint32(at + PARAMETER.next, true);
     const its = part(value, valueOffset, valueSize), bytes = part(value, offset, HEADER + valueSize);
     return make(memory.getUint16(at + PARAMETER.type, true), { value: its, bytes, offset: base + offset, next }, words, at);
-  };
-  return listed(items, structs.parameter, item, size >> 2, 'dcsctp_parameters', ...words);
+  });
 }
 
 const isCauses = chunk => [ChunkType.ABORT, ChunkType.ERROR].includes(record(chunk, 'chunk').type);
@@ -766,8 +797,11 @@ function completeNumber(item, [start, length], at) {
 }
 
 /** The numbers of two bytes in its list, as a function reads them. */
-const shortsOf = (name, [start, length], at) =>
-  listed(list, U16, shortAt, view().getUint32(at + PARAMETER.valueSize, true) >> 1, name, start, length, BigInt(at));
+function shortsOf(name, [start, length], at) {
+  const most = room(list, view().getUint32(at + PARAMETER.valueSize, true) >> 1, U16.size);
+  const count = Number(call(name, start, length, BigInt(at), list.at, most));
+  return Array.from({ length: count }, (_, i) => view().getUint16(list.from + 2 * i, true));
+}
 
 function completeParameter(parameter, words, at) {
   const { type } = parameter;
@@ -798,13 +832,13 @@ const causeOf = (code, rest, words, at) => completeCause({ code, name: causeName
 function parameters(chunk) {
   if (isCauses(chunk))
     return [].values();
-  return (RowChunk.is(chunk) ? RowChunk.items(chunk, RowParameter) : itemsOf(chunk, parameterOf)).values();
+  return (RowChunk.is(chunk) ? RowChunk.items(chunk, completeParameter) : itemsOf(chunk, parameterOf)).values();
 }
 
 function causes(chunk) {
   if (!isCauses(chunk))
     return [].values();
-  return (RowChunk.is(chunk) ? RowChunk.items(chunk, RowCause) : itemsOf(chunk, causeOf)).values();
+  return (RowChunk.is(chunk) ? RowChunk.items(chunk, completeCause) : itemsOf(chunk, causeOf)).values();
 }
 
 /** A chunk that has one item of a type and a value as its list. */

@@ -19,17 +19,61 @@ function hold() {
   heldBytes = new Uint8Array(wasm.memory.buffer);
 }
 
-/** Calls a function. An exception, as of a stack that is full, leaves the memory as it is: so a new instance comes. */
+/** An exception, as of a stack that is full, leaves the memory as it is: so a new instance comes. */
+function leave(error) {
+  wasm = new WebAssembly.Instance(compiled).exports;
+  left++;
+  hold();
+  throw error;
+}
+
+/** Calls a function. */
 function call(name, ...words) {
   try {
     return wasm[name](...words);
   } catch (error) {
-    wasm = new WebAssembly.Instance(compiled).exports;
-    left++;
-    hold();
-    throw error;
+    return leave(error);
   }
 }
+
+/** Calls what packets are read by. (Each has a call of its own, which takes a fifth of the time of one that any name has.) */
+const calls = {
+  read(bytes, length, word, policy, rows, count, packet) {
+    try {
+      return wasm.dcsctp_read(bytes, length, word, policy, rows, count, packet);
+    } catch (error) {
+      return leave(error);
+    }
+  },
+  validateSack(bytes, length, chunk) {
+    try {
+      return wasm.dcsctp_validate_sack(bytes, length, chunk);
+    } catch (error) {
+      return leave(error);
+    }
+  },
+  gapAckBlocks(bytes, length, chunk, list, count) {
+    try {
+      return wasm.dcsctp_gap_ack_blocks(bytes, length, chunk, list, count);
+    } catch (error) {
+      return leave(error);
+    }
+  },
+  duplicateTsns(bytes, length, chunk, list, count) {
+    try {
+      return wasm.dcsctp_duplicate_tsns(bytes, length, chunk, list, count);
+    } catch (error) {
+      return leave(error);
+    }
+  },
+  parameters(bytes, length, chunk, list, count) {
+    try {
+      return wasm.dcsctp_parameters(bytes, length, chunk, list, count);
+    } catch (error) {
+      return leave(error);
+    }
+  },
+};
 
 /** Which instance it is: what lies in another one's memory is lost. */
 function instance() {
@@ -264,7 +308,7 @@ const structs = {
 };
 
 // davgyuti.mjs says who takes it from where.
-const library = { load, call, instance, view, big, setSize, number, truth, record, isList, isBytes, Block, Struct, structs };
+const library = { load, call, calls, instance, view, big, setSize, number, truth, record, isList, isBytes, Block, Struct, structs };
 if (this)
   module.exports = library;
 else

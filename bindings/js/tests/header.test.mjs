@@ -20,7 +20,8 @@ const functions = [...all].filter(it => !inline.includes(it));
 
 test('each function of the header is used, and no other', () => {
   assert.ok(functions.length > 40);
-  assert.deepEqual([...new Set(code.match(/'dcsctp_\w+'/g))].map(it => it.slice(1, -1)).sort(), functions.sort());
+  const used = [...code.matchAll(/'(dcsctp_\w+)'/g), ...file('../library.js').matchAll(/wasm\.(dcsctp_\w+)\(/g)].map(it => it[1]);
+  assert.deepEqual([...new Set(used)].sort(), functions.sort());
 });
 
 test('the module imports nothing, and exports these functions, its memory, malloc and free', () => {
