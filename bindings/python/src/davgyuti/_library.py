@@ -131,6 +131,10 @@ class Packet(ctypes.Structure):
 # The same as formats: many numbers at once are read and written by these in less time than one by one.
 ROW = struct.Struct("@BBNNN NNNN IIIIII HHHH ????0N")
 DATA = struct.Struct("@IIIIHH????NN")
+PARAMETER = struct.Struct("@HNNN")
+BLOCK = struct.Struct("@HH")
+SKIPPED = struct.Struct("@HHI?3x")
+U16, U32 = struct.Struct("@H"), struct.Struct("@I")
 
 _BYTES = (c_char_p, c_size_t)
 _WHOLE = (*_BYTES, c_uint32, POINTER(Policy))
@@ -153,19 +157,18 @@ FUNCTIONS: dict[str, tuple[Any, ...]] = {
     "dcsctp_chunk_at": (c_bool, *_BYTES, c_size_t, POINTER(Chunk)),
     "dcsctp_data": (c_bool, *_CHUNK, POINTER(Data)),
     "dcsctp_sack": (c_bool, *_CHUNK, POINTER(Sack)),
-    "dcsctp_gap_ack_block": (c_bool, *_CHUNK, c_size_t, POINTER(GapAckBlock)),
-    "dcsctp_duplicate_tsn": (c_bool, *_CHUNK, c_size_t, POINTER(c_uint32)),
     "dcsctp_validate_sack": (c_bool, *_CHUNK),
     "dcsctp_init": (c_bool, *_CHUNK, POINTER(Init)),
     "dcsctp_shutdown": (c_bool, *_CHUNK, POINTER(c_uint32)),
     "dcsctp_forward_tsn": (c_bool, *_CHUNK, POINTER(ForwardTsn)),
-    "dcsctp_skipped_stream": (c_bool, *_CHUNK, c_size_t, POINTER(SkippedStream)),
-    "dcsctp_list_offset": (c_size_t, POINTER(Chunk)),
-    "dcsctp_parameter_at": (c_bool, *_CHUNK, c_size_t, POINTER(Parameter)),
     "dcsctp_number": (c_bool, *_PARAMETER, POINTER(c_uint32)),
     "dcsctp_re_config": (c_bool, *_PARAMETER, POINTER(ReConfig)),
-    "dcsctp_reset_stream": (c_bool, *_PARAMETER, c_size_t, POINTER(c_uint16)),
-    "dcsctp_missing_parameter": (c_bool, *_PARAMETER, c_size_t, POINTER(c_uint16)),
+    "dcsctp_gap_ack_blocks": (c_size_t, *_CHUNK, POINTER(GapAckBlock), c_size_t),
+    "dcsctp_duplicate_tsns": (c_size_t, *_CHUNK, POINTER(c_uint32), c_size_t),
+    "dcsctp_skipped_streams": (c_size_t, *_CHUNK, POINTER(SkippedStream), c_size_t),
+    "dcsctp_parameters": (c_size_t, *_CHUNK, POINTER(Parameter), c_size_t),
+    "dcsctp_reset_streams": (c_size_t, *_PARAMETER, POINTER(c_uint16), c_size_t),
+    "dcsctp_missing_parameters": (c_size_t, *_PARAMETER, POINTER(c_uint16), c_size_t),
     "dcsctp_seal": (c_uint32, POINTER(c_uint8), c_size_t),
     "dcsctp_set_tag": (c_uint32, POINTER(c_uint8), c_size_t, c_uint32),
     "dcsctp_begin": (c_uint32, *_OUTPUT, c_uint16, c_uint16, c_uint32),

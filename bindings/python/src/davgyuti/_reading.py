@@ -7,7 +7,7 @@ import struct
 from collections.abc import Callable, Iterator
 from ctypes import byref, c_size_t, c_uint8, c_uint16, c_uint32
 from functools import partial
-from itertools import count, islice, product
+from itertools import chain, islice, product
 from typing import Any, TypeAlias, TypeVar
 
 from . import _library as c
@@ -188,7 +188,7 @@ def raw_items(data: Buffer) -> Iterator[tuple[v.RawChunk, tuple[v.RawParameter, 
     are; of a cause the code is the type."""
     data = to_bytes(data)
     for chunk in _chunks(data):
-        yield _raw_chunk(data, chunk), tuple(_placed(_raw_parameter(data, it), it) for it in _items(data, chunk))
+        yield _raw_chunk(data, chunk), tuple([_placed(_raw_parameter(data, it), it[1]) for it in _items(data, chunk)])
 
 
 # ---- without a packet around it
@@ -220,8 +220,8 @@ def cause(code: int, value: Buffer = b"") -> v.Cause:
     return _cause(*_item(number(code, 0xFFFF, "code"), to_bytes(value)))
 
 
-def _item(type: int, value: bytes) -> tuple[bytes, c.Parameter]:
-    return value, c.Parameter(type, 0, len(value), len(value))
+def _item(type: int, value: bytes) -> "tuple[bytes, _Item]":
+    return value, (type, 0, len(value), len(value))
 
 
 class Packet:
@@ -307,24 +307,26 @@ def _chunks(data: bytes) -> Iterator[c.Chunk]:
         at = chunk.next
 
 
-def _value(data: bytes, part: c.Chunk | c.Parameter) -> bytes:
-    start: int = part.value_offset
-    return data[start : start + part.value_size]
+def _value(data: bytes, chunk: c.Chunk) -> bytes:
+    start: int = chunk.value_offset
+    return data[start : start + chunk.value_size]
 
 
-def _placed(part: _P, place: c.Chunk | c.Parameter) -> _P:
-    """The part, with its offset."""
-    part.offset = place.value_offset - 4
+def _placed(part: _P, start: int) -> _P:
+    """The part, with its offset, where its value starts."""
+    part.offset = start - 4
     return part
 
 
-def _each(function: Any, data: bytes, part: ctypes.Structure, new: Callable[[], Any]) -> Iterator[Any]:
-    """What a function reads at the indices 0, 1 .. as long as there is something."""
-    for index in count():
-        out = new()
-        if not function(data, len(data), byref(part), index, byref(out)):
-            return
-        yield out
+def _list(function: Any, data: bytes, part: c.Chunk | c.Parameter, kind: Any, form: struct.Struct) -> Iterator[tuple[Any, ...]]:
+    """What a function writes of a list, in one call: items of a kind, in this form."""
+    # (as many as the value has room for, where an item has four bytes at least, or is a number of two)
+    most = part.value_size // min(4, form.size)
+    if most == 0:
+        return iter(())
+    buffer = bytearray(most * form.size)
+    count = function(data, len(data), byref(part), byref(kind.from_buffer(buffer)), most)
+    return islice(form.iter_unpack(buffer), count)
 
 
 def chunk_at(data: bytes, offset: int, /) -> v.Chunk:
@@ -344,11 +346,11 @@ def _of_rows(data: bytes, count: int, rows: Any) -> tuple[v.Chunk, ...]:
 
 def _chunk(data: bytes, chunk: c.Chunk) -> v.Chunk:
     read = _CHUNKS.get(chunk.type)
-    return _placed(read and read(data, chunk) or _raw_chunk(data, chunk), chunk)
+    return _placed(read and read(data, chunk) or _raw_chunk(data, chunk), chunk.value_offset)
 
 
 def _raw_chunk(data: bytes, chunk: c.Chunk) -> v.RawChunk:
-    return _placed(v.RawChunk(chunk.type, chunk.flags, _value(data, chunk)), chunk)
+    return _placed(v.RawChunk(chunk.type, chunk.flags, _value(data, chunk)), chunk.value_offset)
 
 
 def _data(data: bytes, chunk: c.Chunk) -> v.Data | v.IData | None:
@@ -388,14 +390,13 @@ def _sack(data: bytes, chunk: c.Chunk) -> v.Sack | None:
     out = c.Sack()
     if not functions.dcsctp_sack(data, len(data), byref(chunk), byref(out)):
         return None
-    blocks = _each(functions.dcsctp_gap_ack_block, data, chunk, c.GapAckBlock)
-    duplicates = _each(functions.dcsctp_duplicate_tsn, data, chunk, c_uint32)
-    return v.Sack(
-        out.cumulative_tsn_ack,
-        out.a_rwnd,
-        tuple(v.GapAckBlock(it.start, it.end) for it in blocks),
-        tuple(it.value for it in duplicates),
-    )
+    return v.Sack(out.cumulative_tsn_ack, out.a_rwnd, *_sack_lists(data, chunk))
+
+
+def _sack_lists(data: bytes, chunk: c.Chunk) -> tuple[tuple[v.GapAckBlock, ...], tuple[int, ...]]:
+    blocks = _list(functions.dcsctp_gap_ack_blocks, data, chunk, c.GapAckBlock, c.BLOCK)
+    duplicates = _list(functions.dcsctp_duplicate_tsns, data, chunk, c_uint32, c.U32)
+    return tuple(map(_block, blocks)), tuple(chain.from_iterable(duplicates))
 
 
 def _shutdown(data: bytes, chunk: c.Chunk) -> v.Shutdown | None:
@@ -408,11 +409,11 @@ def _forward_tsn(data: bytes, chunk: c.Chunk) -> v.ForwardTsn | v.IForwardTsn | 
     out = c.ForwardTsn()
     if not functions.dcsctp_forward_tsn(data, len(data), byref(chunk), byref(out)):
         return None
-    streams = _each(functions.dcsctp_skipped_stream, data, chunk, c.SkippedStream)
+    streams = _list(functions.dcsctp_skipped_streams, data, chunk, c.SkippedStream, c.SKIPPED)
     tsn: int = out.new_cumulative_tsn
     if chunk.type == v.ChunkType.FORWARD_TSN:
-        return v.ForwardTsn(tsn, tuple(v.SkippedStream(it.stream, it.ssn) for it in streams))
-    return v.IForwardTsn(tsn, tuple(v.SkippedIStream(it.stream, it.mid, it.is_unordered) for it in streams))
+        return v.ForwardTsn(tsn, tuple(v.SkippedStream(stream, ssn) for stream, ssn, _, _ in streams))
+    return v.IForwardTsn(tsn, tuple(v.SkippedIStream(stream, mid, bit) for stream, _, mid, bit in streams))
 
 
 def _tag_reflected(chunk: c.Chunk) -> bool:
@@ -488,10 +489,7 @@ def _init_of(data: bytes, row: tuple[Any, ...]) -> v.Init | v.InitAck:
 
 
 def _sack_of(data: bytes, row: tuple[Any, ...]) -> v.Sack:
-    _, _, start, _, _, rest, _, count, duplicates, tsn, a_rwnd, *_ = row
-    after = rest + 4 * count
-    blocks = tuple(map(_block, struct.iter_unpack(">HH", data[rest:after])))
-    return v.Sack(tsn, a_rwnd, blocks, struct.unpack_from(f">{duplicates}I", data, after), offset=start - 4)
+    return v.Sack(row[9], row[10], *_sack_lists(data, c.Chunk(*row[:5])), offset=row[2] - 4)
 
 
 _block: Any = partial(tuple.__new__, v.GapAckBlock)
@@ -506,59 +504,55 @@ _ROWS: dict[int, Callable[[bytes, tuple[Any, ...]], v.Chunk]] = {
 
 # ---- parameters and error causes
 
+_Item: TypeAlias = tuple[Any, ...]  # the fields of a Parameter
 
-def _items(data: bytes, chunk: c.Chunk) -> Iterator[c.Parameter]:
-    at = functions.dcsctp_list_offset(byref(chunk))
-    while True:
-        item = c.Parameter()
-        if not functions.dcsctp_parameter_at(data, len(data), byref(chunk), at, byref(item)):
-            return
-        yield item
-        at = item.next
+
+def _items(data: bytes, chunk: c.Chunk) -> Iterator[_Item]:
+    return _list(functions.dcsctp_parameters, data, chunk, c.Parameter, c.PARAMETER)
 
 
 def _parameters(data: bytes, chunk: c.Chunk) -> tuple[v.Parameter, ...]:
-    return tuple(_placed(_parameter(data, it), it) for it in _items(data, chunk))
+    return tuple([_placed(_parameter(data, it), it[1]) for it in _items(data, chunk)])
 
 
 def _causes(data: bytes, chunk: c.Chunk) -> tuple[v.Cause, ...]:
-    return tuple(_placed(_cause(data, it), it) for it in _items(data, chunk))
+    return tuple([_placed(_cause(data, it), it[1]) for it in _items(data, chunk)])
 
 
-def _parameter(data: bytes, item: c.Parameter) -> v.Parameter:
-    read = _PARAMETERS.get(item.type)
+def _parameter(data: bytes, item: _Item) -> v.Parameter:
+    read = _PARAMETERS.get(item[0])
     return read and read(data, item) or _raw_parameter(data, item)
 
 
-def _raw_parameter(data: bytes, item: c.Parameter) -> v.RawParameter:
-    return v.RawParameter(item.type, _value(data, item))
+def _raw_parameter(data: bytes, item: _Item) -> v.RawParameter:
+    return v.RawParameter(item[0], _item_value(data, item))
 
 
-def _cause(data: bytes, item: c.Parameter) -> v.Cause:
-    read = _CAUSES.get(item.type)
-    return read and read(data, item) or v.RawCause(item.type, _value(data, item))
+def _cause(data: bytes, item: _Item) -> v.Cause:
+    read = _CAUSES.get(item[0])
+    return read and read(data, item) or v.RawCause(item[0], _item_value(data, item))
 
 
-def _number(data: bytes, item: c.Parameter) -> int | None:
+def _item_value(data: bytes, item: _Item) -> bytes:
+    _, start, size, _ = item
+    return data[start : start + size]
+
+
+def _number(kind: Callable[[int], _P], data: bytes, item: _Item) -> _P | None:
     out = c_uint32()
-    return out.value if functions.dcsctp_number(data, len(data), byref(item), byref(out)) else None
+    found = functions.dcsctp_number(data, len(data), byref(c.Parameter(*item)), byref(out))
+    return kind(out.value) if found else None
 
 
-def _zero_checksum_acceptable(data: bytes, item: c.Parameter) -> v.ZeroChecksumAcceptable | None:
-    method = _number(data, item)
-    return None if method is None else v.ZeroChecksumAcceptable(method)
+def _shorts(function: Any, data: bytes, item: _Item) -> tuple[int, ...]:
+    return tuple(chain.from_iterable(_list(function, data, c.Parameter(*item), c_uint16, c.U16)))
 
 
-def _no_user_data(data: bytes, item: c.Parameter) -> v.NoUserData | None:
-    tsn = _number(data, item)
-    return None if tsn is None else v.NoUserData(tsn)
-
-
-def _re_config(data: bytes, item: c.Parameter) -> v.Parameter | None:
+def _re_config(data: bytes, item: _Item) -> v.Parameter | None:
     out = c.ReConfig()
-    if not functions.dcsctp_re_config(data, len(data), byref(item), byref(out)):
+    if not functions.dcsctp_re_config(data, len(data), byref(c.Parameter(*item)), byref(out)):
         return None
-    streams = tuple(it.value for it in _each(functions.dcsctp_reset_stream, data, item, c_uint16))
+    streams = _shorts(functions.dcsctp_reset_streams, data, item)
     match v.ParameterType(out.type):
         case v.ParameterType.OUTGOING_SSN_RESET:
             return v.OutgoingSsnReset(out.request_number, out.response_number, out.last_tsn, streams)
@@ -576,31 +570,31 @@ def _re_config(data: bytes, item: c.Parameter) -> v.Parameter | None:
     return None
 
 
-def _missing_mandatory_parameter(data: bytes, item: c.Parameter) -> v.MissingMandatoryParameter | None:
-    types = tuple(it.value for it in _each(functions.dcsctp_missing_parameter, data, item, c_uint16))
-    return v.MissingMandatoryParameter(types) if item.value_size == 4 + 2 * len(types) else None
+def _missing_mandatory_parameter(data: bytes, item: _Item) -> v.MissingMandatoryParameter | None:
+    types = _shorts(functions.dcsctp_missing_parameters, data, item)
+    return v.MissingMandatoryParameter(types) if item[2] == 4 + 2 * len(types) else None
 
 
-_PARAMETERS: dict[int, Callable[[bytes, c.Parameter], v.Parameter | None]] = {
-    v.ParameterType.HEARTBEAT_INFO: lambda data, item: v.HeartbeatInfo(_value(data, item)),
-    v.ParameterType.STATE_COOKIE: lambda data, item: v.StateCookie(_value(data, item)),
+_PARAMETERS: dict[int, Callable[[bytes, _Item], v.Parameter | None]] = {
+    v.ParameterType.HEARTBEAT_INFO: lambda data, item: v.HeartbeatInfo(_item_value(data, item)),
+    v.ParameterType.STATE_COOKIE: lambda data, item: v.StateCookie(_item_value(data, item)),
     v.ParameterType.OUTGOING_SSN_RESET: _re_config,
     v.ParameterType.INCOMING_SSN_RESET: _re_config,
     v.ParameterType.SSN_TSN_RESET: _re_config,
     v.ParameterType.RECONFIGURATION_RESPONSE: _re_config,
     v.ParameterType.ADD_OUTGOING_STREAMS: _re_config,
     v.ParameterType.ADD_INCOMING_STREAMS: _re_config,
-    v.ParameterType.ZERO_CHECKSUM_ACCEPTABLE: _zero_checksum_acceptable,
-    v.ParameterType.SUPPORTED_EXTENSIONS: lambda data, item: v.SupportedExtensions(_value(data, item)),
-    v.ParameterType.FORWARD_TSN_SUPPORTED: lambda data, item: None if item.value_size else v.ForwardTsnSupported(),
+    v.ParameterType.ZERO_CHECKSUM_ACCEPTABLE: partial(_number, v.ZeroChecksumAcceptable),
+    v.ParameterType.SUPPORTED_EXTENSIONS: lambda data, item: v.SupportedExtensions(_item_value(data, item)),
+    v.ParameterType.FORWARD_TSN_SUPPORTED: lambda data, item: None if item[2] else v.ForwardTsnSupported(),
 }
-_CAUSES: dict[int, Callable[[bytes, c.Parameter], v.Cause | None]] = {
+_CAUSES: dict[int, Callable[[bytes, _Item], v.Cause | None]] = {
     v.CauseCode.MISSING_MANDATORY_PARAMETER: _missing_mandatory_parameter,
-    v.CauseCode.UNRECOGNIZED_CHUNK: lambda data, item: v.UnrecognizedChunk(_value(data, item)),
-    v.CauseCode.NO_USER_DATA: _no_user_data,
+    v.CauseCode.UNRECOGNIZED_CHUNK: lambda data, item: v.UnrecognizedChunk(_item_value(data, item)),
+    v.CauseCode.NO_USER_DATA: partial(_number, v.NoUserData),
     v.CauseCode.COOKIE_RECEIVED_WHILE_SHUTTING_DOWN: lambda data, item: (
-        None if item.value_size else v.CookieReceivedWhileShuttingDown()
+        None if item[2] else v.CookieReceivedWhileShuttingDown()
     ),
-    v.CauseCode.USER_INITIATED_ABORT: lambda data, item: v.UserInitiatedAbort(_value(data, item)),
-    v.CauseCode.PROTOCOL_VIOLATION: lambda data, item: v.ProtocolViolation(_value(data, item)),
+    v.CauseCode.USER_INITIATED_ABORT: lambda data, item: v.UserInitiatedAbort(_item_value(data, item)),
+    v.CauseCode.PROTOCOL_VIOLATION: lambda data, item: v.ProtocolViolation(_item_value(data, item)),
 }
