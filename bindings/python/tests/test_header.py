@@ -80,7 +80,7 @@ class Functions(unittest.TestCase):
         for name in ("_library.py", "_reading.py", "_writing.py"):
             with open(os.path.join(folder, name), encoding="ascii") as file:
                 text += file.read()
-        called = set(re.findall(r"(?:functions|library)\.(dcsctp_\w+)", text))
+        called = set(re.findall(r"(?:functions|bare|library)\.(dcsctp_\w+)", text))
         self.assertEqual(called, set(_library.FUNCTIONS))
 
 
@@ -103,6 +103,7 @@ class Structs(unittest.TestCase):
         for kind, struct in (
             (_library.Row, _library.ROW),
             (_library.Data, _library.DATA),
+            (_library.Chunk, _library.CHUNK),
             (_library.Parameter, _library.PARAMETER),
             (_library.GapAckBlock, _library.BLOCK),
             (_library.SkippedStream, _library.SKIPPED),

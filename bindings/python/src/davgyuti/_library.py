@@ -131,6 +131,7 @@ class Packet(ctypes.Structure):
 # The same as formats: many numbers at once are read and written by these in less time than one by one.
 ROW = struct.Struct("@BBNNN NNNN IIIIII HHHH ????0N")
 DATA = struct.Struct("@IIIIHH????NN")
+CHUNK = struct.Struct("@BBNNN")
 PARAMETER = struct.Struct("@HNNN")
 BLOCK = struct.Struct("@HH")
 SKIPPED = struct.Struct("@HHI?3x")
@@ -199,7 +200,7 @@ FUNCTIONS: dict[str, tuple[Any, ...]] = {
 }
 
 
-def _load() -> ctypes.PyDLL:
+def _load() -> tuple[ctypes.PyDLL, ctypes.PyDLL]:
     folder = os.path.dirname(os.path.abspath(__file__))
     for ending in ("so", "dylib", "dll"):
         path = os.path.join(folder, f"_dcsctp.{ending}")
@@ -209,20 +210,21 @@ def _load() -> ctypes.PyDLL:
         raise ImportError("davgyuti has no shared library here: it has to be installed, by pip")
     try:
         # (each call takes less time than to let another thread go on, and to come back)
-        library = ctypes.PyDLL(path)
+        library, bare = ctypes.PyDLL(path), ctypes.PyDLL(path)
     except OSError as error:
         raise ImportError(f"{path} can't be loaded, and has to be installed again: {error}") from None
     try:
         for name, (result, *arguments) in FUNCTIONS.items():
             function = getattr(library, name)
             function.restype, function.argtypes = result, arguments
+            getattr(bare, name).restype = result
     except AttributeError as error:
         raise ImportError(f"{path} is not the library of davgyuti {_text(VERSION)}: {error}") from None
     number = library.dcsctp_version_number()
     version = (number >> 16, number >> 8 & 255, number & 255)
     if version != VERSION:
         raise ImportError(f"{path} is the library of davgyuti {_text(version)}, and this is {_text(VERSION)}")
-    return library
+    return library, bare
 
 
 def _text(version: tuple[int, int, int]) -> str:
@@ -230,4 +232,6 @@ def _text(version: tuple[int, int, int]) -> str:
 
 
 version_text = _text(VERSION)
-functions = _load()
+# The functions; and the same without a look at what is passed, which takes longer than most of them do. They take bytes, arrays,
+# what byref gives, None, numbers that have a place in theirs, and sizes as a c_size_t: an int would be passed as one of C.
+functions, bare = _load()

@@ -12,7 +12,7 @@ from typing import Any, TypeAlias, TypeVar
 
 from . import _library as c
 from . import _values as v
-from ._library import functions
+from ._library import bare, functions
 
 try:
     from . import _fast  # what is below, in C, for what packets have most
@@ -31,6 +31,7 @@ _DEFAULT = v.Policy()
 _CHECKSUMMED = {v.ChunkType.INIT, v.ChunkType.COOKIE_ECHO, v.ChunkType.ASCONF}
 _REFLECTING = {v.ChunkType.ABORT, v.ChunkType.SHUTDOWN_COMPLETE}
 _POLICIES = {bits: byref(c.Policy(*bits)) for bits in product((False, True), repeat=3)}
+_PLAIN = _POLICIES[False, False, False]
 # How many rows are read with a packet; those of one that has more chunks are read when they are asked for.
 _FEW = 8
 _FewRows = c.Row * _FEW
@@ -50,6 +51,14 @@ def number(value: int, most: int, name: str) -> int:
     return index
 
 
+_SIZES = [c_size_t(it) for it in range(2049)]  # (each is read alone, and to make one takes longer)
+
+
+def size(count: int) -> c_size_t:
+    """A size, as a bare function takes it."""
+    return _SIZES[count] if count < len(_SIZES) else c_size_t(count)
+
+
 def start_of(buffer: bytearray) -> Any:
     """What leads C to the bytes, whose size is not changed while it lives."""
     return byref(c_uint8.from_buffer(buffer)) if buffer else None
@@ -59,7 +68,10 @@ def start_of(buffer: bytearray) -> Any:
 
 
 def _arguments(data: bytes, policy: v.Policy, word: int | None) -> tuple[Any, ...]:
-    right = functions.dcsctp_word(data, len(data)) if word is None else number(word, 0xFFFFFFFF, "word")
+    length = size(len(data))
+    right = bare.dcsctp_word(data, length) if word is None else number(word, 0xFFFFFFFF, "word")
+    if policy is _DEFAULT:
+        return data, length, right, _PLAIN
     if not isinstance(policy, v.Policy):
         raise TypeError(f"policy has to be a Policy, and is {policy!r}")
     zero = policy.zero_checksum or (
@@ -68,12 +80,12 @@ def _arguments(data: bytes, policy: v.Policy, word: int | None) -> tuple[Any, ..
         and len(data) <= _LARGEST
         and not needs_checksum(data)
     )
-    return data, len(data), right, _POLICIES[policy.any_checksum, zero, policy.strict_padding]
+    return data, length, right, _POLICIES[policy.any_checksum, zero, policy.strict_padding]
 
 
 def _first_fault(arguments: tuple[Any, ...]) -> v.Fault | None:
     offset = c_size_t()
-    code = functions.dcsctp_first_fault(*arguments, byref(offset))
+    code = bare.dcsctp_first_fault(*arguments, byref(offset))
     return v.Fault(v.Result(code), offset.value) if code else None
 
 
@@ -82,7 +94,7 @@ def read(data: bytes, policy: v.Policy, word: int | None, /) -> tuple[int, int, 
     Fault."""
     arguments = _arguments(data, policy, word)
     rows, packet = _FewRows(), c.Packet()
-    if functions.dcsctp_read(*arguments, rows, _FEW, byref(packet)):
+    if bare.dcsctp_read(*arguments, byref(rows), size(_FEW), byref(packet)):
         raise v.Fault(v.Result(packet.code), packet.fault_offset)
     return arguments[2], packet.chunk_count, (rows, packet)
 
@@ -123,7 +135,7 @@ def check(data: Buffer, policy: v.Policy = _DEFAULT, *, word: int | None = None)
         fast.read(to_bytes(data), policy, word)
         return
     arguments = _arguments(to_bytes(data), policy, word)
-    if functions.dcsctp_check(*arguments):
+    if bare.dcsctp_check(*arguments):
         fault = _first_fault(arguments)
         assert fault is not None
         raise fault
@@ -318,15 +330,17 @@ def _placed(part: _P, start: int) -> _P:
     return part
 
 
-def _list(function: Any, data: bytes, part: c.Chunk | c.Parameter, kind: Any, form: struct.Struct) -> Iterator[tuple[Any, ...]]:
-    """What a function writes of a list, in one call: items of a kind, in this form."""
+_ARRAYS = [c_uint8 * (1 << bits) for bits in range(21)]
+
+
+def _list(function: Any, data: bytes, part: Any, value_size: int, form: struct.Struct) -> Iterator[tuple[Any, ...]]:
+    """What a function writes of a list in one call, of a chunk or a parameter whose value has a size: items of this form."""
     # (as many as the value has room for, where an item has four bytes at least, or is a number of two)
-    most = part.value_size // min(4, form.size)
-    if most == 0:
-        return iter(())
-    buffer = bytearray(most * form.size)
-    count = function(data, len(data), byref(part), byref(kind.from_buffer(buffer)), most)
-    return islice(form.iter_unpack(buffer), count)
+    most = value_size // min(4, form.size)
+    bits = (most * form.size).bit_length()
+    out = (_ARRAYS[bits] if bits < len(_ARRAYS) else c_uint8 * (1 << bits))()
+    count = function(data, size(len(data)), part, out, size(most))
+    return form.iter_unpack(memoryview(out)[: count * form.size])
 
 
 def chunk_at(data: bytes, offset: int, /) -> v.Chunk:
@@ -340,7 +354,7 @@ def _of_rows(data: bytes, count: int, rows: Any) -> tuple[v.Chunk, ...]:
     """The chunks of a packet, of which these are the first rows."""
     if count > _FEW:
         rows = (c.Row * count)()
-        functions.dcsctp_read(data, len(data), 0, _POLICIES[True, False, False], rows, count, byref(c.Packet()))
+        bare.dcsctp_read(data, size(len(data)), 0, _POLICIES[True, False, False], byref(rows), size(count), byref(c.Packet()))
     return tuple([_ROWS.get(it[0], _rare_of)(data, it) for it in islice(c.ROW.iter_unpack(rows), count)])
 
 
@@ -382,7 +396,7 @@ def _init(data: bytes, chunk: c.Chunk) -> v.Init | v.InitAck | None:
         out.outbound_streams,
         out.inbound_streams,
         out.initial_tsn,
-        _parameters(data, chunk),
+        _parameters(data, _items(data, chunk)),
     )
 
 
@@ -390,12 +404,12 @@ def _sack(data: bytes, chunk: c.Chunk) -> v.Sack | None:
     out = c.Sack()
     if not functions.dcsctp_sack(data, len(data), byref(chunk), byref(out)):
         return None
-    return v.Sack(out.cumulative_tsn_ack, out.a_rwnd, *_sack_lists(data, chunk))
+    return v.Sack(out.cumulative_tsn_ack, out.a_rwnd, *_sack_lists(data, byref(chunk), chunk.value_size))
 
 
-def _sack_lists(data: bytes, chunk: c.Chunk) -> tuple[tuple[v.GapAckBlock, ...], tuple[int, ...]]:
-    blocks = _list(functions.dcsctp_gap_ack_blocks, data, chunk, c.GapAckBlock, c.BLOCK)
-    duplicates = _list(functions.dcsctp_duplicate_tsns, data, chunk, c_uint32, c.U32)
+def _sack_lists(data: bytes, chunk: Any, size: int) -> tuple[tuple[v.GapAckBlock, ...], tuple[int, ...]]:
+    blocks = _list(bare.dcsctp_gap_ack_blocks, data, chunk, size, c.BLOCK)
+    duplicates = _list(bare.dcsctp_duplicate_tsns, data, chunk, size, c.U32)
     return tuple(map(_block, blocks)), tuple(chain.from_iterable(duplicates))
 
 
@@ -409,7 +423,7 @@ def _forward_tsn(data: bytes, chunk: c.Chunk) -> v.ForwardTsn | v.IForwardTsn | 
     out = c.ForwardTsn()
     if not functions.dcsctp_forward_tsn(data, len(data), byref(chunk), byref(out)):
         return None
-    streams = _list(functions.dcsctp_skipped_streams, data, chunk, c.SkippedStream, c.SKIPPED)
+    streams = _list(bare.dcsctp_skipped_streams, data, byref(chunk), chunk.value_size, c.SKIPPED)
     tsn: int = out.new_cumulative_tsn
     if chunk.type == v.ChunkType.FORWARD_TSN:
         return v.ForwardTsn(tsn, tuple(v.SkippedStream(stream, ssn) for stream, ssn, _, _ in streams))
@@ -426,18 +440,18 @@ _CHUNKS: dict[int, Callable[[bytes, c.Chunk], v.Chunk | None]] = {
     v.ChunkType.INIT: _init,
     v.ChunkType.INIT_ACK: _init,
     v.ChunkType.SACK: _sack,
-    v.ChunkType.HEARTBEAT: lambda data, chunk: v.Heartbeat(_parameters(data, chunk)),
-    v.ChunkType.HEARTBEAT_ACK: lambda data, chunk: v.HeartbeatAck(_parameters(data, chunk)),
-    v.ChunkType.ABORT: lambda data, chunk: v.Abort(_causes(data, chunk), _tag_reflected(chunk)),
+    v.ChunkType.HEARTBEAT: lambda data, chunk: v.Heartbeat(_parameters(data, _items(data, chunk))),
+    v.ChunkType.HEARTBEAT_ACK: lambda data, chunk: v.HeartbeatAck(_parameters(data, _items(data, chunk))),
+    v.ChunkType.ABORT: lambda data, chunk: v.Abort(_causes(data, _items(data, chunk)), _tag_reflected(chunk)),
     v.ChunkType.SHUTDOWN: _shutdown,
     v.ChunkType.SHUTDOWN_ACK: lambda data, chunk: None if chunk.value_size else v.ShutdownAck(),
-    v.ChunkType.ERROR: lambda data, chunk: v.OperationError(_causes(data, chunk)),
+    v.ChunkType.ERROR: lambda data, chunk: v.OperationError(_causes(data, _items(data, chunk))),
     v.ChunkType.COOKIE_ECHO: lambda data, chunk: v.CookieEcho(_value(data, chunk)),
     v.ChunkType.COOKIE_ACK: lambda data, chunk: None if chunk.value_size else v.CookieAck(),
     v.ChunkType.SHUTDOWN_COMPLETE: lambda data, chunk: (
         None if chunk.value_size else v.ShutdownComplete(_tag_reflected(chunk))
     ),
-    v.ChunkType.RE_CONFIG: lambda data, chunk: v.ReConfig(_parameters(data, chunk)),
+    v.ChunkType.RE_CONFIG: lambda data, chunk: v.ReConfig(_parameters(data, _items(data, chunk))),
     v.ChunkType.FORWARD_TSN: _forward_tsn,
     v.ChunkType.I_FORWARD_TSN: _forward_tsn,
 }
@@ -450,48 +464,33 @@ def _rare_of(data: bytes, row: tuple[Any, ...]) -> v.Chunk:
 
 
 def _data_of(data: bytes, row: tuple[Any, ...]) -> v.Data:
-    _, _, start, _, _, rest, size, _, _, tsn, _, _, _, _, ppid, stream, ssn, _, _, unordered, beginning, end, immediate = row
-    return v.Data(
-        offset=start - 4,
-        tsn=tsn,
-        stream=stream,
-        ssn=ssn,
-        ppid=ppid,
-        payload=data[rest : rest + size],
-        is_unordered=unordered,
-        is_beginning=beginning,
-        is_end=end,
-        immediate_ack=immediate,
-    )
+    it = _new(v.Data)
+    (_, _, start, _, _, rest, size, _, _, it.tsn, _, _, _, _, it.ppid, it.stream, it.ssn, _, _, it.is_unordered, it.is_beginning,
+     it.is_end, it.immediate_ack) = row
+    it.offset, it.payload = start - 4, data[rest : rest + size]
+    return it
 
 
 def _i_data_of(data: bytes, row: tuple[Any, ...]) -> v.IData:
-    _, _, start, _, _, rest, size, _, _, tsn, _, _, mid, fsn, ppid, stream, _, _, _, unordered, beginning, end, immediate = row
-    return v.IData(
-        offset=start - 4,
-        tsn=tsn,
-        stream=stream,
-        mid=mid,
-        ppid=ppid,
-        fsn=fsn,
-        payload=data[rest : rest + size],
-        is_unordered=unordered,
-        is_beginning=beginning,
-        is_end=end,
-        immediate_ack=immediate,
-    )
+    it = _new(v.IData)
+    (_, _, start, _, _, rest, size, _, _, it.tsn, _, _, it.mid, it.fsn, it.ppid, it.stream, _, _, _, it.is_unordered,
+     it.is_beginning, it.is_end, it.immediate_ack) = row
+    it.offset, it.payload = start - 4, data[rest : rest + size]
+    return it
 
 
 def _init_of(data: bytes, row: tuple[Any, ...]) -> v.Init | v.InitAck:
     kind: type[v.Init | v.InitAck] = v.Init if row[0] == v.ChunkType.INIT else v.InitAck
     tsn, a_rwnd, tag = row[9:12]
-    return kind(tag, a_rwnd, row[17], row[18], tsn, _parameters(data, c.Chunk(*row[:5])), offset=row[2] - 4)
+    items = _list(bare.dcsctp_parameters, data, c.CHUNK.pack(*row[:5]), row[3], c.PARAMETER)
+    return kind(tag, a_rwnd, row[17], row[18], tsn, _parameters(data, items), offset=row[2] - 4)
 
 
 def _sack_of(data: bytes, row: tuple[Any, ...]) -> v.Sack:
-    return v.Sack(row[9], row[10], *_sack_lists(data, c.Chunk(*row[:5])), offset=row[2] - 4)
+    return v.Sack(row[9], row[10], *_sack_lists(data, c.CHUNK.pack(*row[:5]), row[3]), offset=row[2] - 4)
 
 
+_new = object.__new__
 _block: Any = partial(tuple.__new__, v.GapAckBlock)
 _ROWS: dict[int, Callable[[bytes, tuple[Any, ...]], v.Chunk]] = {
     v.ChunkType.DATA: _data_of,
@@ -508,24 +507,26 @@ _Item: TypeAlias = tuple[Any, ...]  # the fields of a Parameter
 
 
 def _items(data: bytes, chunk: c.Chunk) -> Iterator[_Item]:
-    return _list(functions.dcsctp_parameters, data, chunk, c.Parameter, c.PARAMETER)
+    return _list(bare.dcsctp_parameters, data, byref(chunk), chunk.value_size, c.PARAMETER)
 
 
-def _parameters(data: bytes, chunk: c.Chunk) -> tuple[v.Parameter, ...]:
-    return tuple([_placed(_parameter(data, it), it[1]) for it in _items(data, chunk)])
+def _parameters(data: bytes, items: Iterator[_Item]) -> tuple[v.Parameter, ...]:
+    return tuple([_placed(_parameter(data, it), it[1]) for it in items])
 
 
-def _causes(data: bytes, chunk: c.Chunk) -> tuple[v.Cause, ...]:
-    return tuple([_placed(_cause(data, it), it[1]) for it in _items(data, chunk)])
+def _causes(data: bytes, items: Iterator[_Item]) -> tuple[v.Cause, ...]:
+    return tuple([_placed(_cause(data, it), it[1]) for it in items])
 
 
 def _parameter(data: bytes, item: _Item) -> v.Parameter:
-    read = _PARAMETERS.get(item[0])
-    return read and read(data, item) or _raw_parameter(data, item)
+    return _PARAMETERS.get(item[0], _raw_parameter)(data, item) or _raw_parameter(data, item)
 
 
 def _raw_parameter(data: bytes, item: _Item) -> v.RawParameter:
-    return v.RawParameter(item[0], _item_value(data, item))
+    it = _new(v.RawParameter)
+    it.type, start, size, _ = item
+    it.value, it.offset = data[start : start + size], None
+    return it
 
 
 def _cause(data: bytes, item: _Item) -> v.Cause:
@@ -545,14 +546,14 @@ def _number(kind: Callable[[int], _P], data: bytes, item: _Item) -> _P | None:
 
 
 def _shorts(function: Any, data: bytes, item: _Item) -> tuple[int, ...]:
-    return tuple(chain.from_iterable(_list(function, data, c.Parameter(*item), c_uint16, c.U16)))
+    return tuple(chain.from_iterable(_list(function, data, c.PARAMETER.pack(*item), item[2], c.U16)))
 
 
 def _re_config(data: bytes, item: _Item) -> v.Parameter | None:
     out = c.ReConfig()
     if not functions.dcsctp_re_config(data, len(data), byref(c.Parameter(*item)), byref(out)):
         return None
-    streams = _shorts(functions.dcsctp_reset_streams, data, item)
+    streams = _shorts(bare.dcsctp_reset_streams, data, item)
     match v.ParameterType(out.type):
         case v.ParameterType.OUTGOING_SSN_RESET:
             return v.OutgoingSsnReset(out.request_number, out.response_number, out.last_tsn, streams)
@@ -571,7 +572,7 @@ def _re_config(data: bytes, item: _Item) -> v.Parameter | None:
 
 
 def _missing_mandatory_parameter(data: bytes, item: _Item) -> v.MissingMandatoryParameter | None:
-    types = _shorts(functions.dcsctp_missing_parameters, data, item)
+    types = _shorts(bare.dcsctp_missing_parameters, data, item)
     return v.MissingMandatoryParameter(types) if item[2] == 4 + 2 * len(types) else None
 
 
