@@ -152,7 +152,8 @@ func (p Packet) SetTag(verificationTag uint32) error {
 	return errorOf(C.dcsctp_set_tag(bytesOf(p), C.size_t(len(p)), C.uint32_t(verificationTag)))
 }
 
-// An Iterator goes over what a packet, a chunk or a parameter lists, and reads one after the other:
+// An Iterator goes over what a packet, a chunk or a parameter lists. Chunks are read one after the other, and all other lists in
+// one call, by the first Next:
 //
 //	for chunks := packet.Chunks(); chunks.Next(); {
 //		use(chunks.Value())
@@ -185,7 +186,7 @@ func (it *Iterator[T]) All(yield func(T) bool) {
 	}
 }
 
-// Slice returns those that are left. Of a list that may be long prefer Next, which keeps one: a packet can list 16,000.
+// Slice returns those that are left. Of chunks prefer Next, which keeps one: a packet can have 16,000.
 func (it *Iterator[T]) Slice() []T {
 	var all []T
 	for it.Next() {
@@ -194,15 +195,22 @@ func (it *Iterator[T]) Slice() []T {
 	return all
 }
 
-// byIndex goes over what is read by an index, from 0 on.
-func byIndex[T any](read func(index C.size_t) (T, bool)) *Iterator[T] {
-	var next C.size_t
-	return &Iterator[T]{read: func() (T, bool) {
-		value, isThere := read(next)
-		if isThere {
-			next++
+// listed goes over a list that C writes in one call, and whose length it returns; both calls are of what the first Next finds.
+func listed[T any](fill func(items []T) C.size_t) *Iterator[T] {
+	var items []T
+	isRead := false
+	return &Iterator[T]{read: func() (value T, isThere bool) {
+		if !isRead {
+			items, isRead = make([]T, fill(nil)), true
+			if count := int(fill(items)); count < len(items) {
+				items = items[:count] // (the bytes were changed in between)
+			}
 		}
-		return value, isThere
+		if len(items) == 0 {
+			return value, false
+		}
+		value, items = items[0], items[1:]
+		return value, true
 	}}
 }
 
@@ -367,18 +375,16 @@ func (chunk Chunk) SACK() (SACK, bool) {
 // GapAckBlocks goes over the gap ack blocks of a SACK; another type has none.
 func (chunk Chunk) GapAckBlocks() *Iterator[GapAckBlock] {
 	bytes, length := chunk.bytes()
-	return byIndex(func(index C.size_t) (GapAckBlock, bool) {
-		read := C.go_gap_ack_block(bytes, length, chunk.c, index)
-		return GapAckBlock{Start: uint16(read.it.start), End: uint16(read.it.end)}, bool(read.is_there)
+	return listed(func(blocks []GapAckBlock) C.size_t {
+		return C.go_gap_ack_blocks(bytes, length, chunk.c, blocksOf(blocks), C.size_t(len(blocks)))
 	})
 }
 
 // DuplicateTSNs goes over the duplicate TSNs of a SACK; another type has none.
 func (chunk Chunk) DuplicateTSNs() *Iterator[uint32] {
 	bytes, length := chunk.bytes()
-	return byIndex(func(index C.size_t) (uint32, bool) {
-		read := C.go_duplicate_tsn(bytes, length, chunk.c, index)
-		return uint32(read.it), bool(read.is_there)
+	return listed(func(tsns []uint32) C.size_t {
+		return C.go_duplicate_tsns(bytes, length, chunk.c, (*C.uint32_t)(first(tsns)), C.size_t(len(tsns)))
 	})
 }
 
@@ -440,14 +446,8 @@ func (chunk Chunk) ForwardTSN() (ForwardTSN, bool) {
 // SkippedStreams goes over the streams of FORWARD-TSN or I-FORWARD-TSN; another type has none.
 func (chunk Chunk) SkippedStreams() *Iterator[SkippedStream] {
 	bytes, length := chunk.bytes()
-	return byIndex(func(index C.size_t) (SkippedStream, bool) {
-		read := C.go_skipped_stream(bytes, length, chunk.c, index)
-		return SkippedStream{
-			Stream:      uint16(read.it.stream),
-			SSN:         uint16(read.it.ssn),
-			MID:         uint32(read.it.mid),
-			IsUnordered: bool(read.it.is_unordered),
-		}, bool(read.is_there)
+	return listed(func(streams []SkippedStream) C.size_t {
+		return C.go_skipped_streams(bytes, length, chunk.c, streamsOf(streams), C.size_t(len(streams)))
 	})
 }
 
@@ -459,20 +459,20 @@ type item struct {
 
 // items goes over the parameters, or the error causes, if this is what the chunk has.
 func items[T any](chunk Chunk, areThere bool, value func(item, int) T) *Iterator[T] {
-	next := chunk.c.next
-	if areThere {
-		next = C.go_list_offset(chunk.c)
+	if !areThere {
+		return &Iterator[T]{}
 	}
 	bytes, length := chunk.bytes()
+	all := listed(func(items []C.struct_dcsctp_parameter) C.size_t {
+		return C.go_parameters(bytes, length, chunk.c, (*C.struct_dcsctp_parameter)(first(items)), C.size_t(len(items)))
+	})
 	return &Iterator[T]{read: func() (T, bool) {
-		read := C.go_parameter_at(bytes, length, chunk.c, next)
-		if !read.is_there {
+		if !all.Next() {
 			var none T
 			return none, false
 		}
-		offset := int(next)
-		next = read.it.next
-		return value(item{chunk.packet, read.it}, offset), true
+		it := all.Value()
+		return value(item{chunk.packet, it}, int(it.value_offset)-4), true
 	}}
 }
 
@@ -566,9 +566,8 @@ func (parameter Parameter) ReConfig() (ReConfig, bool) {
 // stream is for all of them.
 func (parameter Parameter) ResetStreams() *Iterator[uint16] {
 	bytes, length := parameter.item.bytes()
-	return byIndex(func(index C.size_t) (uint16, bool) {
-		read := C.go_reset_stream(bytes, length, parameter.item.c, index)
-		return uint16(read.it), bool(read.is_there)
+	return listed(func(streams []uint16) C.size_t {
+		return C.go_reset_streams(bytes, length, parameter.item.c, (*C.uint16_t)(first(streams)), C.size_t(len(streams)))
 	})
 }
 
@@ -609,8 +608,7 @@ func (cause Cause) Number() (uint32, bool) { return cause.item.number() }
 // MissingParameters goes over the types of the cause Missing Mandatory Parameter (section 3.3.10.2); another code has none.
 func (cause Cause) MissingParameters() *Iterator[ParameterType] {
 	bytes, length := cause.item.bytes()
-	return byIndex(func(index C.size_t) (ParameterType, bool) {
-		read := C.go_missing_parameter(bytes, length, cause.item.c, index)
-		return ParameterType(read.it), bool(read.is_there)
+	return listed(func(types []ParameterType) C.size_t {
+		return C.go_missing_parameters(bytes, length, cause.item.c, (*C.uint16_t)(first(types)), C.size_t(len(types)))
 	})
 }
