@@ -202,7 +202,9 @@ impl<'a> Chunk<'a> {
         let (start, length) = (bytes.as_ptr(), bytes.len());
         // SAFETY: `bytes` is a slice, and `chunk` a reference.
         let raw = ffi::read(|chunk| unsafe { ffi::dcsctp_chunk_at(start, length, offset, chunk) })?;
-        Some(Self { bytes, raw })
+        // (field by field: a copy of the whole waits until each field is written)
+        let ffi::Chunk { r#type, flags, value_offset, value_size, next } = raw;
+        Some(Self { bytes, raw: ffi::Chunk { r#type, flags, value_offset, value_size, next } })
     }
 
     /// Checks bytes that have to be one chunk, without a packet around it, and with or without its

@@ -89,7 +89,7 @@ pub struct ReConfig {
 #[inline]
 pub fn read<T: Default>(read: impl FnOnce(&mut T) -> bool) -> Option<T> {
     let mut value = T::default();
-    read(&mut value).then_some(value)
+    if read(&mut value) { Some(value) } else { None }
 }
 
 // What every function asks of its caller, and what the SAFETY comments of this crate are about:
