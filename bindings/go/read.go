@@ -233,7 +233,6 @@ type Chunk struct {
 	Offset     int    // where it begins in the packet
 	NextOffset int    // where the next one begins
 	packet     Packet
-	c          C.struct_dcsctp_chunk
 	row        *C.struct_dcsctp_row // of a Parsed
 }
 
@@ -255,11 +254,11 @@ func (p Packet) ChunkAt(offset int) (Chunk, bool) {
 	if !read.is_there {
 		return Chunk{}, false
 	}
-	return p.chunk(read.it, nil), true
+	return p.chunk(&read.it, nil), true
 }
 
 // chunk returns the chunk that C has read.
-func (p Packet) chunk(c C.struct_dcsctp_chunk, row *C.struct_dcsctp_row) Chunk {
+func (p Packet) chunk(c *C.struct_dcsctp_chunk, row *C.struct_dcsctp_row) Chunk {
 	return Chunk{
 		Type:       ChunkType(c._type),
 		Flags:      uint8(c.flags),
@@ -267,8 +266,18 @@ func (p Packet) chunk(c C.struct_dcsctp_chunk, row *C.struct_dcsctp_row) Chunk {
 		Offset:     int(c.value_offset) - 4,
 		NextOffset: int(c.next),
 		packet:     p,
-		c:          c,
 		row:        row,
+	}
+}
+
+// c returns the chunk as C takes it.
+func (chunk Chunk) c() C.struct_dcsctp_chunk {
+	return C.struct_dcsctp_chunk{
+		_type:        C.uint8_t(chunk.Type),
+		flags:        C.uint8_t(chunk.Flags),
+		value_offset: C.size_t(chunk.Offset) + 4,
+		value_size:   C.size_t(len(chunk.Value)),
+		next:         C.size_t(chunk.NextOffset),
 	}
 }
 
@@ -296,7 +305,7 @@ func ReadChunk(bytes []byte) (Chunk, error) {
 // Bytes returns the whole chunk, its header and its value, without padding, where it lies in the packet: what the cause
 // Unrecognized Chunk Type holds (section 3.3.10.6).
 func (chunk Chunk) Bytes() []byte {
-	return chunk.packet.withHeader(chunk.c.value_offset, chunk.c.value_size)
+	return chunk.packet.part(C.size_t(chunk.Offset), C.size_t(len(chunk.Value))+4)
 }
 
 func (chunk Chunk) bytes() (*C.uint8_t, C.size_t) {
@@ -334,7 +343,7 @@ func (chunk Chunk) Data() (Data, bool) {
 		}, true
 	}
 	bytes, length := chunk.bytes()
-	read := C.go_data(bytes, length, chunk.c)
+	read := C.go_data(bytes, length, chunk.c())
 	if !read.is_there {
 		return Data{}, false
 	}
@@ -363,7 +372,7 @@ func (chunk Chunk) SACK() (SACK, bool) {
 		return SACK{uint32(row.tsn), uint32(row.a_rwnd), int(row.count), int(row.duplicate_count)}, true
 	}
 	bytes, length := chunk.bytes()
-	read := C.go_sack(bytes, length, chunk.c)
+	read := C.go_sack(bytes, length, chunk.c())
 	return SACK{
 		CumulativeTSNAck: uint32(read.it.cumulative_tsn_ack),
 		ARwnd:            uint32(read.it.a_rwnd),
@@ -376,7 +385,7 @@ func (chunk Chunk) SACK() (SACK, bool) {
 func (chunk Chunk) GapAckBlocks() *Iterator[GapAckBlock] {
 	bytes, length := chunk.bytes()
 	return listed(func(blocks []GapAckBlock) C.size_t {
-		return C.go_gap_ack_blocks(bytes, length, chunk.c, blocksOf(blocks), C.size_t(len(blocks)))
+		return C.go_gap_ack_blocks(bytes, length, chunk.c(), blocksOf(blocks), C.size_t(len(blocks)))
 	})
 }
 
@@ -384,14 +393,14 @@ func (chunk Chunk) GapAckBlocks() *Iterator[GapAckBlock] {
 func (chunk Chunk) DuplicateTSNs() *Iterator[uint32] {
 	bytes, length := chunk.bytes()
 	return listed(func(tsns []uint32) C.size_t {
-		return C.go_duplicate_tsns(bytes, length, chunk.c, (*C.uint32_t)(first(tsns)), C.size_t(len(tsns)))
+		return C.go_duplicate_tsns(bytes, length, chunk.c(), (*C.uint32_t)(first(tsns)), C.size_t(len(tsns)))
 	})
 }
 
 // IsValidSACK returns whether it is a SACK whose gap ack blocks are in order, apart, and begin at 2 or later.
 func (chunk Chunk) IsValidSACK() bool {
 	bytes, length := chunk.bytes()
-	return bool(C.go_validate_sack(bytes, length, chunk.c))
+	return bool(C.go_validate_sack(bytes, length, chunk.c()))
 }
 
 // Init reads the numbers of INIT or INIT ACK; false for another type.
@@ -404,7 +413,7 @@ func (chunk Chunk) Init() (Init, bool) {
 			uint32(row.tsn)}, true
 	}
 	bytes, length := chunk.bytes()
-	read := C.go_init(bytes, length, chunk.c)
+	read := C.go_init(bytes, length, chunk.c())
 	return Init{
 		InitiateTag:     uint32(read.it.initiate_tag),
 		ARwnd:           uint32(read.it.a_rwnd),
@@ -423,7 +432,7 @@ func (chunk Chunk) Shutdown() (cumulativeTSNAck uint32, ok bool) {
 		return uint32(row.tsn), true
 	}
 	bytes, length := chunk.bytes()
-	read := C.go_shutdown(bytes, length, chunk.c)
+	read := C.go_shutdown(bytes, length, chunk.c())
 	return uint32(read.it), bool(read.is_there)
 }
 
@@ -436,7 +445,7 @@ func (chunk Chunk) ForwardTSN() (ForwardTSN, bool) {
 		return ForwardTSN{uint32(row.tsn), int(row.count)}, true
 	}
 	bytes, length := chunk.bytes()
-	read := C.go_forward_tsn(bytes, length, chunk.c)
+	read := C.go_forward_tsn(bytes, length, chunk.c())
 	return ForwardTSN{
 		NewCumulativeTSN: uint32(read.it.new_cumulative_tsn),
 		StreamCount:      int(read.it.stream_count),
@@ -447,7 +456,7 @@ func (chunk Chunk) ForwardTSN() (ForwardTSN, bool) {
 func (chunk Chunk) SkippedStreams() *Iterator[SkippedStream] {
 	bytes, length := chunk.bytes()
 	return listed(func(streams []SkippedStream) C.size_t {
-		return C.go_skipped_streams(bytes, length, chunk.c, streamsOf(streams), C.size_t(len(streams)))
+		return C.go_skipped_streams(bytes, length, chunk.c(), streamsOf(streams), C.size_t(len(streams)))
 	})
 }
 
@@ -464,7 +473,7 @@ func items[T any](chunk Chunk, areThere bool, value func(item, int) T) *Iterator
 	}
 	bytes, length := chunk.bytes()
 	all := listed(func(items []C.struct_dcsctp_parameter) C.size_t {
-		return C.go_parameters(bytes, length, chunk.c, (*C.struct_dcsctp_parameter)(first(items)), C.size_t(len(items)))
+		return C.go_parameters(bytes, length, chunk.c(), (*C.struct_dcsctp_parameter)(first(items)), C.size_t(len(items)))
 	})
 	return &Iterator[T]{read: func() (T, bool) {
 		if !all.Next() {

@@ -224,12 +224,14 @@ def read_chunk(data: Buffer) -> v.Chunk:
 def parameter(type: int, value: Buffer = b"") -> v.Parameter:
     """Returns the parameter of this type with this value: of its kind, or a RawParameter. It has them as its `type` and
     `value` again, with zeros in reserved bytes."""
-    return _parameter(*_item(number(type, 0xFFFF, "type"), to_bytes(value)))
+    it: v.Parameter = _parameter(*_item(number(type, 0xFFFF, "type"), to_bytes(value)))
+    return it
 
 
 def cause(code: int, value: Buffer = b"") -> v.Cause:
     """Returns the error cause of this code with this value, likewise."""
-    return _cause(*_item(number(code, 0xFFFF, "code"), to_bytes(value)))
+    it: v.Cause = _cause(*_item(number(code, 0xFFFF, "code"), to_bytes(value)))
+    return it
 
 
 def _item(type: int, value: bytes) -> "tuple[bytes, _Item]":
@@ -336,7 +338,7 @@ _ARRAYS = [c_uint8 * (1 << bits) for bits in range(21)]
 def _list(function: Any, data: bytes, part: Any, value_size: int, form: struct.Struct) -> Iterator[tuple[Any, ...]]:
     """What a function writes of a list in one call, of a chunk or a parameter whose value has a size: items of this form."""
     # (as many as the value has room for, where an item has four bytes at least, or is a number of two)
-    most = value_size // min(4, form.size)
+    most = value_size >> 2 if form.size > 2 else value_size >> 1
     bits = (most * form.size).bit_length()
     out = (_ARRAYS[bits] if bits < len(_ARRAYS) else c_uint8 * (1 << bits))()
     count = function(data, size(len(data)), part, out, size(most))
@@ -480,14 +482,20 @@ def _i_data_of(data: bytes, row: tuple[Any, ...]) -> v.IData:
 
 
 def _init_of(data: bytes, row: tuple[Any, ...]) -> v.Init | v.InitAck:
-    kind: type[v.Init | v.InitAck] = v.Init if row[0] == v.ChunkType.INIT else v.InitAck
-    tsn, a_rwnd, tag = row[9:12]
+    it: v.Init | v.InitAck = _new(v.Init if row[0] == v.ChunkType.INIT else v.InitAck)
     items = _list(bare.dcsctp_parameters, data, c.CHUNK.pack(*row[:5]), row[3], c.PARAMETER)
-    return kind(tag, a_rwnd, row[17], row[18], tsn, _parameters(data, items), offset=row[2] - 4)
+    it.initial_tsn, it.a_rwnd, it.initiate_tag = row[9:12]
+    it.outbound_streams, it.inbound_streams = row[17:19]
+    it.offset, it.parameters = row[2] - 4, _parameters(data, items)
+    return it
 
 
 def _sack_of(data: bytes, row: tuple[Any, ...]) -> v.Sack:
-    return v.Sack(row[9], row[10], *_sack_lists(data, c.CHUNK.pack(*row[:5]), row[3]), offset=row[2] - 4)
+    it = _new(v.Sack)
+    it.cumulative_tsn_ack, it.a_rwnd = row[9:11]
+    it.blocks, it.duplicates = _sack_lists(data, c.CHUNK.pack(*row[:5]), row[3])
+    it.offset = row[2] - 4
+    return it
 
 
 _new = object.__new__
@@ -510,16 +518,21 @@ def _items(data: bytes, chunk: c.Chunk) -> Iterator[_Item]:
     return _list(bare.dcsctp_parameters, data, byref(chunk), chunk.value_size, c.PARAMETER)
 
 
-def _parameters(data: bytes, items: Iterator[_Item]) -> tuple[v.Parameter, ...]:
-    return tuple([_placed(_parameter(data, it), it[1]) for it in items])
+_Kinds: TypeAlias = dict[int, Callable[[bytes, _Item], Any]]
 
 
-def _causes(data: bytes, items: Iterator[_Item]) -> tuple[v.Cause, ...]:
-    return tuple([_placed(_cause(data, it), it[1]) for it in items])
+def _part(kinds: _Kinds, raw: Callable[[bytes, _Item], Any], data: bytes, item: _Item) -> Any:
+    """A parameter or an error cause: of its kind, if it has one and its value is one of it, or else as it is."""
+    return kinds.get(item[0], raw)(data, item) or raw(data, item)
 
 
-def _parameter(data: bytes, item: _Item) -> v.Parameter:
-    return _PARAMETERS.get(item[0], _raw_parameter)(data, item) or _raw_parameter(data, item)
+def _parts(kinds: _Kinds, raw: Callable[[bytes, _Item], Any], data: bytes, items: Iterator[_Item]) -> tuple[Any, ...]:
+    parts = []
+    for it in items:
+        part = kinds.get(it[0], raw)(data, it) or raw(data, it)
+        part.offset = it[1] - 4
+        parts.append(part)
+    return tuple(parts)
 
 
 def _raw_parameter(data: bytes, item: _Item) -> v.RawParameter:
@@ -529,9 +542,8 @@ def _raw_parameter(data: bytes, item: _Item) -> v.RawParameter:
     return it
 
 
-def _cause(data: bytes, item: _Item) -> v.Cause:
-    read = _CAUSES.get(item[0])
-    return read and read(data, item) or v.RawCause(item[0], _item_value(data, item))
+def _raw_cause(data: bytes, item: _Item) -> v.RawCause:
+    return v.RawCause(item[0], _item_value(data, item))
 
 
 def _item_value(data: bytes, item: _Item) -> bytes:
@@ -576,7 +588,7 @@ def _missing_mandatory_parameter(data: bytes, item: _Item) -> v.MissingMandatory
     return v.MissingMandatoryParameter(types) if item[2] == 4 + 2 * len(types) else None
 
 
-_PARAMETERS: dict[int, Callable[[bytes, _Item], v.Parameter | None]] = {
+_PARAMETERS: _Kinds = {
     v.ParameterType.HEARTBEAT_INFO: lambda data, item: v.HeartbeatInfo(_item_value(data, item)),
     v.ParameterType.STATE_COOKIE: lambda data, item: v.StateCookie(_item_value(data, item)),
     v.ParameterType.OUTGOING_SSN_RESET: _re_config,
@@ -589,7 +601,7 @@ _PARAMETERS: dict[int, Callable[[bytes, _Item], v.Parameter | None]] = {
     v.ParameterType.SUPPORTED_EXTENSIONS: lambda data, item: v.SupportedExtensions(_item_value(data, item)),
     v.ParameterType.FORWARD_TSN_SUPPORTED: lambda data, item: None if item[2] else v.ForwardTsnSupported(),
 }
-_CAUSES: dict[int, Callable[[bytes, _Item], v.Cause | None]] = {
+_CAUSES: _Kinds = {
     v.CauseCode.MISSING_MANDATORY_PARAMETER: _missing_mandatory_parameter,
     v.CauseCode.UNRECOGNIZED_CHUNK: lambda data, item: v.UnrecognizedChunk(_item_value(data, item)),
     v.CauseCode.NO_USER_DATA: partial(_number, v.NoUserData),
@@ -599,3 +611,5 @@ _CAUSES: dict[int, Callable[[bytes, _Item], v.Cause | None]] = {
     v.CauseCode.USER_INITIATED_ABORT: lambda data, item: v.UserInitiatedAbort(_item_value(data, item)),
     v.CauseCode.PROTOCOL_VIOLATION: lambda data, item: v.ProtocolViolation(_item_value(data, item)),
 }
+_parameter, _parameters = (partial(it, _PARAMETERS, _raw_parameter) for it in (_part, _parts))
+_cause, _causes = (partial(it, _CAUSES, _raw_cause) for it in (_part, _parts))

@@ -16,16 +16,19 @@ from ._reading import Buffer, chunk_at, fast, number, read, size, start_of, to_b
 _SMALL = 2048
 
 
+# (what most are is looked at here, in less time)
+
+
 def _u8(value: int, name: str) -> int:
-    return number(value, 0xFF, name)
+    return value if type(value) is int and 0 <= value <= 0xFF else number(value, 0xFF, name)
 
 
 def _u16(value: int, name: str) -> int:
-    return number(value, 0xFFFF, name)
+    return value if type(value) is int and 0 <= value <= 0xFFFF else number(value, 0xFFFF, name)
 
 
 def _u32(value: int, name: str) -> int:
-    return number(value, 0xFFFFFFFF, name)
+    return value if type(value) is int and 0 <= value <= 0xFFFFFFFF else number(value, 0xFFFFFFFF, name)
 
 
 def _array(kind: Any, items: Sequence[Any]) -> tuple[Any, c_size_t]:
@@ -115,7 +118,7 @@ class PacketBuilder:
     is atomic, in any number of threads; but a list that is written call by call, by a ChunkWriter, belongs to one thread:
     no other may add to the packet, or take a chunk back, until it is complete. `add` writes a whole list in one call."""
 
-    __slots__ = ("__dict__", "__weakref__", "_is_taken", "_last", "_limit", "_lock", "_packet", "_size", "_start")
+    __slots__ = ("__dict__", "__weakref__", "_end", "_is_taken", "_last", "_limit", "_lock", "_packet", "_size", "_start")
 
     def __init__(
         self, source_port: int, destination_port: int, verification_tag: int, *, limit: int = v.MAX_PACKET_SIZE
@@ -123,7 +126,9 @@ class PacketBuilder:
         """Begins a packet of at most `limit` bytes, and never more than 65,532; NoRoom where the limit is below 12."""
         self._limit = max(0, min(limit, v.MAX_PACKET_SIZE))
         self._packet = bytearray(min(self._limit, _SMALL))
+        # What each function that writes is called with first, once one was: the memory, its size, and where `_end` is.
         self._start: Any = None
+        self._end = c_size_t()
         self._size = 0
         # The token of the writer whose chunk is the packet's last one.
         self._last: object = None
@@ -150,11 +155,11 @@ class PacketBuilder:
         """What is alone calls this."""
         while True:
             if self._start is None:
-                self._start = start_of(self._packet)
-            end = c_size_t(self._size)
-            code = function(self._start, size(len(self._packet)), byref(end), *arguments)
+                self._start = start_of(self._packet), size(len(self._packet)), byref(self._end)
+            self._end.value = self._size
+            code = function(*self._start, *arguments)
             if code == 0:
-                self._size = end.value
+                self._size = self._end.value
                 return
             if code != v.Result.NO_ROOM or len(self._packet) == self._limit:
                 break
@@ -200,7 +205,7 @@ class PacketBuilder:
         if sealed is not None:
             return sealed
         with self._alone():
-            bare.dcsctp_seal(self._start or start_of(self._packet), size(self._size))
+            bare.dcsctp_seal(self._start[0] if self._start else start_of(self._packet), size(self._size))
             sealed = bytes(memoryview(self._packet)[: self._size])
             self._packet[8:12] = bytes(4)
             return sealed
@@ -220,45 +225,12 @@ class PacketBuilder:
                 raise
 
     def _add(self, chunk: v.Chunk) -> None:
-        match chunk:
-            case v.Data():
-                self._data(bare.dcsctp_add_data, chunk, chunk.payload, ssn=chunk.ssn)
-            case v.IData():
-                self._data(bare.dcsctp_add_i_data, chunk, chunk.payload, mid=chunk.mid, fsn=chunk.fsn)
-            case v.Init():
-                self._init(bare.dcsctp_add_init, chunk)._parameters(chunk.parameters)
-            case v.InitAck():
-                self._init(bare.dcsctp_add_init_ack, chunk)._parameters(chunk.parameters)
-            case v.Sack():
-                self.sack(chunk.cumulative_tsn_ack, chunk.a_rwnd, chunk.blocks, chunk.duplicates)
-            case v.Heartbeat():
-                self.chunk(v.ChunkType.HEARTBEAT)._parameters(chunk.parameters)
-            case v.HeartbeatAck():
-                self.chunk(v.ChunkType.HEARTBEAT_ACK)._parameters(chunk.parameters)
-            case v.Abort():
-                self.abort(tag_reflected=chunk.tag_reflected)._causes(chunk.causes)
-            case v.Shutdown():
-                self.shutdown(chunk.cumulative_tsn_ack)
-            case v.ShutdownAck():
-                self.shutdown_ack()
-            case v.OperationError():
-                self.error()._causes(chunk.causes)
-            case v.CookieEcho():
-                self.cookie_echo(chunk.cookie)
-            case v.CookieAck():
-                self.cookie_ack()
-            case v.ShutdownComplete():
-                self.shutdown_complete(tag_reflected=chunk.tag_reflected)
-            case v.ReConfig():
-                self.re_config()._parameters(chunk.parameters)
-            case v.ForwardTsn():
-                self.forward_tsn(chunk.new_cumulative_tsn, chunk.streams)
-            case v.IForwardTsn():
-                self.i_forward_tsn(chunk.new_cumulative_tsn, chunk.streams)
-            case v.RawChunk():
-                self.chunk(chunk.type, chunk.flags, chunk.value)
-            case _:
-                raise TypeError(f"{type(chunk).__name__} is no chunk")
+        for kind in type(chunk).__mro__:
+            add = _ADD.get(kind)
+            if add is not None:
+                add(self, chunk)
+                return
+        raise TypeError(f"{type(chunk).__name__} is no chunk")
 
     def chunk(self, type: int, flags: int = 0, value: Buffer = b"") -> "ChunkWriter":
         """Adds a chunk of any type (RFC 9260 section 3.2), to which parameters or error causes can be added."""
@@ -334,7 +306,8 @@ class PacketBuilder:
                 _u32(value, name)
             _u16(chunk.stream, "stream"), _u16(ssn, "ssn")
             raise
-        self._call(function, numbers, *_bytes(payload))
+        self._write(function, numbers, *_bytes(payload))
+        self._last = None
 
     def sack(
         self,
@@ -463,6 +436,28 @@ class _Alone:
 if fast is not None:
     fast.prepare(read, chunk_at, PacketBuilder, v)
 
+# How each kind is added by one that is alone.
+_ADD: dict[type, Callable[[PacketBuilder, Any], object]] = {
+    v.Data: lambda to, it: to._data(bare.dcsctp_add_data, it, it.payload, ssn=it.ssn),
+    v.IData: lambda to, it: to._data(bare.dcsctp_add_i_data, it, it.payload, mid=it.mid, fsn=it.fsn),
+    v.Init: lambda to, it: to._init(bare.dcsctp_add_init, it)._parameters(it.parameters),
+    v.InitAck: lambda to, it: to._init(bare.dcsctp_add_init_ack, it)._parameters(it.parameters),
+    v.Sack: lambda to, it: to.sack(it.cumulative_tsn_ack, it.a_rwnd, it.blocks, it.duplicates),
+    v.Heartbeat: lambda to, it: to.chunk(v.ChunkType.HEARTBEAT)._parameters(it.parameters),
+    v.HeartbeatAck: lambda to, it: to.chunk(v.ChunkType.HEARTBEAT_ACK)._parameters(it.parameters),
+    v.Abort: lambda to, it: to.abort(tag_reflected=it.tag_reflected)._causes(it.causes),
+    v.Shutdown: lambda to, it: to.shutdown(it.cumulative_tsn_ack),
+    v.ShutdownAck: lambda to, it: to.shutdown_ack(),
+    v.OperationError: lambda to, it: to.error()._causes(it.causes),
+    v.CookieEcho: lambda to, it: to.cookie_echo(it.cookie),
+    v.CookieAck: lambda to, it: to.cookie_ack(),
+    v.ShutdownComplete: lambda to, it: to.shutdown_complete(tag_reflected=it.tag_reflected),
+    v.ReConfig: lambda to, it: to.re_config()._parameters(it.parameters),
+    v.ForwardTsn: lambda to, it: to.forward_tsn(it.new_cumulative_tsn, it.streams),
+    v.IForwardTsn: lambda to, it: to.i_forward_tsn(it.new_cumulative_tsn, it.streams),
+    v.RawChunk: lambda to, it: to.chunk(it.type, it.flags, it.value),
+}
+
 
 class ChunkWriter:
     """Adds parameters or error causes to the packet's last chunk. In a `with` statement that ends by an exception the chunk
@@ -513,6 +508,8 @@ class ChunkWriter:
     def parameter(self, parameter: v.Parameter) -> "ChunkWriter":
         """Adds a parameter (RFC 9260 section 3.2.1), and returns this."""
         match parameter:
+            case v.RawParameter():
+                self._item(parameter.type, parameter.value)
             case v.HeartbeatInfo():
                 self._item(v.ParameterType.HEARTBEAT_INFO, parameter.info)
             case v.StateCookie():
@@ -553,8 +550,6 @@ class ChunkWriter:
                 self._item(v.ParameterType.SUPPORTED_EXTENSIONS, parameter.chunk_types)
             case v.ForwardTsnSupported():
                 self._item(v.ParameterType.FORWARD_TSN_SUPPORTED)
-            case v.RawParameter():
-                self._item(parameter.type, parameter.value)
             case _:
                 raise TypeError(f"{type(parameter).__name__} is no parameter")
         return self
