@@ -466,7 +466,7 @@ def _rare_of(data: bytes, row: tuple[Any, ...]) -> v.Chunk:
 
 
 def _data_of(data: bytes, row: tuple[Any, ...]) -> v.Data:
-    it = _new(v.Data)
+    it: v.Data = _new(v.Data)
     (_, _, start, _, _, rest, size, _, _, it.tsn, _, _, _, _, it.ppid, it.stream, it.ssn, _, _, it.is_unordered, it.is_beginning,
      it.is_end, it.immediate_ack) = row
     it.offset, it.payload = start - 4, data[rest : rest + size]
@@ -474,7 +474,7 @@ def _data_of(data: bytes, row: tuple[Any, ...]) -> v.Data:
 
 
 def _i_data_of(data: bytes, row: tuple[Any, ...]) -> v.IData:
-    it = _new(v.IData)
+    it: v.IData = _new(v.IData)
     (_, _, start, _, _, rest, size, _, _, it.tsn, _, _, it.mid, it.fsn, it.ppid, it.stream, _, _, _, it.is_unordered,
      it.is_beginning, it.is_end, it.immediate_ack) = row
     it.offset, it.payload = start - 4, data[rest : rest + size]
@@ -491,14 +491,14 @@ def _init_of(data: bytes, row: tuple[Any, ...]) -> v.Init | v.InitAck:
 
 
 def _sack_of(data: bytes, row: tuple[Any, ...]) -> v.Sack:
-    it = _new(v.Sack)
+    it: v.Sack = _new(v.Sack)
     it.cumulative_tsn_ack, it.a_rwnd = row[9:11]
     it.blocks, it.duplicates = _sack_lists(data, c.CHUNK.pack(*row[:5]), row[3])
     it.offset = row[2] - 4
     return it
 
 
-_new = object.__new__
+_new: Any = object.__new__
 _block: Any = partial(tuple.__new__, v.GapAckBlock)
 _ROWS: dict[int, Callable[[bytes, tuple[Any, ...]], v.Chunk]] = {
     v.ChunkType.DATA: _data_of,
@@ -536,7 +536,7 @@ def _parts(kinds: _Kinds, raw: Callable[[bytes, _Item], Any], data: bytes, items
 
 
 def _raw_parameter(data: bytes, item: _Item) -> v.RawParameter:
-    it = _new(v.RawParameter)
+    it: v.RawParameter = _new(v.RawParameter)
     it.type, start, size, _ = item
     it.value, it.offset = data[start : start + size], None
     return it
