@@ -343,23 +343,25 @@ impl<'a> Chunk<'a> {
     #[must_use]
     #[inline]
     pub fn content(&self) -> Content<'a> {
-        self.known_content().unwrap_or(Content::Other)
-    }
-
-    #[inline]
-    fn known_content(&self) -> Option<Content<'a>> {
         let tag_reflected = self.flags() & TAG_REFLECTED != 0;
         let has_no_value = self.raw.value_size == 0;
-        Some(match self.chunk_type() {
-            ChunkType::DATA => Content::Data(self.data()?),
-            ChunkType::I_DATA => Content::IData(self.data()?),
-            ChunkType::INIT => Content::Init(self.init()?, self.parameters()),
-            ChunkType::INIT_ACK => Content::InitAck(self.init()?, self.parameters()),
-            ChunkType::SACK => Content::Sack(self.sack()?),
+        match self.chunk_type() {
+            ChunkType::DATA => self.data().map_or(Content::Other, Content::Data),
+            ChunkType::I_DATA => self.data().map_or(Content::Other, Content::IData),
+            ChunkType::INIT => {
+                self.init().map_or(Content::Other, |it| Content::Init(it, self.parameters()))
+            }
+            ChunkType::INIT_ACK => {
+                self.init().map_or(Content::Other, |it| Content::InitAck(it, self.parameters()))
+            }
+            ChunkType::SACK => self.sack().map_or(Content::Other, Content::Sack),
             ChunkType::HEARTBEAT => Content::Heartbeat(self.parameters()),
             ChunkType::HEARTBEAT_ACK => Content::HeartbeatAck(self.parameters()),
             ChunkType::ABORT => Content::Abort { tag_reflected, causes: self.causes() },
-            ChunkType::SHUTDOWN => Content::Shutdown { cumulative_tsn_ack: self.shutdown()? },
+            ChunkType::SHUTDOWN => {
+                let content = |cumulative_tsn_ack| Content::Shutdown { cumulative_tsn_ack };
+                self.shutdown().map_or(Content::Other, content)
+            }
             ChunkType::SHUTDOWN_ACK if has_no_value => Content::ShutdownAck,
             ChunkType::ERROR => Content::Error(self.causes()),
             ChunkType::COOKIE_ECHO => Content::CookieEcho(self.value()),
@@ -368,10 +370,14 @@ impl<'a> Chunk<'a> {
                 Content::ShutdownComplete { tag_reflected }
             }
             ChunkType::RE_CONFIG => Content::ReConfig(self.parameters()),
-            ChunkType::FORWARD_TSN => Content::ForwardTsn(self.forward_tsn()?),
-            ChunkType::I_FORWARD_TSN => Content::IForwardTsn(self.forward_tsn()?),
-            _ => return None,
-        })
+            ChunkType::FORWARD_TSN => {
+                self.forward_tsn().map_or(Content::Other, Content::ForwardTsn)
+            }
+            ChunkType::I_FORWARD_TSN => {
+                self.forward_tsn().map_or(Content::Other, Content::IForwardTsn)
+            }
+            _ => Content::Other,
+        }
     }
 
     /// Returns the user data of DATA (RFC 9260 section 3.3.1) or I-DATA (RFC 8260 section 2.1).
