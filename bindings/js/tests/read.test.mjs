@@ -85,6 +85,29 @@ test('chunks stay when another packet is read, and a type has no other one\'s fi
   assert.equal(first.shutdown, first.shutdown);
 });
 
+test('lists are those of their packet, whatever is called in between', () => {
+  const ports = { sourcePort: 1, destinationPort: 2, verificationTag: 3 };
+  const of = n => new Builder(ports)
+    .addSack({ cumulativeTsnAck: n, aRwnd: 2, blocks: [{ start: n, end: n + 1 }], duplicates: [n, n + 1] })
+    .addForwardTsn({ newCumulativeTsn: n, streams: [{ stream: n, ssn: n + 1 }] })
+    .addHeartbeat(new Uint8Array(n).fill(n))
+    .addChunk(ChunkType.RE_CONFIG).addReConfig({ type: 14, requestNumber: n, streams: [n, n + 2] }).addNumber(0x8001, n)
+    .addChunk(ChunkType.ERROR).addMissingParameters([n, n + 3]).addNumber(9, n).finish();
+  const between = [() => {}, () => read(of(9)), () => davgyuti.report(of(9)), () => davgyuti.cleanBlocks([{ start: 1, end: 2 }]), () => of(60_000 % 251)];
+  for (const call of between) {
+    for (const bytes of [of(7), Buffer.from(of(7)), new Uint8Array([...of(7), 0, 0]).subarray(0, of(7).length)]) {
+      const single = [...chunks(bytes)], packet = read(bytes);
+      packet.chunks.forEach((chunk, i) => {
+        call();
+        assert.deepEqual(fieldsOf(chunk), fieldsOf(single[i]));
+        const wanted = [itemsOf(parameters(single[i])), itemsOf(causes(single[i]))];
+        call();
+        assert.deepEqual([itemsOf(parameters(chunk)), itemsOf(causes(chunk))], wanted);
+      });
+    }
+  }
+});
+
 test('what is no Uint8Array, and no policy, is refused', () => {
   for (const it of [null, undefined, 'ab', [1], new ArrayBuffer(20)])
     assert.throws(() => read(it), TypeError);
