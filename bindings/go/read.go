@@ -270,9 +270,9 @@ func (p Packet) chunk(c *C.struct_dcsctp_chunk, row *C.struct_dcsctp_row) Chunk 
 	}
 }
 
-// c returns the chunk as C takes it.
-func (chunk Chunk) c() C.struct_dcsctp_chunk {
-	return C.struct_dcsctp_chunk{
+// inC returns the packet's bytes and the chunk as C takes them.
+func (chunk Chunk) inC() (*C.uint8_t, C.size_t, C.struct_dcsctp_chunk) {
+	return bytesOf(chunk.packet), C.size_t(len(chunk.packet)), C.struct_dcsctp_chunk{
 		_type:        C.uint8_t(chunk.Type),
 		flags:        C.uint8_t(chunk.Flags),
 		value_offset: C.size_t(chunk.Offset) + 4,
@@ -308,10 +308,6 @@ func (chunk Chunk) Bytes() []byte {
 	return chunk.packet.part(C.size_t(chunk.Offset), C.size_t(len(chunk.Value))+4)
 }
 
-func (chunk Chunk) bytes() (*C.uint8_t, C.size_t) {
-	return bytesOf(chunk.packet), C.size_t(len(chunk.packet))
-}
-
 // String returns its type, its flags and the size of its value, as in "DATA flags=0x03 size=20".
 func (chunk Chunk) String() string {
 	return fmt.Sprintf("%v flags=%#02x size=%d", chunk.Type, chunk.Flags, len(chunk.Value))
@@ -342,8 +338,8 @@ func (chunk Chunk) Data() (Data, bool) {
 			Payload:      chunk.packet.part(row.rest_offset, row.rest_size),
 		}, true
 	}
-	bytes, length := chunk.bytes()
-	read := C.go_data(bytes, length, chunk.c())
+	bytes, length, c := chunk.inC()
+	read := C.go_data(bytes, length, c)
 	if !read.is_there {
 		return Data{}, false
 	}
@@ -371,8 +367,8 @@ func (chunk Chunk) SACK() (SACK, bool) {
 		}
 		return SACK{uint32(row.tsn), uint32(row.a_rwnd), int(row.count), int(row.duplicate_count)}, true
 	}
-	bytes, length := chunk.bytes()
-	read := C.go_sack(bytes, length, chunk.c())
+	bytes, length, c := chunk.inC()
+	read := C.go_sack(bytes, length, c)
 	return SACK{
 		CumulativeTSNAck: uint32(read.it.cumulative_tsn_ack),
 		ARwnd:            uint32(read.it.a_rwnd),
@@ -383,24 +379,24 @@ func (chunk Chunk) SACK() (SACK, bool) {
 
 // GapAckBlocks goes over the gap ack blocks of a SACK; another type has none.
 func (chunk Chunk) GapAckBlocks() *Iterator[GapAckBlock] {
-	bytes, length := chunk.bytes()
+	bytes, length, c := chunk.inC()
 	return listed(func(blocks []GapAckBlock) C.size_t {
-		return C.go_gap_ack_blocks(bytes, length, chunk.c(), blocksOf(blocks), C.size_t(len(blocks)))
+		return C.go_gap_ack_blocks(bytes, length, c, blocksOf(blocks), C.size_t(len(blocks)))
 	})
 }
 
 // DuplicateTSNs goes over the duplicate TSNs of a SACK; another type has none.
 func (chunk Chunk) DuplicateTSNs() *Iterator[uint32] {
-	bytes, length := chunk.bytes()
+	bytes, length, c := chunk.inC()
 	return listed(func(tsns []uint32) C.size_t {
-		return C.go_duplicate_tsns(bytes, length, chunk.c(), (*C.uint32_t)(first(tsns)), C.size_t(len(tsns)))
+		return C.go_duplicate_tsns(bytes, length, c, (*C.uint32_t)(first(tsns)), C.size_t(len(tsns)))
 	})
 }
 
 // IsValidSACK returns whether it is a SACK whose gap ack blocks are in order, apart, and begin at 2 or later.
 func (chunk Chunk) IsValidSACK() bool {
-	bytes, length := chunk.bytes()
-	return bool(C.go_validate_sack(bytes, length, chunk.c()))
+	bytes, length, c := chunk.inC()
+	return bool(C.go_validate_sack(bytes, length, c))
 }
 
 // Init reads the numbers of INIT or INIT ACK; false for another type.
@@ -412,8 +408,8 @@ func (chunk Chunk) Init() (Init, bool) {
 		return Init{uint32(row.initiate_tag), uint32(row.a_rwnd), uint16(row.outbound_streams), uint16(row.inbound_streams),
 			uint32(row.tsn)}, true
 	}
-	bytes, length := chunk.bytes()
-	read := C.go_init(bytes, length, chunk.c())
+	bytes, length, c := chunk.inC()
+	read := C.go_init(bytes, length, c)
 	return Init{
 		InitiateTag:     uint32(read.it.initiate_tag),
 		ARwnd:           uint32(read.it.a_rwnd),
@@ -431,8 +427,8 @@ func (chunk Chunk) Shutdown() (cumulativeTSNAck uint32, ok bool) {
 		}
 		return uint32(row.tsn), true
 	}
-	bytes, length := chunk.bytes()
-	read := C.go_shutdown(bytes, length, chunk.c())
+	bytes, length, c := chunk.inC()
+	read := C.go_shutdown(bytes, length, c)
 	return uint32(read.it), bool(read.is_there)
 }
 
@@ -444,8 +440,8 @@ func (chunk Chunk) ForwardTSN() (ForwardTSN, bool) {
 		}
 		return ForwardTSN{uint32(row.tsn), int(row.count)}, true
 	}
-	bytes, length := chunk.bytes()
-	read := C.go_forward_tsn(bytes, length, chunk.c())
+	bytes, length, c := chunk.inC()
+	read := C.go_forward_tsn(bytes, length, c)
 	return ForwardTSN{
 		NewCumulativeTSN: uint32(read.it.new_cumulative_tsn),
 		StreamCount:      int(read.it.stream_count),
@@ -454,9 +450,9 @@ func (chunk Chunk) ForwardTSN() (ForwardTSN, bool) {
 
 // SkippedStreams goes over the streams of FORWARD-TSN or I-FORWARD-TSN; another type has none.
 func (chunk Chunk) SkippedStreams() *Iterator[SkippedStream] {
-	bytes, length := chunk.bytes()
+	bytes, length, c := chunk.inC()
 	return listed(func(streams []SkippedStream) C.size_t {
-		return C.go_skipped_streams(bytes, length, chunk.c(), streamsOf(streams), C.size_t(len(streams)))
+		return C.go_skipped_streams(bytes, length, c, streamsOf(streams), C.size_t(len(streams)))
 	})
 }
 
@@ -466,18 +462,22 @@ type item struct {
 	c      C.struct_dcsctp_parameter
 }
 
+// rawItems goes over the parameters or the error causes. (Go 1.19 can't compile the call in a generic function under -d=checkptr.)
+func (chunk Chunk) rawItems() *Iterator[C.struct_dcsctp_parameter] {
+	bytes, length, c := chunk.inC()
+	return listed(func(items []C.struct_dcsctp_parameter) C.size_t {
+		return C.go_parameters(bytes, length, c, (*C.struct_dcsctp_parameter)(first(items)), C.size_t(len(items)))
+	})
+}
+
 // items goes over the parameters, or the error causes, if this is what the chunk has.
 func items[T any](chunk Chunk, areThere bool, value func(item, int) T) *Iterator[T] {
 	if !areThere {
 		return &Iterator[T]{}
 	}
-	bytes, length := chunk.bytes()
-	all := listed(func(items []C.struct_dcsctp_parameter) C.size_t {
-		return C.go_parameters(bytes, length, chunk.c(), (*C.struct_dcsctp_parameter)(first(items)), C.size_t(len(items)))
-	})
-	return &Iterator[T]{read: func() (T, bool) {
+	all := chunk.rawItems()
+	return &Iterator[T]{read: func() (none T, isThere bool) {
 		if !all.Next() {
-			var none T
 			return none, false
 		}
 		it := all.Value()

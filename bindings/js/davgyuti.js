@@ -276,19 +276,19 @@ function reserve(block, size) {
 
 /** Copies bytes into a block of the memory: the words for a pointer and its length. */
 function put(block, bytes, name = 'bytes') {
-  reserve(block, isBytes(bytes, name).length);
-  block.put(bytes);
   if (block === input)
     inInput = null;
+  reserve(block, isBytes(bytes, name).length);
+  block.put(bytes);
   return [block.at, big(bytes.length)];
 }
 
 /** The same of a list of structs, by what `values` gave. */
 function putAll(block, struct, all) {
-  reserve(block, all.length * struct.size);
-  all.forEach((values, i) => struct.write(block.from + i * struct.size, values));
   if (block === input)
     inInput = null;
+  reserve(block, all.length * struct.size);
+  all.forEach((values, i) => struct.write(block.from + i * struct.size, values));
   return [block.at, big(all.length)];
 }
 

@@ -21,9 +21,13 @@ function hold() {
 
 /** An exception, as of a stack that is full, leaves the memory as it is: so a new instance comes. */
 function leave(error) {
-  wasm = new WebAssembly.Instance(compiled).exports;
+  // (what can fail where a stack is full comes first)
+  const { exports } = new WebAssembly.Instance(compiled), { buffer } = exports.memory;
+  const view = new DataView(buffer), bytes = new Uint8Array(buffer);
+  wasm = exports;
+  held = view;
+  heldBytes = bytes;
   left++;
-  hold();
   throw error;
 }
 
