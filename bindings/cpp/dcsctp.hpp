@@ -28,6 +28,7 @@
 #pragma GCC diagnostic pop
 #endif
 
+#include <algorithm>
 #include <array>
 #include <cstddef>
 #include <cstdint>
@@ -607,8 +608,19 @@ template <typename Source> class range {
     [[nodiscard]] iterator begin() const noexcept { return iterator(source_, first_); }
     [[nodiscard]] iterator end() const noexcept { return iterator(); }
     [[nodiscard]] bool empty() const noexcept { return !source_.read(first_); }
-    /// Counts the items, by reading all of them.
-    [[nodiscard]] std::size_t size() const noexcept { return static_cast<std::size_t>(std::distance(begin(), end())); }
+    /// Counts the items: chunks by reading all of them, and others in one call.
+    [[nodiscard]] std::size_t size() const noexcept { return source_.size(first_); }
+    /// Returns the items, those of a list of numbers in one call.
+    [[nodiscard]] std::vector<value_type> to_vector() const
+    {
+        if constexpr (Source::is_of_numbers) {
+            std::vector<value_type> items(size());
+            items.resize((std::min)(source_.list(items.data(), items.size()), items.size()));
+            return items;
+        } else {
+            return {begin(), end()};
+        }
+    }
     /// Reads what is at a place: of chunks, parameters and error causes an offset into the packet, else an index.
     [[nodiscard]] std::optional<value_type> at(std::size_t position) const noexcept { return source_.read(position); }
 
@@ -641,11 +653,13 @@ inline constexpr std::size_t largest = 65535;
 // The size of the header of a chunk, a parameter and an error cause (RFC 9260 sections 3.2, 3.2.1 and 3.3.10).
 inline constexpr std::size_t header_size = 4;
 
-// The items by index of a chunk or a parameter.
+// The items by index of a chunk or a parameter, and all of them in one call.
 template <typename T, typename Owner,
-          bool (*read_item)(const std::uint8_t *, std::size_t, const Owner *, std::size_t, T *)>
+          bool (*read_item)(const std::uint8_t *, std::size_t, const Owner *, std::size_t, T *),
+          std::size_t (*read_list)(const std::uint8_t *, std::size_t, const Owner *, T *, std::size_t)>
 struct by_index {
     using value_type = T;
+    static constexpr bool is_of_numbers = true;
     bytes_view bytes;
     Owner owner{};
     [[nodiscard]] std::optional<T> read(std::size_t index) const noexcept
@@ -653,11 +667,17 @@ struct by_index {
         return value_of<T>([&](T *it) { return read_item(bytes.data(), bytes.size(), &owner, index, it); });
     }
     static std::size_t next(std::size_t index, const T &) noexcept { return index + 1; }
+    std::size_t list(T *items, std::size_t room) const noexcept
+    {
+        return read_list(bytes.data(), bytes.size(), &owner, items, room);
+    }
+    [[nodiscard]] std::size_t size(std::size_t) const noexcept { return list(nullptr, 0); }
 };
 
 // The items at offsets of a chunk: its parameters, or its error causes.
 template <typename Item> struct items_of {
     using value_type = Item;
+    static constexpr bool is_of_numbers = false;
     bytes_view bytes;
     ::dcsctp_chunk owner{};
     [[nodiscard]] std::optional<Item> read(std::size_t offset) const noexcept
@@ -668,6 +688,11 @@ template <typename Item> struct items_of {
         return Item(bytes, item, offset);
     }
     static std::size_t next(std::size_t, const Item &item) noexcept { return item.next_offset(); }
+    // (a chunk whose list has the other items has none of these, from its end on)
+    [[nodiscard]] std::size_t size(std::size_t first) const noexcept
+    {
+        return first == owner.next ? 0 : ::dcsctp_parameters(bytes.data(), bytes.size(), &owner, nullptr, 0);
+    }
 };
 
 // What parameters and error causes have.
@@ -708,16 +733,21 @@ class item {
 
 /// The streams of an Outgoing or Incoming SSN Reset. A request that names no stream is for all of them.
 using reset_streams =
-    range<detail::by_index<std::uint16_t, ::dcsctp_parameter, &::dcsctp_reset_stream>>;
+    range<detail::by_index<std::uint16_t, ::dcsctp_parameter, &::dcsctp_reset_stream,
+                          &::dcsctp_reset_streams>>;
 /// The types of the cause Missing Mandatory Parameter.
 using missing_parameters =
-    range<detail::by_index<std::uint16_t, ::dcsctp_parameter, &::dcsctp_missing_parameter>>;
+    range<detail::by_index<std::uint16_t, ::dcsctp_parameter, &::dcsctp_missing_parameter,
+                          &::dcsctp_missing_parameters>>;
 /// The gap ack blocks of a SACK.
-using gap_ack_blocks = range<detail::by_index<gap_ack_block, ::dcsctp_chunk, &::dcsctp_gap_ack_block>>;
+using gap_ack_blocks =
+    range<detail::by_index<gap_ack_block, ::dcsctp_chunk, &::dcsctp_gap_ack_block, &::dcsctp_gap_ack_blocks>>;
 /// The duplicate TSNs of a SACK.
-using duplicate_tsns = range<detail::by_index<std::uint32_t, ::dcsctp_chunk, &::dcsctp_duplicate_tsn>>;
+using duplicate_tsns =
+    range<detail::by_index<std::uint32_t, ::dcsctp_chunk, &::dcsctp_duplicate_tsn, &::dcsctp_duplicate_tsns>>;
 /// The streams of a FORWARD-TSN or an I-FORWARD-TSN.
-using skipped_streams = range<detail::by_index<skipped_stream, ::dcsctp_chunk, &::dcsctp_skipped_stream>>;
+using skipped_streams =
+    range<detail::by_index<skipped_stream, ::dcsctp_chunk, &::dcsctp_skipped_stream, &::dcsctp_skipped_streams>>;
 
 // ---- reading
 
@@ -878,12 +908,20 @@ class chunk {
 class packet {
     struct chunk_source {
         using value_type = chunk;
+        static constexpr bool is_of_numbers = false;
         bytes_view bytes;
         [[nodiscard]] std::optional<chunk> read(std::size_t offset) const noexcept
         {
             return packet(bytes).chunk_at(offset);
         }
         static std::size_t next(std::size_t, const chunk &it) noexcept { return it.next_offset(); }
+        [[nodiscard]] std::size_t size(std::size_t first) const noexcept
+        {
+            std::size_t count = 0;
+            for (auto it = read(first); it; it = read(it->next_offset()))
+                ++count;
+            return count;
+        }
     };
 
   public:

@@ -705,7 +705,10 @@ template <typename Range, typename Items> bool gives(const Range &range, const I
         if (std::distance(it, range.end()) != static_cast<std::ptrdiff_t>(items.size() - index))
             return false;
     }
-    return index == items.size() && range.size() == index && !range.empty() && range.begin() != range.end();
+    const auto all = range.to_vector();
+    const auto is_same = [](const auto &one, const auto &other) { return key(one) == key(other); };
+    return index == items.size() && range.size() == index && !range.empty() && range.begin() != range.end()
+        && std::equal(all.begin(), all.end(), items.begin(), items.end(), is_same);
 }
 
 // What a function gives for 0 to 19.

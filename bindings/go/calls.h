@@ -75,38 +75,35 @@ static inline struct go_counts go_read(const uint8_t *bytes, size_t length, stru
                                        struct dcsctp_skipped_stream *streams, struct dcsctp_parameter *items)
 {
     struct go_counts counts = {0};
-    struct dcsctp_parameter item;
     if (allowed_zero_checksum && !policy.zero_checksum && length <= 0xFFFF && dcsctp_header(bytes, length, &packet->header)
         && packet->header.checksum == 0)
         policy.zero_checksum = !go_needs_checksum(bytes, length);
     dcsctp_read(bytes, length, go_word(bytes, length, policy), &policy, rows, room.rows, packet);
     counts.rows = packet->chunk_count;
     for (size_t i = 0; i < counts.rows && i < room.rows; i++) {
-        const struct dcsctp_chunk *chunk = &rows[i].chunk;
-        size_t at = 0, end = rows[i].count;
-        switch (chunk->type) {
+        const size_t before = counts.items;
+/* Writes a list after those before it, as far as there is place, and counts it. */
+#define FILL(call, list)                                                                                               \
+    {                                                                                                                  \
+        const size_t first = counts.list < room.list ? counts.list : room.list;                                        \
+        counts.list += call(bytes, length, &rows[i].chunk, list + first, room.list - first);                           \
+    }
+        switch (rows[i].chunk.type) {
         case DCSCTP_CHUNK_SACK:
-            for (; at < end && counts.blocks + at < room.blocks; at++)
-                dcsctp_gap_ack_block(bytes, length, chunk, at, &blocks[counts.blocks + at]);
-            counts.blocks += end;
-            end = rows[i].duplicate_count;
-            for (at = 0; at < end && counts.numbers + at < room.numbers; at++)
-                dcsctp_duplicate_tsn(bytes, length, chunk, at, &numbers[counts.numbers + at]);
-            counts.numbers += end;
+            FILL(dcsctp_gap_ack_blocks, blocks)
+            FILL(dcsctp_duplicate_tsns, numbers)
             break;
         case DCSCTP_CHUNK_FORWARD_TSN:
-        case DCSCTP_CHUNK_I_FORWARD_TSN:
-            for (; at < end && counts.streams + at < room.streams; at++)
-                dcsctp_skipped_stream(bytes, length, chunk, at, &streams[counts.streams + at]);
-            counts.streams += end;
-            break;
-        default:
-            end = counts.items;
-            for (at = dcsctp_list_offset(chunk); dcsctp_parameter_at(bytes, length, chunk, at, &item); at = item.next)
-                if (counts.items++ < room.items)
-                    items[counts.items - 1] = item;
-            rows[i].count = counts.items - end;
+        case DCSCTP_CHUNK_I_FORWARD_TSN: FILL(dcsctp_skipped_streams, streams) break;
+        case DCSCTP_CHUNK_INIT:
+        case DCSCTP_CHUNK_INIT_ACK:
+        case DCSCTP_CHUNK_HEARTBEAT:
+        case DCSCTP_CHUNK_HEARTBEAT_ACK:
+        case DCSCTP_CHUNK_ABORT:
+        case DCSCTP_CHUNK_ERROR:
+        case DCSCTP_CHUNK_RE_CONFIG: FILL(dcsctp_parameters, items) rows[i].count = counts.items - before;
         }
+#undef FILL
     }
     return counts;
 }
@@ -126,24 +123,29 @@ static inline struct go_counts go_read(const uint8_t *bytes, size_t length, stru
         return result;                                                                                                 \
     }
 #define OF_CHUNK (const uint8_t *bytes, size_t length, struct dcsctp_chunk chunk)
-#define OF_CHUNK_AT (const uint8_t *bytes, size_t length, struct dcsctp_chunk chunk, size_t at)
 #define OF_ITEM (const uint8_t *bytes, size_t length, struct dcsctp_parameter item)
-#define OF_ITEM_AT (const uint8_t *bytes, size_t length, struct dcsctp_parameter item, size_t at)
 
 READS(chunk_at, struct dcsctp_chunk, (const uint8_t *bytes, size_t length, size_t offset), offset)
 READS(data, struct dcsctp_data, OF_CHUNK, &chunk)
 READS(sack, struct dcsctp_sack, OF_CHUNK, &chunk)
-READS(gap_ack_block, struct dcsctp_gap_ack_block, OF_CHUNK_AT, &chunk, at)
-READS(duplicate_tsn, uint32_t, OF_CHUNK_AT, &chunk, at)
 READS(init, struct dcsctp_init, OF_CHUNK, &chunk)
 READS(shutdown, uint32_t, OF_CHUNK, &chunk)
 READS(forward_tsn, struct dcsctp_forward_tsn, OF_CHUNK, &chunk)
-READS(skipped_stream, struct dcsctp_skipped_stream, OF_CHUNK_AT, &chunk, at)
-READS(parameter_at, struct dcsctp_parameter, OF_CHUNK_AT, &chunk, at)
 READS(number, uint32_t, OF_ITEM, &item)
 READS(re_config, struct dcsctp_re_config, OF_ITEM, &item)
-READS(reset_stream, uint16_t, OF_ITEM_AT, &item, at)
-READS(missing_parameter, uint16_t, OF_ITEM_AT, &item, at)
+
+/* The items of a list, as far as there is place, and how many there are. */
+#define LISTS(name, owner, type)                                                                                       \
+    static inline size_t go_##name(const uint8_t *bytes, size_t length, struct owner of, type *items, size_t count)    \
+    {                                                                                                                  \
+        return dcsctp_##name(bytes, length, &of, items, count);                                                        \
+    }
+LISTS(gap_ack_blocks, dcsctp_chunk, struct dcsctp_gap_ack_block)
+LISTS(duplicate_tsns, dcsctp_chunk, uint32_t)
+LISTS(skipped_streams, dcsctp_chunk, struct dcsctp_skipped_stream)
+LISTS(parameters, dcsctp_chunk, struct dcsctp_parameter)
+LISTS(reset_streams, dcsctp_parameter, uint16_t)
+LISTS(missing_parameters, dcsctp_parameter, uint16_t)
 
 struct go_header {
     bool is_there;
@@ -160,11 +162,6 @@ static inline struct go_header go_header(const uint8_t *bytes, size_t length)
 static inline bool go_validate_sack(const uint8_t *bytes, size_t length, struct dcsctp_chunk chunk)
 {
     return dcsctp_validate_sack(bytes, length, &chunk);
-}
-
-static inline size_t go_list_offset(struct dcsctp_chunk chunk)
-{
-    return dcsctp_list_offset(&chunk);
 }
 
 /* ---- writing: each takes the size of the packet, and returns the code and the size after it */

@@ -106,7 +106,7 @@ func (parsed *Parsed) Len() int { return int(parsed.counts.rows) }
 // ForwardTSN call no C, and allocate nothing.
 func (parsed *Parsed) Chunk(i int) Chunk {
 	row := &parsed.rows[:parsed.counts.rows][i]
-	return parsed.packet.chunk(row.chunk, row)
+	return parsed.packet.chunk(&row.chunk, row)
 }
 
 // GapAckBlocks returns those of a chunk that is a SACK, and none of another.

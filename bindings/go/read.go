@@ -152,7 +152,8 @@ func (p Packet) SetTag(verificationTag uint32) error {
 	return errorOf(C.dcsctp_set_tag(bytesOf(p), C.size_t(len(p)), C.uint32_t(verificationTag)))
 }
 
-// An Iterator goes over what a packet, a chunk or a parameter lists, and reads one after the other:
+// An Iterator goes over what a packet, a chunk or a parameter lists. Chunks are read one after the other, and all other lists in
+// one call, by the first Next:
 //
 //	for chunks := packet.Chunks(); chunks.Next(); {
 //		use(chunks.Value())
@@ -185,7 +186,7 @@ func (it *Iterator[T]) All(yield func(T) bool) {
 	}
 }
 
-// Slice returns those that are left. Of a list that may be long prefer Next, which keeps one: a packet can list 16,000.
+// Slice returns those that are left. Of chunks prefer Next, which keeps one: a packet can have 16,000.
 func (it *Iterator[T]) Slice() []T {
 	var all []T
 	for it.Next() {
@@ -194,15 +195,22 @@ func (it *Iterator[T]) Slice() []T {
 	return all
 }
 
-// byIndex goes over what is read by an index, from 0 on.
-func byIndex[T any](read func(index C.size_t) (T, bool)) *Iterator[T] {
-	var next C.size_t
-	return &Iterator[T]{read: func() (T, bool) {
-		value, isThere := read(next)
-		if isThere {
-			next++
+// listed goes over a list that C writes in one call, and whose length it returns; both calls are of what the first Next finds.
+func listed[T any](fill func(items []T) C.size_t) *Iterator[T] {
+	var items []T
+	isRead := false
+	return &Iterator[T]{read: func() (value T, isThere bool) {
+		if !isRead {
+			items, isRead = make([]T, fill(nil)), true
+			if count := int(fill(items)); count < len(items) {
+				items = items[:count] // (the bytes were changed in between)
+			}
 		}
-		return value, isThere
+		if len(items) == 0 {
+			return value, false
+		}
+		value, items = items[0], items[1:]
+		return value, true
 	}}
 }
 
@@ -225,7 +233,6 @@ type Chunk struct {
 	Offset     int    // where it begins in the packet
 	NextOffset int    // where the next one begins
 	packet     Packet
-	c          C.struct_dcsctp_chunk
 	row        *C.struct_dcsctp_row // of a Parsed
 }
 
@@ -247,11 +254,11 @@ func (p Packet) ChunkAt(offset int) (Chunk, bool) {
 	if !read.is_there {
 		return Chunk{}, false
 	}
-	return p.chunk(read.it, nil), true
+	return p.chunk(&read.it, nil), true
 }
 
 // chunk returns the chunk that C has read.
-func (p Packet) chunk(c C.struct_dcsctp_chunk, row *C.struct_dcsctp_row) Chunk {
+func (p Packet) chunk(c *C.struct_dcsctp_chunk, row *C.struct_dcsctp_row) Chunk {
 	return Chunk{
 		Type:       ChunkType(c._type),
 		Flags:      uint8(c.flags),
@@ -259,8 +266,18 @@ func (p Packet) chunk(c C.struct_dcsctp_chunk, row *C.struct_dcsctp_row) Chunk {
 		Offset:     int(c.value_offset) - 4,
 		NextOffset: int(c.next),
 		packet:     p,
-		c:          c,
 		row:        row,
+	}
+}
+
+// inC returns the packet's bytes and the chunk as C takes them.
+func (chunk Chunk) inC() (*C.uint8_t, C.size_t, C.struct_dcsctp_chunk) {
+	return bytesOf(chunk.packet), C.size_t(len(chunk.packet)), C.struct_dcsctp_chunk{
+		_type:        C.uint8_t(chunk.Type),
+		flags:        C.uint8_t(chunk.Flags),
+		value_offset: C.size_t(chunk.Offset) + 4,
+		value_size:   C.size_t(len(chunk.Value)),
+		next:         C.size_t(chunk.NextOffset),
 	}
 }
 
@@ -288,11 +305,7 @@ func ReadChunk(bytes []byte) (Chunk, error) {
 // Bytes returns the whole chunk, its header and its value, without padding, where it lies in the packet: what the cause
 // Unrecognized Chunk Type holds (section 3.3.10.6).
 func (chunk Chunk) Bytes() []byte {
-	return chunk.packet.withHeader(chunk.c.value_offset, chunk.c.value_size)
-}
-
-func (chunk Chunk) bytes() (*C.uint8_t, C.size_t) {
-	return bytesOf(chunk.packet), C.size_t(len(chunk.packet))
+	return chunk.packet.part(C.size_t(chunk.Offset), C.size_t(len(chunk.Value))+4)
 }
 
 // String returns its type, its flags and the size of its value, as in "DATA flags=0x03 size=20".
@@ -325,8 +338,8 @@ func (chunk Chunk) Data() (Data, bool) {
 			Payload:      chunk.packet.part(row.rest_offset, row.rest_size),
 		}, true
 	}
-	bytes, length := chunk.bytes()
-	read := C.go_data(bytes, length, chunk.c)
+	bytes, length, c := chunk.inC()
+	read := C.go_data(bytes, length, c)
 	if !read.is_there {
 		return Data{}, false
 	}
@@ -354,8 +367,8 @@ func (chunk Chunk) SACK() (SACK, bool) {
 		}
 		return SACK{uint32(row.tsn), uint32(row.a_rwnd), int(row.count), int(row.duplicate_count)}, true
 	}
-	bytes, length := chunk.bytes()
-	read := C.go_sack(bytes, length, chunk.c)
+	bytes, length, c := chunk.inC()
+	read := C.go_sack(bytes, length, c)
 	return SACK{
 		CumulativeTSNAck: uint32(read.it.cumulative_tsn_ack),
 		ARwnd:            uint32(read.it.a_rwnd),
@@ -366,26 +379,24 @@ func (chunk Chunk) SACK() (SACK, bool) {
 
 // GapAckBlocks goes over the gap ack blocks of a SACK; another type has none.
 func (chunk Chunk) GapAckBlocks() *Iterator[GapAckBlock] {
-	bytes, length := chunk.bytes()
-	return byIndex(func(index C.size_t) (GapAckBlock, bool) {
-		read := C.go_gap_ack_block(bytes, length, chunk.c, index)
-		return GapAckBlock{Start: uint16(read.it.start), End: uint16(read.it.end)}, bool(read.is_there)
+	bytes, length, c := chunk.inC()
+	return listed(func(blocks []GapAckBlock) C.size_t {
+		return C.go_gap_ack_blocks(bytes, length, c, blocksOf(blocks), C.size_t(len(blocks)))
 	})
 }
 
 // DuplicateTSNs goes over the duplicate TSNs of a SACK; another type has none.
 func (chunk Chunk) DuplicateTSNs() *Iterator[uint32] {
-	bytes, length := chunk.bytes()
-	return byIndex(func(index C.size_t) (uint32, bool) {
-		read := C.go_duplicate_tsn(bytes, length, chunk.c, index)
-		return uint32(read.it), bool(read.is_there)
+	bytes, length, c := chunk.inC()
+	return listed(func(tsns []uint32) C.size_t {
+		return C.go_duplicate_tsns(bytes, length, c, (*C.uint32_t)(first(tsns)), C.size_t(len(tsns)))
 	})
 }
 
 // IsValidSACK returns whether it is a SACK whose gap ack blocks are in order, apart, and begin at 2 or later.
 func (chunk Chunk) IsValidSACK() bool {
-	bytes, length := chunk.bytes()
-	return bool(C.go_validate_sack(bytes, length, chunk.c))
+	bytes, length, c := chunk.inC()
+	return bool(C.go_validate_sack(bytes, length, c))
 }
 
 // Init reads the numbers of INIT or INIT ACK; false for another type.
@@ -397,8 +408,8 @@ func (chunk Chunk) Init() (Init, bool) {
 		return Init{uint32(row.initiate_tag), uint32(row.a_rwnd), uint16(row.outbound_streams), uint16(row.inbound_streams),
 			uint32(row.tsn)}, true
 	}
-	bytes, length := chunk.bytes()
-	read := C.go_init(bytes, length, chunk.c)
+	bytes, length, c := chunk.inC()
+	read := C.go_init(bytes, length, c)
 	return Init{
 		InitiateTag:     uint32(read.it.initiate_tag),
 		ARwnd:           uint32(read.it.a_rwnd),
@@ -416,8 +427,8 @@ func (chunk Chunk) Shutdown() (cumulativeTSNAck uint32, ok bool) {
 		}
 		return uint32(row.tsn), true
 	}
-	bytes, length := chunk.bytes()
-	read := C.go_shutdown(bytes, length, chunk.c)
+	bytes, length, c := chunk.inC()
+	read := C.go_shutdown(bytes, length, c)
 	return uint32(read.it), bool(read.is_there)
 }
 
@@ -429,8 +440,8 @@ func (chunk Chunk) ForwardTSN() (ForwardTSN, bool) {
 		}
 		return ForwardTSN{uint32(row.tsn), int(row.count)}, true
 	}
-	bytes, length := chunk.bytes()
-	read := C.go_forward_tsn(bytes, length, chunk.c)
+	bytes, length, c := chunk.inC()
+	read := C.go_forward_tsn(bytes, length, c)
 	return ForwardTSN{
 		NewCumulativeTSN: uint32(read.it.new_cumulative_tsn),
 		StreamCount:      int(read.it.stream_count),
@@ -439,15 +450,9 @@ func (chunk Chunk) ForwardTSN() (ForwardTSN, bool) {
 
 // SkippedStreams goes over the streams of FORWARD-TSN or I-FORWARD-TSN; another type has none.
 func (chunk Chunk) SkippedStreams() *Iterator[SkippedStream] {
-	bytes, length := chunk.bytes()
-	return byIndex(func(index C.size_t) (SkippedStream, bool) {
-		read := C.go_skipped_stream(bytes, length, chunk.c, index)
-		return SkippedStream{
-			Stream:      uint16(read.it.stream),
-			SSN:         uint16(read.it.ssn),
-			MID:         uint32(read.it.mid),
-			IsUnordered: bool(read.it.is_unordered),
-		}, bool(read.is_there)
+	bytes, length, c := chunk.inC()
+	return listed(func(streams []SkippedStream) C.size_t {
+		return C.go_skipped_streams(bytes, length, c, streamsOf(streams), C.size_t(len(streams)))
 	})
 }
 
@@ -457,22 +462,26 @@ type item struct {
 	c      C.struct_dcsctp_parameter
 }
 
+// rawItems goes over the parameters or the error causes. (Go 1.19 can't compile the call in a generic function under -d=checkptr.)
+func (chunk Chunk) rawItems() *Iterator[C.struct_dcsctp_parameter] {
+	bytes, length, c := chunk.inC()
+	return listed(func(items []C.struct_dcsctp_parameter) C.size_t {
+		return C.go_parameters(bytes, length, c, (*C.struct_dcsctp_parameter)(first(items)), C.size_t(len(items)))
+	})
+}
+
 // items goes over the parameters, or the error causes, if this is what the chunk has.
 func items[T any](chunk Chunk, areThere bool, value func(item, int) T) *Iterator[T] {
-	next := chunk.c.next
-	if areThere {
-		next = C.go_list_offset(chunk.c)
+	if !areThere {
+		return &Iterator[T]{}
 	}
-	bytes, length := chunk.bytes()
-	return &Iterator[T]{read: func() (T, bool) {
-		read := C.go_parameter_at(bytes, length, chunk.c, next)
-		if !read.is_there {
-			var none T
+	all := chunk.rawItems()
+	return &Iterator[T]{read: func() (none T, isThere bool) {
+		if !all.Next() {
 			return none, false
 		}
-		offset := int(next)
-		next = read.it.next
-		return value(item{chunk.packet, read.it}, offset), true
+		it := all.Value()
+		return value(item{chunk.packet, it}, int(it.value_offset)-4), true
 	}}
 }
 
@@ -566,9 +575,8 @@ func (parameter Parameter) ReConfig() (ReConfig, bool) {
 // stream is for all of them.
 func (parameter Parameter) ResetStreams() *Iterator[uint16] {
 	bytes, length := parameter.item.bytes()
-	return byIndex(func(index C.size_t) (uint16, bool) {
-		read := C.go_reset_stream(bytes, length, parameter.item.c, index)
-		return uint16(read.it), bool(read.is_there)
+	return listed(func(streams []uint16) C.size_t {
+		return C.go_reset_streams(bytes, length, parameter.item.c, (*C.uint16_t)(first(streams)), C.size_t(len(streams)))
 	})
 }
 
@@ -609,8 +617,7 @@ func (cause Cause) Number() (uint32, bool) { return cause.item.number() }
 // MissingParameters goes over the types of the cause Missing Mandatory Parameter (section 3.3.10.2); another code has none.
 func (cause Cause) MissingParameters() *Iterator[ParameterType] {
 	bytes, length := cause.item.bytes()
-	return byIndex(func(index C.size_t) (ParameterType, bool) {
-		read := C.go_missing_parameter(bytes, length, cause.item.c, index)
-		return ParameterType(read.it), bool(read.is_there)
+	return listed(func(types []ParameterType) C.size_t {
+		return C.go_missing_parameters(bytes, length, cause.item.c, (*C.uint16_t)(first(types)), C.size_t(len(types)))
 	})
 }

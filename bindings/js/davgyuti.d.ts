@@ -340,8 +340,9 @@ export function chunks(bytes: Uint8Array): IterableIterator<UncheckedChunk>;
 /** A packet that `read` read. */
 export interface ReadPacket {
   header: Header;
-  /** Its chunks: their fields are getters but for `type`, `flags`, `valueOffset` and `next`. Numbers are those that were read; a
-      list is read of the bytes when it is first asked for, and a view is of the bytes, of no bytes where it is empty. */
+  /** Its chunks: their fields are getters, as are those of their parameters and error causes. Numbers are those that were read; a
+      list is read when it is first asked for, of the bytes as they were or as they are now, and a view is of the bytes, of no
+      bytes where it is empty. */
   chunks: Chunk[];
 }
 /** Checks a packet, and reads its header and its chunks, in one call: in less time than `check`, `header` and `chunks` take.

@@ -3,7 +3,7 @@
 'use strict';
 
 // (`this` is a CommonJS module's exports; in a module of a browser it is undefined)
-const { load, call, instance, view, number, truth, record, isList, isBytes, Block, Struct, structs } =
+const { load, call, calls, instance, view, big, setSize, number, truth, record, isList, isBytes, Block, Struct, structs } =
   this ? require('./library.js') : globalThis[Symbol.for('davgyuti')];
 
 const version = '0.1.0';
@@ -260,85 +260,82 @@ const U16 = new Struct({ it: 'u16' });
 const U32 = new Struct({ it: 'u32' });
 const SIZE = new Struct({ it: 'size' });
 
-// The bytes that are read; those that are written; the packet that is built; and places for structs: of what a function
-// takes, a chunk say; of a parameter in it; and of what it writes.
-const input = new Block(), output = new Block(), packet = new Block(), places = new Block();
-const HEAD = 0, ITEM = 64, FOUND = 128, PLACES = 192;
-// The rows of the packet that is read, of which each chunk has one.
-const rows = new Block();
+// The bytes that are read; those that are written; the packet that is built; a struct that a function takes, and one that it
+// writes; the rows of the packet that is read, of which each chunk has one; its lists; and its parameters or error causes.
+const [input, output, packet, taken, answer, rows, list, items] = Array.from({ length: 8 }, () => new Block());
+// The packet of `read` that the input has.
+let inInput = null;
+const STRUCT = 128;
 const NOTHING = new Uint8Array(0);
 
 function reserve(block, size) {
   if (!block.reserve(size))
     throw new WriteError(Result.NO_MEMORY);
+  return block.at;
 }
 
 /** Copies bytes into a block of the memory: the words for a pointer and its length. */
 function put(block, bytes, name = 'bytes') {
+  if (block === input)
+    inInput = null;
   reserve(block, isBytes(bytes, name).length);
   block.put(bytes);
-  return [block.at, BigInt(bytes.length)];
+  return [block.at, big(bytes.length)];
 }
 
 /** The same of a list of structs, by what `values` gave. */
 function putAll(block, struct, all) {
+  if (block === input)
+    inInput = null;
   reserve(block, all.length * struct.size);
-  all.forEach((values, i) => struct.write(Number(block.at) + i * struct.size, values));
-  return [block.at, BigInt(all.length)];
+  all.forEach((values, i) => struct.write(block.from + i * struct.size, values));
+  return [block.at, big(all.length)];
 }
 
 /** The values of a list's items; of numbers the struct has one. */
 const valuesOf = (struct, items, name) => Array.from(isList(items, name), it => struct.values(it, `an item of ${name}`));
 const numbersOf = (struct, items, name) => Array.from(isList(items, name), it => [struct.fields[0].check(it, `an item of ${name}`)]);
 
-// Where the places are, in the instance that has them.
-let spots = null, spotsIn = -1;
-
-function place(at) {
-  if (spotsIn !== instance()) {
-    reserve(places, PLACES);
-    spots = Object.fromEntries([HEAD, ITEM, FOUND].map(it => [it, places.at + BigInt(it)]));
-    spotsIn = instance();
-  }
-  return spots[at];
-}
+/** Where a function takes a struct, or writes one. */
+const place = block => reserve(block, STRUCT);
 
 /** What a function writes as its last argument, where it returns true. */
 function found(struct, name, ...words) {
-  const at = place(FOUND);
-  return call(name, ...words, at) ? struct.read(at) : null;
-}
-
-/** All that a function has from an index of 0 on. */
-function listed(struct, name, ...words) {
-  const list = [];
-  for (let it; (it = found(struct, name, ...words, BigInt(list.length))) !== null;)
-    list.push(it);
-  return list;
+  return call(name, ...words, place(answer)) ? struct.read(answer.from) : null;
 }
 
 // ---- reading a whole packet
+
+/** Where the fields of a struct are. */
+const placesOf = struct => Object.freeze(Object.fromEntries(struct.fields.map(({ name, at }) => [name, at])));
+const [POLICY, CHUNK, PARAMETER, BLOCK, ROW, READ] =
+  ['policy', 'chunk', 'parameter', 'gapAckBlock', 'row', 'packet'].map(name => placesOf(structs[name]));
 
 /** The words for a packet, its checksum's word, and a policy. */
 function asked(bytes, policy) {
   const { anyChecksum = false, zeroChecksum = false, allowedZeroChecksum = false, strictPadding = false, word } =
     record(policy, 'policy');
-  const values = [truth(anyChecksum, 'anyChecksum'), truth(zeroChecksum, 'zeroChecksum'), truth(strictPadding, 'strictPadding')];
+  truth(anyChecksum, 'anyChecksum');
+  truth(zeroChecksum, 'zeroChecksum');
+  truth(strictPadding, 'strictPadding');
   truth(allowedZeroChecksum, 'allowedZeroChecksum');
   if (word !== undefined)
     number(word, 'u32', 'word');
   // (more than 65,535 bytes are refused by their size: so at most one too many is copied)
-  const words = put(input, isBytes(bytes, 'bytes').length > 65_536 ? part(bytes, 0, 65_536) : bytes), at = place(HEAD);
-  if (allowedZeroChecksum && found(structs.header, 'dcsctp_header', ...words)?.checksum === 0 && !needs(words))
-    values[1] = true;
-  structs.policy.write(at, values);
-  return [...words, word ?? call('dcsctp_word', ...words), at];
+  const [start, length] = put(input, isBytes(bytes, 'bytes').length > 65_536 ? part(bytes, 0, 65_536) : bytes);
+  let isZero = zeroChecksum;
+  if (allowedZeroChecksum && found(structs.header, 'dcsctp_header', start, length)?.checksum === 0 && !needs([start, length]))
+    isZero = true;
+  const at = place(taken), memory = view();
+  memory.setUint8(taken.from + POLICY.anyChecksum, anyChecksum ? 1 : 0);
+  memory.setUint8(taken.from + POLICY.zeroChecksum, isZero ? 1 : 0);
+  memory.setUint8(taken.from + POLICY.strictPadding, strictPadding ? 1 : 0);
+  return [start, length, word ?? call('dcsctp_word', start, length), at];
 }
 
 function firstOf(words) {
-  const at = place(FOUND);
-  const code = call('dcsctp_first_fault', ...words, at);
-  return code === Result.OK ? null : { code, offset: SIZE.read(at).it };
+  const code = call('dcsctp_first_fault', ...words, place(answer));
+  return code === Result.OK ? null : { code, offset: SIZE.read(answer.from).it };
 }
 
 function faultOf(words) {
@@ -358,16 +355,16 @@ function check(bytes, policy = {}) {
 
 /** The bytes that a function writes, where they lie. */
 function written(name, bytes, policy) {
-  const words = asked(bytes, policy), at = place(FOUND);
+  const words = asked(bytes, policy), at = place(answer);
   reserve(output, 4096);
   let code = call(name, ...words, output.at, BigInt(output.room), at);
   if (code === Result.NO_ROOM) {
-    reserve(output, SIZE.read(at).it);
+    reserve(output, SIZE.read(answer.from).it);
     code = call(name, ...words, output.at, BigInt(output.room), at);
   }
   if (code !== Result.OK)
     throw faultOf(words) ?? new WriteError(code);
-  return output.bytes(0, SIZE.read(at).it);
+  return output.bytes(0, SIZE.read(answer.from).it);
 }
 
 const utf8 = new TextDecoder('utf-8', { fatal: true, ignoreBOM: true });
@@ -382,7 +379,7 @@ const REFLECTING = [ChunkType.ABORT, ChunkType.SHUTDOWN_COMPLETE];
 
 /** Whether a packet in the memory has to have its CRC32c. */
 function needs(words) {
-  const chunkAt = offset => found(structs.chunk, 'dcsctp_chunk_at', ...words, BigInt(offset));
+  const chunkAt = offset => found(structs.chunk, 'dcsctp_chunk_at', ...words, big(offset));
   for (let it = chunkAt(FIRST_CHUNK); it !== null; it = chunkAt(it.next)) {
     if (CHECKSUMMED.includes(it.type) || (REFLECTING.includes(it.type) && (it.flags & TAG_REFLECTED) !== 0))
       return true;
@@ -399,7 +396,35 @@ const header = bytes => found(structs.header, 'dcsctp_header', ...put(input, byt
 /** A part of the caller's bytes, where they lie. */
 const part = (bytes, offset, size) => new Uint8Array(bytes.buffer, bytes.byteOffset + offset, size);
 
-const streamsOf = words => listed(structs.skippedStream, 'dcsctp_skipped_stream', ...words);
+/** Has room for a list that is at most as long. */
+function room(block, count, size) {
+  reserve(block, count * size);
+  return big(count);
+}
+
+// The lists of a chunk whose value has a size: an item has at least four bytes. (Each has a loop of its own, as a function that
+// makes any item takes longer than the item.)
+function blocksOf(size, [start, length, chunk]) {
+  const most = room(list, size >> 2, structs.gapAckBlock.size);
+  const all = new Array(Number(calls.gapAckBlocks(start, length, chunk, list.at, most))), memory = view();
+  for (let i = 0, at = list.from; i < all.length; i++, at += 4)
+    all[i] = { start: memory.getUint16(at + BLOCK.start, true), end: memory.getUint16(at + BLOCK.end, true) };
+  return all;
+}
+
+function duplicatesOf(size, [start, length, chunk]) {
+  const most = room(list, size >> 2, U32.size);
+  const all = new Array(Number(calls.duplicateTsns(start, length, chunk, list.at, most))), memory = view();
+  for (let i = 0, at = list.from; i < all.length; i++, at += 4)
+    all[i] = memory.getUint32(at, true);
+  return all;
+}
+
+function streamsOf(size, words) {
+  const { size: step } = structs.skippedStream, most = room(list, size >> 2, step);
+  const count = Number(call('dcsctp_skipped_streams', ...words, list.at, most));
+  return Array.from({ length: count }, (_, i) => structs.skippedStream.read(list.from + i * step));
+}
 
 /** What the kinds of chunks hold: the name of it in a chunk, and how it is read. */
 const CONTENTS = {
@@ -421,14 +446,14 @@ function readData(words, bytes) {
   return { ...data, payload: part(bytes, payloadOffset, payloadSize) };
 }
 
-function readSack(words) {
+function readSack(words, bytes, size) {
   const it = found(structs.sack, 'dcsctp_sack', ...words);
   return it && {
     cumulativeTsnAck: it.cumulativeTsnAck,
     aRwnd: it.aRwnd,
-    blocks: listed(structs.gapAckBlock, 'dcsctp_gap_ack_block', ...words),
-    duplicates: listed(U32, 'dcsctp_duplicate_tsn', ...words).map(tsn => tsn.it),
-    isInOrder: call('dcsctp_validate_sack', ...words) !== 0,
+    blocks: blocksOf(size, words),
+    duplicates: duplicatesOf(size, words),
+    isInOrder: calls.validateSack(...words) !== 0,
   };
 }
 
@@ -437,22 +462,22 @@ function readShutdown(words) {
   return it && { cumulativeTsnAck: it.it };
 }
 
-function readForwardTsn(words) {
+function readForwardTsn(words, bytes, size) {
   const it = found(structs.forwardTsn, 'dcsctp_forward_tsn', ...words);
-  return it && { newCumulativeTsn: it.newCumulativeTsn, streams: streamsOf(words) };
+  return it && { newCumulativeTsn: it.newCumulativeTsn, streams: streamsOf(size, words) };
 }
 
 /** The chunk at an offset of bytes that lie in the memory; null where no whole one is. */
 function chunkAt(words, bytes, offset) {
-  const head = place(HEAD);
-  if (!call('dcsctp_chunk_at', ...words, BigInt(offset), head))
+  const head = place(taken);
+  if (!call('dcsctp_chunk_at', ...words, big(offset), head))
     return null;
-  const { type, flags, valueOffset, valueSize, next } = structs.chunk.read(head);
+  const { type, flags, valueOffset, valueSize, next } = structs.chunk.read(taken.from);
   const chunk = { type, name: chunkName(type), flags, offset, valueOffset, next };
   chunk.value = part(bytes, valueOffset, valueSize);
   chunk.bytes = part(bytes, offset, valueOffset + valueSize - offset);
   const [name, read] = CONTENTS[type] ?? [];
-  const content = read && read([...words, head], bytes);
+  const content = read && read([...words, head], bytes, valueSize);
   if (content)
     chunk[name] = content;
   return chunk;
@@ -469,37 +494,7 @@ function chunks(bytes) {
 
 // ---- reading a packet in one call
 
-/** Where the fields of a struct are. */
-const placesOf = struct => Object.freeze(Object.fromEntries(struct.fields.map(({ name, at }) => [name, at])));
-const ROW = placesOf(structs.row), READ = placesOf(structs.packet), ROW_SIZE = structs.row.size, ROW_HEADER = 4;
-
-const CHUNK = placesOf(structs.chunk), PARAMETER = placesOf(structs.parameter), BLOCK = placesOf(structs.gapAckBlock), SKIPPED = placesOf(structs.skippedStream);
-
-/** Indices as the functions take them. */
-const indices = [];
-const indexOf = i => indices[i] ??= BigInt(i);
-
-/** The items of a list of a chunk that lies in the memory, of which its row says how many there are. */
-function counted(name, count, words, make) {
-  const at = place(FOUND), from = Number(at), list = [];
-  for (let i = 0; i < count && call(name, ...words, indexOf(i), at); i++)
-    list.push(make(view(), from));
-  return list;
-}
-
-const blockAt = (memory, at) => ({
-  start: memory.getUint16(at + BLOCK.start, true),
-  end: memory.getUint16(at + BLOCK.end, true),
-});
-
-const skippedAt = (memory, at) => ({
-  stream: memory.getUint16(at + SKIPPED.stream, true),
-  ssn: memory.getUint16(at + SKIPPED.ssn, true),
-  mid: memory.getUint32(at + SKIPPED.mid, true),
-  isUnordered: memory.getUint8(at + SKIPPED.isUnordered) !== 0,
-});
-
-const numberAt = (memory, at) => memory.getUint32(at, true);
+const ROW_SIZE = structs.row.size, PARAMETER_SIZE = structs.parameter.size, HEADER = 4;
 
 /** What `read` keeps of a row besides the chunk: an object of its type's numbers, whose lists and views come when they are asked for. */
 function numbersOfRow(memory, at, type) {
@@ -517,7 +512,8 @@ function numbersOfRow(memory, at, type) {
         isBeginning: memory.getUint8(at + ROW.isBeginning) !== 0,
         isEnd: memory.getUint8(at + ROW.isEnd) !== 0,
         immediateAck: memory.getUint8(at + ROW.immediateAck) !== 0,
-        payload: null,
+        // (where it begins, until it is asked for)
+        payload: memory.getUint32(at + ROW.restOffset, true),
       };
     case ChunkType.INIT:
     case ChunkType.INIT_ACK:
@@ -546,54 +542,76 @@ function numbersOfRow(memory, at, type) {
   }
 }
 
-/** A chunk that `read` gives: what its row has, and the caller's bytes. */
+/** A view of a packet that `read` gave. (Of an array of that class itself there is one in less time.) */
+function partOf({ bytes, isPlain }, offset, size) {
+  if (size === 0)
+    return NOTHING;
+  return isPlain ? bytes.subarray(offset, offset + size) : part(bytes, offset, size);
+}
+
+/** Two numbers of 16 bits as one: so has each offset and size in a packet. What `read` gives is kept in few words, as a packet can
+    have 16,380 chunks. */
+const both = (high, low) => high << 16 | low;
+const high = it => it >>> 16;
+const low = it => it & 0xffff;
+
+/** A chunk that `read` gives: what its row has, and the packet, whose `bytes` are the caller's. */
 class RowChunk {
-  #bytes;
-  #size;
-  #restOffset;
-  #count;
-  #duplicateCount;
+  #packet;
+  #kind;
+  #place;
   #content;
 
   // (in each row a size's upper half is 0, as the memory's addresses have 32 bits)
-  constructor(bytes, memory, at) {
-    this.type = memory.getUint8(at + ROW.type);
-    this.flags = memory.getUint8(at + ROW.flags);
-    this.valueOffset = memory.getUint32(at + ROW.valueOffset, true);
-    this.next = memory.getUint32(at + ROW.next, true);
-    this.#bytes = bytes;
-    this.#size = memory.getUint32(at + ROW.valueSize, true);
-    this.#restOffset = memory.getUint32(at + ROW.restOffset, true);
-    this.#count = memory.getUint32(at + ROW.count, true);
-    this.#duplicateCount = memory.getUint32(at + ROW.duplicateCount, true);
-    this.#content = numbersOfRow(memory, at, this.type);
+  constructor(packet, memory, at) {
+    const type = memory.getUint8(at + ROW.type);
+    this.#packet = packet;
+    this.#kind = both(memory.getUint32(at + ROW.next, true), memory.getUint8(at + ROW.flags) << 8 | type);
+    this.#place = both(memory.getUint32(at + ROW.valueOffset, true), memory.getUint32(at + ROW.valueSize, true));
+    this.#content = numbersOfRow(memory, at, type);
+  }
+
+  get type() {
+    return this.#kind & 0xff;
   }
 
   get name() {
     return chunkName(this.type);
   }
 
+  get flags() {
+    return low(this.#kind) >> 8;
+  }
+
   get offset() {
-    return this.valueOffset - ROW_HEADER;
+    return high(this.#place) - HEADER;
+  }
+
+  get valueOffset() {
+    return high(this.#place);
+  }
+
+  get next() {
+    return high(this.#kind);
   }
 
   get value() {
-    return this.#size > 0 ? part(this.#bytes, this.valueOffset, this.#size) : NOTHING;
+    return partOf(this.#packet, high(this.#place), low(this.#place));
   }
 
   get bytes() {
-    return part(this.#bytes, this.offset, ROW_HEADER + this.#size);
+    return partOf(this.#packet, this.offset, HEADER + low(this.#place));
   }
 
-  #of(...types) {
-    return types.includes(this.type) ? this.#content : undefined;
+  #of(one, other) {
+    const { type } = this;
+    return type === one || type === other ? this.#content : undefined;
   }
 
   get data() {
-    if (this.type !== ChunkType.DATA && this.type !== ChunkType.I_DATA)
-      return undefined;
-    const it = this.#content;
-    it.payload ??= part(this.#bytes, this.#restOffset, this.valueOffset + this.#size - this.#restOffset);
+    const it = this.#of(ChunkType.DATA, ChunkType.I_DATA);
+    if (it !== undefined && typeof it.payload === 'number')
+      it.payload = partOf(this.#packet, it.payload, high(this.#place) + low(this.#place) - it.payload);
     return it;
   }
 
@@ -608,10 +626,10 @@ class RowChunk {
   get sack() {
     const it = this.#of(ChunkType.SACK);
     if (it !== undefined && it.blocks === null) {
-      const words = inMemory(this);
-      it.isInOrder = call('dcsctp_validate_sack', ...words) !== 0;
-      it.duplicates = counted('dcsctp_duplicate_tsn', this.#duplicateCount, words, numberAt);
-      it.blocks = counted('dcsctp_gap_ack_block', this.#count, words, blockAt);
+      const words = this.#words(), size = low(this.#place);
+      it.isInOrder = calls.validateSack(words[0], words[1], words[2]) !== 0;
+      it.duplicates = duplicatesOf(size, words);
+      it.blocks = blocksOf(size, words);
     }
     return it;
   }
@@ -619,17 +637,83 @@ class RowChunk {
   get forwardTsn() {
     const it = this.#of(ChunkType.FORWARD_TSN, ChunkType.I_FORWARD_TSN);
     if (it !== undefined)
-      it.streams ??= counted('dcsctp_skipped_stream', this.#count, inMemory(this), skippedAt);
+      it.streams ??= streamsOf(low(this.#place), this.#words());
     return it;
+  }
+
+  /** The words for the packet and this chunk in it; copies it into the memory if it isn't what was read last. */
+  #words() {
+    const { bytes } = this.#packet;
+    if (inInput !== this.#packet || !input.isHeld) {
+      put(input, bytes);
+      inInput = this.#packet;
+    }
+    return [input.at, big(bytes.length), head(this.type, this.flags, high(this.#place), low(this.#place), this.next)];
+  }
+
+  /** Its parameters or error causes, each completed by a function. */
+  static items(chunk, complete) {
+    const words = chunk.#words(), all = new Array(parametersOf(low(chunk.#place), words));
+    for (let i = 0, at = items.from; i < all.length; i++, at += PARAMETER_SIZE)
+      all[i] = complete(new RowItem(chunk.#packet, view(), at, complete === completeCause), words, at);
+    return all;
+  }
+
+  static is(chunk) {
+    return #packet in chunk;
+  }
+}
+
+/** A parameter or an error cause of a chunk that `read` gave. */
+class RowItem {
+  #packet;
+  #kind;
+  #place;
+  #isCause;
+
+  constructor(packet, memory, at, isCause) {
+    this.#packet = packet;
+    this.#kind = both(memory.getUint32(at + PARAMETER.next, true), memory.getUint16(at + PARAMETER.type, true));
+    this.#place = both(memory.getUint32(at + PARAMETER.valueOffset, true), memory.getUint32(at + PARAMETER.valueSize, true));
+    this.#isCause = isCause;
+  }
+
+  get type() {
+    return this.#isCause ? undefined : low(this.#kind);
+  }
+
+  get code() {
+    return this.#isCause ? low(this.#kind) : undefined;
+  }
+
+  get name() {
+    return (this.#isCause ? causeName : parameterName)(low(this.#kind));
+  }
+
+  get offset() {
+    return high(this.#place) - HEADER;
+  }
+
+  get next() {
+    return high(this.#kind);
+  }
+
+  get value() {
+    return partOf(this.#packet, high(this.#place), low(this.#place));
+  }
+
+  get bytes() {
+    return partOf(this.#packet, this.offset, HEADER + low(this.#place));
   }
 }
 
 function read(bytes, policy = {}) {
-  const words = asked(bytes, policy), at = place(FOUND);
+  const [start, length, word, accepted] = asked(bytes, policy), at = place(answer);
   // (no packet has more chunks than one for each four bytes behind its header)
-  reserve(rows, Math.max(0, Math.min(bytes.length, 65_536) - FIRST_CHUNK) / 4 * ROW_SIZE);
-  const code = call('dcsctp_read', ...words, rows.at, BigInt(Math.floor(rows.room / ROW_SIZE)), at);
-  const memory = view(), from = Number(at);
+  const most = Math.max(0, Math.min(bytes.length, 65_536) - FIRST_CHUNK) >> 2;
+  reserve(rows, most * ROW_SIZE);
+  const code = calls.read(start, length, word, accepted, rows.at, big(most), at);
+  const memory = view(), from = answer.from;
   if (code !== Result.OK)
     throw new Fault(code, memory.getUint32(from + READ.faultOffset, true));
   const header = {
@@ -638,11 +722,12 @@ function read(bytes, policy = {}) {
     verificationTag: memory.getUint32(from + READ.verificationTag, true),
     checksum: memory.getUint32(from + READ.checksum, true),
   };
-  const first = Number(rows.at), size = memory.getUint32(from + READ.chunkCount, true) * ROW_SIZE;
-  const list = [];
-  for (let row = 0; row < size; row += ROW_SIZE)
-    list.push(new RowChunk(bytes, memory, first + row));
-  return { header, chunks: list };
+  const packet = { bytes, isPlain: bytes.constructor === Uint8Array };
+  const chunks = new Array(memory.getUint32(from + READ.chunkCount, true));
+  for (let i = 0, at = rows.from; i < chunks.length; i++, at += ROW_SIZE)
+    chunks[i] = new RowChunk(packet, memory, at);
+  inInput = packet;
+  return { header, chunks };
 }
 
 function readChunk(bytes) {
@@ -670,73 +755,90 @@ function withFlags(data, flags) {
   return { ...record(data, 'data'), ...Object.fromEntries(bits) };
 }
 
-/** Copies a chunk's value alone into the memory: the words for it, and for the chunk in it. */
-function inMemory(chunk) {
-  const { flags, value } = chunk, size = isBytes(value, 'value').length;
-  const type = number(chunk.type, 'u8', 'type');
-  number(flags, 'u8', 'flags');
-  const [start, length] = put(input, value), head = place(HEAD), at = Number(head), memory = view();
+/** A chunk as the functions take it. */
+function head(type, flags, valueOffset, valueSize, next) {
+  const word = place(taken), at = taken.from, memory = view();
   memory.setUint8(at + CHUNK.type, type);
   memory.setUint8(at + CHUNK.flags, flags);
-  memory.setBigUint64(at + CHUNK.valueOffset, 0n, true);
-  memory.setBigUint64(at + CHUNK.valueSize, length, true);
-  memory.setBigUint64(at + CHUNK.next, length, true);
-  return [start, length, head];
+  setSize(memory, at + CHUNK.valueOffset, valueOffset);
+  setSize(memory, at + CHUNK.valueSize, valueSize);
+  setSize(memory, at + CHUNK.next, next);
+  return word;
+}
+
+/** Reads the parameters or error causes of a chunk whose value has a size; returns how many there are. */
+function parametersOf(size, [start, length, chunk]) {
+  const most = room(items, size >> 2, PARAMETER_SIZE);
+  return Number(calls.parameters(start, length, chunk, items.at, most));
 }
 
 /** The parameters or error causes of a chunk, read from its value alone. */
-function items(chunk, complete) {
-  const { value } = chunk, base = number(chunk.valueOffset, 'size', 'valueOffset'), list = [];
-  const [start, length, head] = inMemory(chunk), words = [start, length], item = place(ITEM), at = Number(item);
-  for (let offset = Number(call('dcsctp_list_offset', head)); ;) {
-    if (!call('dcsctp_parameter_at', ...words, head, BigInt(offset), item))
-      return list.values();
-    const memory = view(), type = memory.getUint16(at + PARAMETER.type, true), next = memory.getUint32(at + PARAMETER.next, true);
+function itemsOf(chunk, make) {
+  const { value, flags } = chunk, size = isBytes(value, 'value').length, type = number(chunk.type, 'u8', 'type');
+  const base = number(chunk.valueOffset, 'size', 'valueOffset');
+  number(flags, 'u8', 'flags');
+  const words = [...put(input, value), head(type, flags, 0, size, size)];
+  return Array.from({ length: parametersOf(size, words) }, (_, i) => {
+    const memory = view(), at = items.from + i * PARAMETER_SIZE;
     const valueOffset = memory.getUint32(at + PARAMETER.valueOffset, true), valueSize = memory.getUint32(at + PARAMETER.valueSize, true);
-    const its = part(value, valueOffset, valueSize), bytes = part(value, offset, valueOffset + valueSize - offset);
-    list.push(complete({ type, value: its, bytes, offset: base + offset, next: base + next }, [...words, item]));
-    offset = next;
-  }
+    const offset = valueOffset - HEADER, next = base + memory.getUint32(at + PARAMETER.next, true);
+    const its = part(value, valueOffset, valueSize), bytes = part(value, offset, HEADER + valueSize);
+    return make(memory.getUint16(at + PARAMETER.type, true), { value: its, bytes, offset: base + offset, next }, words, at);
+  });
 }
 
 const isCauses = chunk => [ChunkType.ABORT, ChunkType.ERROR].includes(record(chunk, 'chunk').type);
 
-/** A value that is a number of four bytes, where a type has one. */
-function withNumber(item, words) {
-  const it = found(U32, 'dcsctp_number', ...words);
+/** Gives an item what its type has besides its value: of the words for its bytes, and of where it lies in the memory. */
+function completeNumber(item, [start, length], at) {
+  const it = found(U32, 'dcsctp_number', start, length, BigInt(at));
   if (it !== null)
     item.number = it.it;
 }
 
+/** The numbers of two bytes in its list, as a function reads them. */
+function shortsOf(name, [start, length], at) {
+  const most = room(list, view().getUint32(at + PARAMETER.valueSize, true) >> 1, U16.size);
+  const count = Number(call(name, start, length, BigInt(at), list.at, most));
+  return Array.from({ length: count }, (_, i) => view().getUint16(list.from + 2 * i, true));
+}
+
+function completeParameter(parameter, words, at) {
+  const { type } = parameter;
+  if (type === ParameterType.ZERO_CHECKSUM_ACCEPTABLE) {
+    completeNumber(parameter, words, at);
+  } else if (type >= ParameterType.OUTGOING_SSN_RESET && type <= ParameterType.ADD_INCOMING_STREAMS) {
+    const reConfig = found(structs.reConfig, 'dcsctp_re_config', words[0], words[1], BigInt(at));
+    if (reConfig !== null) {
+      delete reConfig.streamCount;
+      reConfig.streams = shortsOf('dcsctp_reset_streams', words, at);
+      parameter.reConfig = reConfig;
+    }
+  }
+  return parameter;
+}
+
+function completeCause(cause, words, at) {
+  if (cause.code === CauseCode.NO_USER_DATA)
+    completeNumber(cause, words, at);
+  else if (cause.code === CauseCode.MISSING_MANDATORY_PARAMETER)
+    cause.missing = shortsOf('dcsctp_missing_parameters', words, at);
+  return cause;
+}
+
+const parameterOf = (type, rest, words, at) => completeParameter({ type, name: parameterName(type), ...rest }, words, at);
+const causeOf = (code, rest, words, at) => completeCause({ code, name: causeName(code), ...rest }, words, at);
+
 function parameters(chunk) {
   if (isCauses(chunk))
     return [].values();
-  return items(chunk, ({ type, value, bytes, offset, next }, words) => {
-    const parameter = { type, name: parameterName(type), value, bytes, offset, next };
-    if (type === ParameterType.ZERO_CHECKSUM_ACCEPTABLE)
-      withNumber(parameter, words);
-    const isReConfig = type >= ParameterType.OUTGOING_SSN_RESET && type <= ParameterType.ADD_INCOMING_STREAMS;
-    const reConfig = isReConfig ? found(structs.reConfig, 'dcsctp_re_config', ...words) : null;
-    if (reConfig !== null) {
-      delete reConfig.streamCount;
-      reConfig.streams = listed(U16, 'dcsctp_reset_stream', ...words).map(stream => stream.it);
-      parameter.reConfig = reConfig;
-    }
-    return parameter;
-  });
+  return (RowChunk.is(chunk) ? RowChunk.items(chunk, completeParameter) : itemsOf(chunk, parameterOf)).values();
 }
 
 function causes(chunk) {
   if (!isCauses(chunk))
     return [].values();
-  return items(chunk, ({ type: code, value, bytes, offset, next }, words) => {
-    const cause = { code, name: causeName(code), value, bytes, offset, next };
-    if (code === CauseCode.NO_USER_DATA)
-      withNumber(cause, words);
-    if (code === CauseCode.MISSING_MANDATORY_PARAMETER)
-      cause.missing = listed(U16, 'dcsctp_missing_parameter', ...words).map(type => type.it);
-    return cause;
-  });
+  return (RowChunk.is(chunk) ? RowChunk.items(chunk, completeCause) : itemsOf(chunk, causeOf)).values();
 }
 
 /** A chunk that has one item of a type and a value as its list. */
@@ -821,11 +923,11 @@ class Builder {
       reserve(packet, this.#room);
       packet.put(this.#bytes.subarray(0, this.#size));
     }
-    const at = place(HEAD);
-    SIZE.write(at, [this.#size]);
-    const code = call(name, packet.at, BigInt(this.#room), at, ...words);
+    const at = place(taken);
+    SIZE.write(taken.from, [this.#size]);
+    const code = call(name, packet.at, big(this.#room), at, ...words);
     if (code === Result.OK) {
-      const size = SIZE.read(at).it, old = this.#bytes;
+      const size = SIZE.read(taken.from).it, old = this.#bytes;
       if (size > old.length) {
         this.#bytes = new Uint8Array(Math.min(2 * size, this.#room));
         this.#bytes.set(old);
@@ -851,14 +953,14 @@ class Builder {
     const start = this.#starts.at(-1);
     if (start === undefined)
       throw new WriteError(Result.BAD_PLACE, 'no chunk to add to');
-    this.#add(start, name, BigInt(start), ...words);
+    this.#add(start, name, big(start), ...words);
     return this;
   }
 
   /** A struct that a function reads: its values, and where they lie when it is called. */
   #struct(struct, object, name) {
-    const at = place(FOUND);
-    struct.write(at, struct.values(object, name));
+    const values = struct.values(object, name), at = place(answer);
+    struct.write(answer.from, values);
     return at;
   }
 
@@ -998,7 +1100,7 @@ class Builder {
 function cleanBlocks(blocks) {
   const words = putAll(input, structs.gapAckBlock, valuesOf(structs.gapAckBlock, blocks, 'blocks'));
   const count = Number(call('dcsctp_clean_blocks', ...words));
-  const at = i => Number(input.at) + i * structs.gapAckBlock.size;
+  const at = i => input.from + i * structs.gapAckBlock.size;
   return Array.from({ length: count }, (_, i) => structs.gapAckBlock.read(at(i)));
 }
 

@@ -10,42 +10,110 @@ let left = 0;
 function load({ module, instance }) {
   compiled = module;
   wasm = instance.exports;
-  held = new DataView(wasm.memory.buffer);
+  hold();
 }
 
-/** Calls a function. An exception, as of a stack that is full, leaves the memory as it is: so a new instance comes. */
+/** Has views of the memory as it is now. */
+function hold() {
+  held = new DataView(wasm.memory.buffer);
+  heldBytes = new Uint8Array(wasm.memory.buffer);
+}
+
+/** An exception, as of a stack that is full, leaves the memory as it is: so a new instance comes. */
+function leave(error) {
+  // (what can fail where a stack is full comes first)
+  const { exports } = new WebAssembly.Instance(compiled), { buffer } = exports.memory;
+  const view = new DataView(buffer), bytes = new Uint8Array(buffer);
+  wasm = exports;
+  held = view;
+  heldBytes = bytes;
+  left++;
+  throw error;
+}
+
+/** Calls a function. */
 function call(name, ...words) {
   try {
     return wasm[name](...words);
   } catch (error) {
-    wasm = new WebAssembly.Instance(compiled).exports;
-    left++;
-    throw error;
+    return leave(error);
   }
 }
+
+/** Calls what packets are read by. (Each has a call of its own, which takes a fifth of the time of one that any name has.) */
+const calls = {
+  read(bytes, length, word, policy, rows, count, packet) {
+    try {
+      return wasm.dcsctp_read(bytes, length, word, policy, rows, count, packet);
+    } catch (error) {
+      return leave(error);
+    }
+  },
+  validateSack(bytes, length, chunk) {
+    try {
+      return wasm.dcsctp_validate_sack(bytes, length, chunk);
+    } catch (error) {
+      return leave(error);
+    }
+  },
+  gapAckBlocks(bytes, length, chunk, list, count) {
+    try {
+      return wasm.dcsctp_gap_ack_blocks(bytes, length, chunk, list, count);
+    } catch (error) {
+      return leave(error);
+    }
+  },
+  duplicateTsns(bytes, length, chunk, list, count) {
+    try {
+      return wasm.dcsctp_duplicate_tsns(bytes, length, chunk, list, count);
+    } catch (error) {
+      return leave(error);
+    }
+  },
+  parameters(bytes, length, chunk, list, count) {
+    try {
+      return wasm.dcsctp_parameters(bytes, length, chunk, list, count);
+    } catch (error) {
+      return leave(error);
+    }
+  },
+};
 
 /** Which instance it is: what lies in another one's memory is lost. */
 function instance() {
   return left;
 }
 
-/** The memory as it is now. A call can make it grow, and then an older view is of no use. */
+/** The memory as it is now. A call can make it grow: that leaves an older view no bytes. (To ask the memory takes longer.) */
 function view() {
-  if (held.buffer !== wasm.memory.buffer)
-    held = new DataView(wasm.memory.buffer);
+  if (heldBytes.length === 0)
+    hold();
   return held;
 }
 
 /** The memory as bytes, likewise. */
 function memory() {
-  if (heldBytes?.buffer !== wasm.memory.buffer)
-    heldBytes = new Uint8Array(wasm.memory.buffer);
+  if (heldBytes.length === 0)
+    hold();
   return heldBytes;
+}
+
+// (most sizes are small, and to make one takes time)
+const SIZES = Array.from({ length: 4096 }, (_, i) => BigInt(i));
+
+/** A size as the functions take it. */
+const big = size => (size < 4096 ? SIZES[size] : BigInt(size));
+
+/** Writes a size, whose upper half is 0, as the memory's addresses have 32 bits. */
+function setSize(memory, at, size) {
+  memory.setUint32(at, size, true);
+  memory.setUint32(at + 4, 0, true);
 }
 
 /** A block of the memory, with room for what lies in it. Its place changes where it has to grow. */
 class Block {
   #at = 0n;
+  #from = 0;
   #room = 0;
   #instance = -1;
 
@@ -63,15 +131,27 @@ class Block {
     while (room < size + 16)
       room *= 2;
     this.#at = call('malloc', BigInt(room - 16));
-    if (this.#at === 0n)
+    this.#from = Number(this.#at);
+    if (this.#from === 0)
       return false;
     this.#room = room - 16;
     this.#instance = left;
     return true;
   }
 
+  /** Whether what was put into it is there. */
+  get isHeld() {
+    return this.#instance === left;
+  }
+
+  /** Where it begins, as the functions take it. */
   get at() {
     return this.#at;
+  }
+
+  /** The same as a number. */
+  get from() {
+    return this.#from;
   }
 
   get room() {
@@ -79,12 +159,12 @@ class Block {
   }
 
   put(bytes) {
-    memory().set(bytes, Number(this.#at));
+    memory().set(bytes, this.#from);
   }
 
   /** Its bytes between two places, where they lie. */
   bytes(from, to) {
-    return new Uint8Array(view().buffer, Number(this.#at) + from, to - from);
+    return new Uint8Array(view().buffer, this.#from + from, to - from);
   }
 }
 
@@ -155,9 +235,8 @@ function field(type) {
     return {
       size: 8,
       check,
-      // (its upper half is 0, as the memory's addresses have 32 bits)
       get: (v, at) => v.getUint32(at, true),
-      set: (v, at, value) => v.setBigUint64(at, BigInt(value), true),
+      set: setSize,
     };
   }
   const [size, method] = NUMBERS[type];
@@ -183,7 +262,7 @@ class Struct {
   read(at) {
     const memory = view(), object = {};
     for (const it of this.fields)
-      object[it.name] = it.get(memory, Number(at) + it.at);
+      object[it.name] = it.get(memory, at + it.at);
     return object;
   }
 
@@ -195,7 +274,7 @@ class Struct {
 
   write(at, values) {
     const memory = view();
-    this.fields.forEach((it, i) => it.set(memory, Number(at) + it.at, values[i]));
+    this.fields.forEach((it, i) => it.set(memory, at + it.at, values[i]));
   }
 }
 
@@ -233,7 +312,7 @@ const structs = {
 };
 
 // davgyuti.mjs says who takes it from where.
-const library = { load, call, instance, view, number, truth, record, isList, isBytes, Block, Struct, structs };
+const library = { load, call, calls, instance, view, big, setSize, number, truth, record, isList, isBytes, Block, Struct, structs };
 if (this)
   module.exports = library;
 else

@@ -7,9 +7,9 @@ import * as davgyuti from '../davgyuti.mjs';
 import library from '../library.js';
 
 const file = name => readFileSync(new URL(name, import.meta.url), 'utf8');
-// (the package reads lists item by item, without the calls that fill an array)
-const LISTS = 'gap_ack_blocks|duplicate_tsns|skipped_streams|parameters|reset_streams|missing_parameters';
-const header = file('../../../include/dcsctp.h').replace(/\/\*[^]*?\*\//g, '').replace(new RegExp(`size_t dcsctp_(${LISTS})\\([^)]*\\);`, 'g'), '');
+// (the package reads a list in one call, without those that read one item)
+const ITEMS = 'gap_ack_block|duplicate_tsn|skipped_stream|parameter_at|reset_stream|missing_parameter|list_offset';
+const header = file('../../../include/dcsctp.h').replace(/\/\*[^]*?\*\//g, '').replace(new RegExp(`\\w+ dcsctp_(${ITEMS})\\([^)]*\\);`, 'g'), '');
 const code = file('../davgyuti.js');
 const camel = name => name.replace(/_(\w)/g, (_, letter) => letter.toUpperCase());
 
@@ -20,14 +20,15 @@ const functions = [...all].filter(it => !inline.includes(it));
 
 test('each function of the header is used, and no other', () => {
   assert.ok(functions.length > 40);
-  assert.deepEqual([...new Set(code.match(/'dcsctp_\w+'/g))].map(it => it.slice(1, -1)).sort(), functions.sort());
+  const used = [...code.matchAll(/'(dcsctp_\w+)'/g), ...file('../library.js').matchAll(/wasm\.(dcsctp_\w+)\(/g)].map(it => it[1]);
+  assert.deepEqual([...new Set(used)].sort(), functions.sort());
 });
 
 test('the module imports nothing, and exports these functions, its memory, malloc and free', () => {
   const module = new WebAssembly.Module(readFileSync(new URL('../dcsctp.wasm', import.meta.url)));
   assert.deepEqual(WebAssembly.Module.imports(module), []);
   const exports = WebAssembly.Module.exports(module).filter(it => it.kind !== 'global').map(it => it.name)
-    .filter(it => !new RegExp(`^dcsctp_(${LISTS})$`).test(it));
+    .filter(it => !new RegExp(`^dcsctp_(${ITEMS})$`).test(it));
   assert.deepEqual(exports.sort(), [...functions, 'memory', 'malloc', 'free'].sort());
 });
 

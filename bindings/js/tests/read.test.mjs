@@ -8,7 +8,9 @@ import * as davgyuti from '../davgyuti.mjs';
 const { Builder, ChunkType, Fault, causes, chunks, parameters, read } = davgyuti;
 const POLICIES = [{}, { zeroChecksum: true, strictPadding: true }, { anyChecksum: true }, { allowedZeroChecksum: true }];
 const FIELDS = ['type', 'name', 'flags', 'offset', 'valueOffset', 'next', 'value', 'bytes', 'data', 'sack', 'init', 'shutdown', 'forwardTsn'];
-const fieldsOf = chunk => Object.fromEntries(FIELDS.map(name => [name, chunk[name]]));
+const ITEM_FIELDS = ['type', 'code', 'name', 'offset', 'next', 'value', 'bytes', 'number', 'reConfig', 'missing'];
+const fieldsOf = (it, names = FIELDS) => Object.fromEntries(names.map(name => [name, it[name]]));
+const itemsOf = items => Array.from(items, it => fieldsOf(it, ITEM_FIELDS));
 
 /** Compares what is read in one call with what the single calls read; returns whether it is a packet. */
 function compare(bytes, policy) {
@@ -23,10 +25,10 @@ function compare(bytes, policy) {
   }
   const packet = read(bytes, policy), single = [...chunks(bytes)];
   assert.deepEqual(packet.header, davgyuti.header(bytes));
-  assert.deepEqual(packet.chunks.map(fieldsOf), single.map(fieldsOf));
+  assert.deepEqual(packet.chunks.map(it => fieldsOf(it)), single.map(it => fieldsOf(it)));
   packet.chunks.forEach((chunk, i) => {
-    assert.deepEqual([...parameters(chunk)], [...parameters(single[i])]);
-    assert.deepEqual([...causes(chunk)], [...causes(single[i])]);
+    assert.deepEqual(itemsOf(parameters(chunk)), itemsOf(parameters(single[i])));
+    assert.deepEqual(itemsOf(causes(chunk)), itemsOf(causes(single[i])));
   });
   return true;
 }
@@ -81,6 +83,29 @@ test('chunks stay when another packet is read, and a type has no other one\'s fi
   assert.deepEqual([first.shutdown, other.chunks[0].shutdown], [{ cumulativeTsnAck: 1 }, { cumulativeTsnAck: 2 }]);
   assert.deepEqual([second.data, second.sack, second.init, second.shutdown, second.forwardTsn], Array(5).fill(undefined));
   assert.equal(first.shutdown, first.shutdown);
+});
+
+test('lists are those of their packet, whatever is called in between', () => {
+  const ports = { sourcePort: 1, destinationPort: 2, verificationTag: 3 };
+  const of = n => new Builder(ports)
+    .addSack({ cumulativeTsnAck: n, aRwnd: 2, blocks: [{ start: n, end: n + 1 }], duplicates: [n, n + 1] })
+    .addForwardTsn({ newCumulativeTsn: n, streams: [{ stream: n, ssn: n + 1 }] })
+    .addHeartbeat(new Uint8Array(n).fill(n))
+    .addChunk(ChunkType.RE_CONFIG).addReConfig({ type: 14, requestNumber: n, streams: [n, n + 2] }).addNumber(0x8001, n)
+    .addChunk(ChunkType.ERROR).addMissingParameters([n, n + 3]).addNumber(9, n).finish();
+  const between = [() => {}, () => read(of(9)), () => davgyuti.report(of(9)), () => davgyuti.cleanBlocks([{ start: 1, end: 2 }]), () => of(60_000 % 251)];
+  for (const call of between) {
+    for (const bytes of [of(7), Buffer.from(of(7)), new Uint8Array([...of(7), 0, 0]).subarray(0, of(7).length)]) {
+      const single = [...chunks(bytes)], packet = read(bytes);
+      packet.chunks.forEach((chunk, i) => {
+        call();
+        assert.deepEqual(fieldsOf(chunk), fieldsOf(single[i]));
+        const wanted = [itemsOf(parameters(single[i])), itemsOf(causes(single[i]))];
+        call();
+        assert.deepEqual([itemsOf(parameters(chunk)), itemsOf(causes(chunk))], wanted);
+      });
+    }
+  }
 });
 
 test('what is no Uint8Array, and no policy, is refused', () => {

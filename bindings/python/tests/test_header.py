@@ -38,9 +38,9 @@ def header() -> str:
     raise FileNotFoundError("there is no dcsctp.h")
 
 
-# (the package reads lists item by item, and SACK's by the row's range)
+# (the package reads a list in one call, without those that read one item)
 HEADER = re.sub(
-    r"^size_t dcsctp_(?:gap_ack_blocks|duplicate_tsns|skipped_streams|parameters|reset_streams|missing_parameters)\([^)]*\);",
+    r"^\w+ dcsctp_(?:gap_ack_block|duplicate_tsn|skipped_stream|parameter_at|reset_stream|missing_parameter|list_offset)\([^)]*\);",
     "", header(), flags=re.MULTILINE)
 
 
@@ -80,7 +80,7 @@ class Functions(unittest.TestCase):
         for name in ("_library.py", "_reading.py", "_writing.py"):
             with open(os.path.join(folder, name), encoding="ascii") as file:
                 text += file.read()
-        called = set(re.findall(r"(?:functions|library)\.(dcsctp_\w+)", text))
+        called = set(re.findall(r"(?:functions|bare|library)\.(dcsctp_\w+)", text))
         self.assertEqual(called, set(_library.FUNCTIONS))
 
 
@@ -100,7 +100,14 @@ class Structs(unittest.TestCase):
         self.assertEqual(len(structs), 13)
 
     def test_formats(self) -> None:
-        for kind, struct in ((_library.Row, _library.ROW), (_library.Data, _library.DATA)):
+        for kind, struct in (
+            (_library.Row, _library.ROW),
+            (_library.Data, _library.DATA),
+            (_library.Chunk, _library.CHUNK),
+            (_library.Parameter, _library.PARAMETER),
+            (_library.GapAckBlock, _library.BLOCK),
+            (_library.SkippedStream, _library.SKIPPED),
+        ):
             # Each number is at its place: 1, 2, 3 .. and at the end flags.
             numbers = [*range(1, len(struct.unpack(bytes(struct.size))) + 1)]
             value = kind.from_buffer_copy(struct.pack(*numbers))

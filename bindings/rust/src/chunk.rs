@@ -15,7 +15,6 @@ use crate::types::ChunkType;
 use crate::values::Policy;
 use crate::values::{Data, GapAckBlock, Init, SkippedStream};
 use core::iter::FusedIterator;
-use core::ops::Range;
 
 /// The offset of a packet's first chunk: the size of the common header (RFC 9260 section 3.1).
 pub const FIRST_CHUNK: usize = 12;
@@ -28,7 +27,7 @@ pub const TAG_REFLECTED: u8 = 1;
 /// The size of a chunk's header (RFC 9260 section 3.2).
 const CHUNK_HEADER: usize = 4;
 
-/// Calls a function that reads what a chunk, a parameter or an error cause holds; at an index, if
+/// Calls a function that reads what a chunk, a parameter or an error cause holds; at an offset, if
 /// one is named.
 macro_rules! read {
     ($it:expr, $function:ident $(, $index:expr)?) => {{
@@ -203,7 +202,9 @@ impl<'a> Chunk<'a> {
         let (start, length) = (bytes.as_ptr(), bytes.len());
         // SAFETY: `bytes` is a slice, and `chunk` a reference.
         let raw = ffi::read(|chunk| unsafe { ffi::dcsctp_chunk_at(start, length, offset, chunk) })?;
-        Some(Self { bytes, raw })
+        // (field by field: a copy of the whole waits until each field is written)
+        let ffi::Chunk { r#type, flags, value_offset, value_size, next } = raw;
+        Some(Self { bytes, raw: ffi::Chunk { r#type, flags, value_offset, value_size, next } })
     }
 
     /// Checks bytes that have to be one chunk, without a packet around it, and with or without its
@@ -342,23 +343,25 @@ impl<'a> Chunk<'a> {
     #[must_use]
     #[inline]
     pub fn content(&self) -> Content<'a> {
-        self.known_content().unwrap_or(Content::Other)
-    }
-
-    #[inline]
-    fn known_content(&self) -> Option<Content<'a>> {
         let tag_reflected = self.flags() & TAG_REFLECTED != 0;
         let has_no_value = self.raw.value_size == 0;
-        Some(match self.chunk_type() {
-            ChunkType::DATA => Content::Data(self.data()?),
-            ChunkType::I_DATA => Content::IData(self.data()?),
-            ChunkType::INIT => Content::Init(self.init()?, self.parameters()),
-            ChunkType::INIT_ACK => Content::InitAck(self.init()?, self.parameters()),
-            ChunkType::SACK => Content::Sack(self.sack()?),
+        match self.chunk_type() {
+            ChunkType::DATA => self.data().map_or(Content::Other, Content::Data),
+            ChunkType::I_DATA => self.data().map_or(Content::Other, Content::IData),
+            ChunkType::INIT => {
+                self.init().map_or(Content::Other, |it| Content::Init(it, self.parameters()))
+            }
+            ChunkType::INIT_ACK => {
+                self.init().map_or(Content::Other, |it| Content::InitAck(it, self.parameters()))
+            }
+            ChunkType::SACK => self.sack().map_or(Content::Other, Content::Sack),
             ChunkType::HEARTBEAT => Content::Heartbeat(self.parameters()),
             ChunkType::HEARTBEAT_ACK => Content::HeartbeatAck(self.parameters()),
             ChunkType::ABORT => Content::Abort { tag_reflected, causes: self.causes() },
-            ChunkType::SHUTDOWN => Content::Shutdown { cumulative_tsn_ack: self.shutdown()? },
+            ChunkType::SHUTDOWN => {
+                let content = |cumulative_tsn_ack| Content::Shutdown { cumulative_tsn_ack };
+                self.shutdown().map_or(Content::Other, content)
+            }
             ChunkType::SHUTDOWN_ACK if has_no_value => Content::ShutdownAck,
             ChunkType::ERROR => Content::Error(self.causes()),
             ChunkType::COOKIE_ECHO => Content::CookieEcho(self.value()),
@@ -367,10 +370,14 @@ impl<'a> Chunk<'a> {
                 Content::ShutdownComplete { tag_reflected }
             }
             ChunkType::RE_CONFIG => Content::ReConfig(self.parameters()),
-            ChunkType::FORWARD_TSN => Content::ForwardTsn(self.forward_tsn()?),
-            ChunkType::I_FORWARD_TSN => Content::IForwardTsn(self.forward_tsn()?),
-            _ => return None,
-        })
+            ChunkType::FORWARD_TSN => {
+                self.forward_tsn().map_or(Content::Other, Content::ForwardTsn)
+            }
+            ChunkType::I_FORWARD_TSN => {
+                self.forward_tsn().map_or(Content::Other, Content::IForwardTsn)
+            }
+            _ => Content::Other,
+        }
     }
 
     /// Returns the user data of DATA (RFC 9260 section 3.3.1) or I-DATA (RFC 8260 section 2.1).
@@ -622,7 +629,8 @@ impl<'a> Sack<'a> {
     #[must_use]
     #[inline]
     pub const fn gap_ack_blocks(&self) -> GapAckBlocks<'a> {
-        GapAckBlocks { chunk: self.chunk, indices: 0..self.block_count }
+        let Chunk { bytes, raw } = self.chunk;
+        GapAckBlocks::of(bytes, raw.value_offset + SACK_NUMBERS, SACK_ITEM, self.block_count)
     }
 
     /// Returns the TSNs that came more than once (RFC 9260 section 3.3.4).
@@ -635,7 +643,9 @@ impl<'a> Sack<'a> {
     #[must_use]
     #[inline]
     pub const fn duplicate_tsns(&self) -> DuplicateTsns<'a> {
-        DuplicateTsns { chunk: self.chunk, indices: 0..self.duplicate_count }
+        let Chunk { bytes, raw } = self.chunk;
+        let offset = raw.value_offset + SACK_NUMBERS + SACK_ITEM * self.block_count;
+        DuplicateTsns::of(bytes, offset, SACK_ITEM, self.duplicate_count)
     }
 
     /// Returns whether the gap ack blocks are in order, apart, and begin at 2 or later, as RFC 9260
@@ -695,7 +705,9 @@ impl<'a> ForwardTsn<'a> {
     #[must_use]
     #[inline]
     pub const fn skipped_streams(&self) -> SkippedStreams<'a> {
-        SkippedStreams { chunk: self.chunk, indices: 0..self.stream_count }
+        let Chunk { bytes, raw } = self.chunk;
+        let size = if raw.r#type == ChunkType::FORWARD_TSN.0 { 4 } else { 8 };
+        SkippedStreams::of(bytes, raw.value_offset + 4, size, self.stream_count)
     }
 }
 
@@ -708,22 +720,41 @@ impl PartialEq for ForwardTsn<'_> {
 
 impl Eq for ForwardTsn<'_> {}
 
-/// Defines an iterator over what a function of the C API reads at each index of a range.
-macro_rules! indexed {
-    ($(#[$about:meta])* $name:ident, $from:ident: $source:ty, $item:ty, $function:ident) => {
+// How many bytes the numbers of a SACK have, and each item of its two lists (RFC 9260 section
+// 3.3.4).
+const SACK_NUMBERS: usize = 12;
+const SACK_ITEM: usize = 4;
+
+/// Defines an iterator over a list whose items have one size: where they are and how many is what
+/// the C API says, and each is read of its bytes here, by the function that is named.
+macro_rules! list_of_numbers {
+    ($(#[$about:meta])* $name:ident, $item:ty, $read:expr) => {
         $(#[$about])*
         #[derive(Clone)]
         pub struct $name<'a> {
-            pub(crate) $from: $source,
-            pub(crate) indices: Range<usize>,
+            bytes: &'a [u8],
+            size: usize,
+            indices: core::ops::Range<usize>,
         }
 
         list_of_items!($name);
 
-        impl $name<'_> {
+        impl<'a> $name<'a> {
+            /// So many items of this size from an offset on.
             #[inline]
-            fn read(&self, index: usize) -> Option<$item> {
-                read!(self.$from, $function, index).map(<$item>::from)
+            pub(crate) const fn of(
+                bytes: &'a [u8],
+                offset: usize,
+                size: usize,
+                count: usize,
+            ) -> Self {
+                Self { bytes: bytes.split_at(offset).1, size, indices: 0..count }
+            }
+
+            #[inline]
+            fn read(&self, index: usize) -> $item {
+                let read: fn(&[u8]) -> $item = $read;
+                read($crate::chunk::part(self.bytes, index * self.size, self.size))
             }
         }
 
@@ -733,7 +764,7 @@ macro_rules! indexed {
             #[inline]
             fn next(&mut self) -> Option<$item> {
                 let index = self.indices.next()?;
-                self.read(index)
+                Some(self.read(index))
             }
 
             #[inline]
@@ -744,7 +775,7 @@ macro_rules! indexed {
             #[inline]
             fn nth(&mut self, n: usize) -> Option<$item> {
                 let index = self.indices.nth(n)?;
-                self.read(index)
+                Some(self.read(index))
             }
         }
 
@@ -752,18 +783,40 @@ macro_rules! indexed {
             #[inline]
             fn next_back(&mut self) -> Option<$item> {
                 let index = self.indices.next_back()?;
-                self.read(index)
+                Some(self.read(index))
             }
         }
 
-        // There is something at each index below the count that the C API gives.
         impl ExactSizeIterator for $name<'_> {}
         impl FusedIterator for $name<'_> {}
     };
 }
-pub(crate) use indexed;
+pub(crate) use list_of_numbers;
 
-indexed! {
+/// The number that the first two bytes are.
+#[inline]
+pub(crate) fn u16_of(bytes: &[u8]) -> u16 {
+    u16::from_be_bytes([bytes[0], bytes[1]])
+}
+
+/// The number that the first four bytes are.
+#[inline]
+fn u32_of(bytes: &[u8]) -> u32 {
+    u32::from_be_bytes([bytes[0], bytes[1], bytes[2], bytes[3]])
+}
+
+/// The stream of FORWARD-TSN, in four bytes (RFC 3758 section 3.2), or of I-FORWARD-TSN, in eight
+/// (RFC 8260 section 2.3.1).
+#[inline]
+fn skipped_stream_of(bytes: &[u8]) -> SkippedStream {
+    let (stream, rest) = (u16_of(bytes), &bytes[2..]);
+    if bytes.len() == 4 {
+        return SkippedStream { stream, ssn: u16_of(rest), ..SkippedStream::default() };
+    }
+    SkippedStream { stream, ssn: 0, mid: u32_of(&rest[2..]), is_unordered: rest[1] & 1 != 0 }
+}
+
+list_of_numbers! {
     /// The gap ack blocks of a [`Sack`] (RFC 9260 section 3.3.4).
     ///
     /// ```
@@ -773,9 +826,9 @@ indexed! {
     /// assert_eq!((blocks.len(), blocks.last().unwrap().end), (1, 3));
     /// ```
     #[doc(alias = "dcsctp_gap_ack_block")]
-    GapAckBlocks, chunk: Chunk<'a>, GapAckBlock, dcsctp_gap_ack_block
+    GapAckBlocks, GapAckBlock, |it| GapAckBlock { start: u16_of(it), end: u16_of(&it[2..]) }
 }
-indexed! {
+list_of_numbers! {
     /// The duplicate TSNs of a [`Sack`] (RFC 9260 section 3.3.4).
     ///
     /// ```
@@ -785,9 +838,9 @@ indexed! {
     /// assert_eq!(tsns, [40]);
     /// ```
     #[doc(alias = "dcsctp_duplicate_tsn")]
-    DuplicateTsns, chunk: Chunk<'a>, u32, dcsctp_duplicate_tsn
+    DuplicateTsns, u32, u32_of
 }
-indexed! {
+list_of_numbers! {
     /// The streams of a [`ForwardTsn`] (RFC 3758 section 3.2, RFC 8260 section 2.3.1).
     ///
     /// ```
@@ -797,5 +850,5 @@ indexed! {
     /// assert_eq!(streams.next_back().unwrap().stream, 2);
     /// ```
     #[doc(alias = "dcsctp_skipped_stream")]
-    SkippedStreams, chunk: Chunk<'a>, SkippedStream, dcsctp_skipped_stream
+    SkippedStreams, SkippedStream, skipped_stream_of
 }

@@ -89,7 +89,7 @@ pub struct ReConfig {
 #[inline]
 pub fn read<T: Default>(read: impl FnOnce(&mut T) -> bool) -> Option<T> {
     let mut value = T::default();
-    read(&mut value).then_some(value)
+    if read(&mut value) { Some(value) } else { None }
 }
 
 // What every function asks of its caller, and what the SAFETY comments of this crate are about:
@@ -158,20 +158,6 @@ unsafe extern "C" {
         chunk: *const Chunk,
         sack: *mut Sack,
     ) -> bool;
-    pub fn dcsctp_gap_ack_block(
-        bytes: *const u8,
-        length: usize,
-        chunk: *const Chunk,
-        index: usize,
-        block: *mut GapAckBlock,
-    ) -> bool;
-    pub fn dcsctp_duplicate_tsn(
-        bytes: *const u8,
-        length: usize,
-        chunk: *const Chunk,
-        index: usize,
-        tsn: *mut u32,
-    ) -> bool;
     pub fn dcsctp_validate_sack(bytes: *const u8, length: usize, chunk: *const Chunk) -> bool;
     pub fn dcsctp_init(
         bytes: *const u8,
@@ -190,13 +176,6 @@ unsafe extern "C" {
         length: usize,
         chunk: *const Chunk,
         forward_tsn: *mut ForwardTsn,
-    ) -> bool;
-    pub fn dcsctp_skipped_stream(
-        bytes: *const u8,
-        length: usize,
-        chunk: *const Chunk,
-        index: usize,
-        skipped_stream: *mut SkippedStream,
     ) -> bool;
     pub fn dcsctp_list_offset(chunk: *const Chunk) -> usize;
     pub fn dcsctp_parameter_at(
@@ -218,20 +197,13 @@ unsafe extern "C" {
         parameter: *const Parameter,
         re_config: *mut ReConfig,
     ) -> bool;
-    pub fn dcsctp_reset_stream(
-        bytes: *const u8,
-        length: usize,
-        parameter: *const Parameter,
-        index: usize,
-        stream: *mut u16,
-    ) -> bool;
-    pub fn dcsctp_missing_parameter(
+    pub fn dcsctp_missing_parameters(
         bytes: *const u8,
         length: usize,
         cause: *const Parameter,
-        index: usize,
-        r#type: *mut u16,
-    ) -> bool;
+        types: *mut u16,
+        type_count: usize,
+    ) -> usize;
 
     pub fn dcsctp_seal(packet: *mut u8, length: usize) -> u32;
     pub fn dcsctp_set_tag(packet: *mut u8, length: usize, verification_tag: u32) -> u32;

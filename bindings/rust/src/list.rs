@@ -1,14 +1,13 @@
 // SPDX-License-Identifier: Apache-2.0
 //! Parameters and error causes, where they lie.
 
-use crate::chunk::{Chunk, indexed, part, read, same_bytes};
+use crate::chunk::{Chunk, list_of_numbers, part, read, same_bytes, u16_of};
 use crate::debug::list_of_items;
 use crate::error::WriteError;
 use crate::ffi;
 use crate::types::{CauseCode, ChunkType, ParameterType};
 use crate::values::{NextTsns, ReConfig, ReConfigResult};
 use core::iter::FusedIterator;
-use core::ops::Range;
 
 /// A parameter or an error cause, where it lies in a packet's bytes.
 #[derive(Clone, Copy)]
@@ -342,7 +341,9 @@ impl<'a> Parameter<'a> {
     pub fn re_config(&self) -> Option<ReConfig<ResetStreams<'a>>> {
         let it: ffi::ReConfig = read!(self.0, dcsctp_re_config)?;
         let request_number = it.request_number;
-        let streams = ResetStreams { parameter: self.0, indices: 0..it.stream_count };
+        // (they are the last of the value)
+        let end = self.0.raw.value_offset + self.0.raw.value_size;
+        let streams = ResetStreams::of(self.0.bytes, end - 2 * it.stream_count, 2, it.stream_count);
         Some(match ParameterType(it.r#type) {
             ParameterType::OUTGOING_SSN_RESET => ReConfig::OutgoingSsnReset {
                 request_number,
@@ -488,14 +489,17 @@ impl<'a> Cause<'a> {
     /// ```
     #[must_use]
     pub fn missing_parameters(&self) -> MissingParameters<'a> {
-        // Where one is read, the value has as many as its size says, behind their number.
-        let first: Option<u16> = read!(self.0, dcsctp_missing_parameter, 0);
-        let count = first.map_or(0, |_| (self.0.raw.value_size - 4) / 2);
-        MissingParameters { cause: self.0, indices: 0..count }
+        // How many there are; each has two bytes, behind their number.
+        let (Item { bytes, raw }, none) = (self.0, core::ptr::null_mut());
+        let (start, length) = (bytes.as_ptr(), bytes.len());
+        // SAFETY: `bytes` is a slice, `raw` a value here, and no item is written.
+        let count =
+            unsafe { ffi::dcsctp_missing_parameters(start, length, &raw const raw, none, 0) };
+        MissingParameters::of(bytes, raw.value_offset + raw.value_size - 2 * count, 2, count)
     }
 }
 
-indexed! {
+list_of_numbers! {
     /// The streams of an Outgoing SSN Reset Request (RFC 6525 section 4.1) or an Incoming one
     /// (section 4.2). Where there is none, the request is for all streams.
     ///
@@ -509,10 +513,10 @@ indexed! {
     /// assert_eq!(request, ReConfig::IncomingSsnReset { request_number: 1, streams: vec![2] });
     /// ```
     #[doc(alias = "dcsctp_reset_stream")]
-    ResetStreams, parameter: Item<'a>, u16, dcsctp_reset_stream
+    ResetStreams, u16, u16_of
 }
 
-indexed! {
+list_of_numbers! {
     /// The types of a cause Missing Mandatory Parameter (RFC 9260 section 3.3.10.2).
     ///
     /// ```
@@ -522,5 +526,5 @@ indexed! {
     /// assert_eq!((missing.len(), missing.last().unwrap().name()), (1, "State Cookie"));
     /// ```
     #[doc(alias = "dcsctp_missing_parameter")]
-    MissingParameters, cause: Item<'a>, ParameterType, dcsctp_missing_parameter
+    MissingParameters, ParameterType, |it| ParameterType(u16_of(it))
 }

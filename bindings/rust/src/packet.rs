@@ -265,8 +265,11 @@ impl<'a> Packet<'a> {
     /// The first fault.
     #[inline]
     pub fn parse_with(bytes: &'a [u8], word: u32, policy: Policy) -> Result<Self, Fault> {
-        let packet = Packet { bytes, word, policy };
-        first_fault(bytes, word, policy).map_or(Ok(packet), Err)
+        // (whether there is a fault takes less time than which)
+        if check(bytes, word, policy).is_ok() {
+            return Ok(Packet { bytes, word, policy });
+        }
+        first_fault(bytes, word, policy).map_or(Ok(Packet { bytes, word, policy }), Err)
     }
 
     /// Returns the bytes.

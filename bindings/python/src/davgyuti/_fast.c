@@ -129,29 +129,41 @@ static PyObject *pair(PyTypeObject *type, unsigned long one, unsigned long other
     return it;
 }
 
-/* A list of a chunk: each of its items is read by a call, and made by an expression. */
-#define LIST(name, count, item, call, made)                                                                            \
+/* A list of a chunk: its items are read by a call, by a second one where there are many, and each is made by an expression; NULL
+   where one isn't made. */
+#define LIST(name, item, call, made)                                                                                   \
     static PyObject *name(const struct state *state, struct bytes bytes, const struct dcsctp_row *row)                 \
     {                                                                                                                  \
-        const struct dcsctp_chunk *chunk = &row->chunk;                                                                \
+        item few[32], *items = few;                                                                                    \
+        const size_t count = call(bytes.at, bytes.length, &row->chunk, few, 32);                                       \
+        if (count > 32) {                                                                                              \
+            items = PyMem_Malloc(count * sizeof *items);                                                               \
+            if (!items)                                                                                                \
+                return PyErr_NoMemory();                                                                               \
+            call(bytes.at, bytes.length, &row->chunk, items, count);                                                   \
+        }                                                                                                              \
         PyObject *list = PyTuple_New((Py_ssize_t)count);                                                               \
-        item;                                                                                                          \
         (void)state;                                                                                                   \
-        for (size_t i = 0; list && i < count && call(bytes.at, bytes.length, chunk, i, &it); i++)                      \
+        for (size_t i = 0; list && i < count; i++) {                                                                   \
+            const item it = items[i];                                                                                  \
             if (!put(list, i, made))                                                                                   \
                 Py_CLEAR(list);                                                                                        \
+        }                                                                                                              \
+        if (items != few)                                                                                              \
+            PyMem_Free(items);                                                                                         \
         return list;                                                                                                   \
     }
-LIST(blocks, row->count, struct dcsctp_gap_ack_block it, dcsctp_gap_ack_block,
-     pair(state->types[GAP_ACK_BLOCK], it.start, it.end, NULL))
-LIST(duplicates, row->duplicate_count, uint32_t it, dcsctp_duplicate_tsn, NUMBER(it))
-LIST(streams, row->count, struct dcsctp_skipped_stream it, dcsctp_skipped_stream,
-     pair(state->types[SKIPPED_STREAM], it.stream, it.ssn, NULL))
-LIST(i_streams, row->count, struct dcsctp_skipped_stream it, dcsctp_skipped_stream,
+LIST(blocks, struct dcsctp_gap_ack_block, dcsctp_gap_ack_blocks, pair(state->types[GAP_ACK_BLOCK], it.start, it.end, NULL))
+LIST(duplicates, uint32_t, dcsctp_duplicate_tsns, NUMBER(it))
+LIST(streams, struct dcsctp_skipped_stream, dcsctp_skipped_streams, pair(state->types[SKIPPED_STREAM], it.stream, it.ssn, NULL))
+LIST(i_streams, struct dcsctp_skipped_stream, dcsctp_skipped_streams,
      pair(state->types[SKIPPED_I_STREAM], it.stream, it.mid, BOOL(it.is_unordered)))
 
+/* A parameter; NULL without an exception for one of RE-CONFIG, which is left to ctypes. */
 static PyObject *parameter(const struct state *state, struct bytes bytes, const struct dcsctp_parameter *item)
 {
+    if (item->type >= DCSCTP_PARAMETER_OUTGOING_SSN_RESET && item->type <= DCSCTP_PARAMETER_ADD_INCOMING_STREAMS)
+        return NULL;
     PyObject *offset = PyLong_FromSize_t(item->value_offset - 4);
     uint32_t number;
 #define VALUE part(bytes, item->value_offset, item->value_size)
@@ -168,28 +180,7 @@ static PyObject *parameter(const struct state *state, struct bytes bytes, const 
 #undef VALUE
 }
 
-/* Whether it is one of RE-CONFIG, which are left to ctypes. */
-static bool is_rare(uint16_t type)
-{
-    return type >= DCSCTP_PARAMETER_OUTGOING_SSN_RESET && type <= DCSCTP_PARAMETER_ADD_INCOMING_STREAMS;
-}
-
-/* The parameters of a chunk; None where one is rare. */
-static PyObject *parameters(const struct state *state, struct bytes bytes, const struct dcsctp_row *row)
-{
-    const struct dcsctp_chunk *chunk = &row->chunk;
-    struct dcsctp_parameter item;
-    size_t count = 0, at;
-    for (at = row->rest_offset; dcsctp_parameter_at(bytes.at, bytes.length, chunk, at, &item); at = item.next, count++)
-        if (is_rare(item.type))
-            return Py_NewRef(Py_None);
-    PyObject *list = PyTuple_New((Py_ssize_t)count);
-    at = row->rest_offset;
-    for (size_t i = 0; list && i < count && dcsctp_parameter_at(bytes.at, bytes.length, chunk, at, &item); i++, at = item.next)
-        if (!put(list, i, parameter(state, bytes, &item)))
-            Py_CLEAR(list);
-    return list;
-}
+LIST(parameters, struct dcsctp_parameter, dcsctp_parameters, parameter(state, bytes, &it))
 
 static PyObject *chunk_of(const struct state *state, struct bytes bytes, const struct dcsctp_row *row)
 {
@@ -211,12 +202,10 @@ static PyObject *chunk_of(const struct state *state, struct bytes bytes, const s
     case DCSCTP_CHUNK_HEARTBEAT:
     case DCSCTP_CHUNK_HEARTBEAT_ACK:
         list = parameters(state, bytes, row);
-        if (!list)
+        if (!list && PyErr_Occurred())
             return NULL;
-        if (list == Py_None) {
-            Py_DECREF(list);
+        if (!list)
             break;
-        }
         switch (chunk->type) {
         case DCSCTP_CHUNK_INIT: return MADE(INIT, OFFSET, NUMBERS, NUMBER(row->tsn), list);
         case DCSCTP_CHUNK_INIT_ACK: return MADE(INIT_ACK, OFFSET, NUMBERS, NUMBER(row->tsn), list);

@@ -131,6 +131,11 @@ class Packet(ctypes.Structure):
 # The same as formats: many numbers at once are read and written by these in less time than one by one.
 ROW = struct.Struct("@BBNNN NNNN IIIIII HHHH ????0N")
 DATA = struct.Struct("@IIIIHH????NN")
+CHUNK = struct.Struct("@BBNNN")
+PARAMETER = struct.Struct("@HNNN")
+BLOCK = struct.Struct("@HH")
+SKIPPED = struct.Struct("@HHI?3x")
+U16, U32 = struct.Struct("@H"), struct.Struct("@I")
 
 _BYTES = (c_char_p, c_size_t)
 _WHOLE = (*_BYTES, c_uint32, POINTER(Policy))
@@ -153,19 +158,18 @@ FUNCTIONS: dict[str, tuple[Any, ...]] = {
     "dcsctp_chunk_at": (c_bool, *_BYTES, c_size_t, POINTER(Chunk)),
     "dcsctp_data": (c_bool, *_CHUNK, POINTER(Data)),
     "dcsctp_sack": (c_bool, *_CHUNK, POINTER(Sack)),
-    "dcsctp_gap_ack_block": (c_bool, *_CHUNK, c_size_t, POINTER(GapAckBlock)),
-    "dcsctp_duplicate_tsn": (c_bool, *_CHUNK, c_size_t, POINTER(c_uint32)),
     "dcsctp_validate_sack": (c_bool, *_CHUNK),
     "dcsctp_init": (c_bool, *_CHUNK, POINTER(Init)),
     "dcsctp_shutdown": (c_bool, *_CHUNK, POINTER(c_uint32)),
     "dcsctp_forward_tsn": (c_bool, *_CHUNK, POINTER(ForwardTsn)),
-    "dcsctp_skipped_stream": (c_bool, *_CHUNK, c_size_t, POINTER(SkippedStream)),
-    "dcsctp_list_offset": (c_size_t, POINTER(Chunk)),
-    "dcsctp_parameter_at": (c_bool, *_CHUNK, c_size_t, POINTER(Parameter)),
     "dcsctp_number": (c_bool, *_PARAMETER, POINTER(c_uint32)),
     "dcsctp_re_config": (c_bool, *_PARAMETER, POINTER(ReConfig)),
-    "dcsctp_reset_stream": (c_bool, *_PARAMETER, c_size_t, POINTER(c_uint16)),
-    "dcsctp_missing_parameter": (c_bool, *_PARAMETER, c_size_t, POINTER(c_uint16)),
+    "dcsctp_gap_ack_blocks": (c_size_t, *_CHUNK, POINTER(GapAckBlock), c_size_t),
+    "dcsctp_duplicate_tsns": (c_size_t, *_CHUNK, POINTER(c_uint32), c_size_t),
+    "dcsctp_skipped_streams": (c_size_t, *_CHUNK, POINTER(SkippedStream), c_size_t),
+    "dcsctp_parameters": (c_size_t, *_CHUNK, POINTER(Parameter), c_size_t),
+    "dcsctp_reset_streams": (c_size_t, *_PARAMETER, POINTER(c_uint16), c_size_t),
+    "dcsctp_missing_parameters": (c_size_t, *_PARAMETER, POINTER(c_uint16), c_size_t),
     "dcsctp_seal": (c_uint32, POINTER(c_uint8), c_size_t),
     "dcsctp_set_tag": (c_uint32, POINTER(c_uint8), c_size_t, c_uint32),
     "dcsctp_begin": (c_uint32, *_OUTPUT, c_uint16, c_uint16, c_uint32),
@@ -196,7 +200,7 @@ FUNCTIONS: dict[str, tuple[Any, ...]] = {
 }
 
 
-def _load() -> ctypes.PyDLL:
+def _load() -> tuple[ctypes.PyDLL, ctypes.PyDLL]:
     folder = os.path.dirname(os.path.abspath(__file__))
     for ending in ("so", "dylib", "dll"):
         path = os.path.join(folder, f"_dcsctp.{ending}")
@@ -206,20 +210,21 @@ def _load() -> ctypes.PyDLL:
         raise ImportError("davgyuti has no shared library here: it has to be installed, by pip")
     try:
         # (each call takes less time than to let another thread go on, and to come back)
-        library = ctypes.PyDLL(path)
+        library, bare = ctypes.PyDLL(path), ctypes.PyDLL(path)
     except OSError as error:
         raise ImportError(f"{path} can't be loaded, and has to be installed again: {error}") from None
     try:
         for name, (result, *arguments) in FUNCTIONS.items():
             function = getattr(library, name)
             function.restype, function.argtypes = result, arguments
+            getattr(bare, name).restype = result
     except AttributeError as error:
         raise ImportError(f"{path} is not the library of davgyuti {_text(VERSION)}: {error}") from None
     number = library.dcsctp_version_number()
     version = (number >> 16, number >> 8 & 255, number & 255)
     if version != VERSION:
         raise ImportError(f"{path} is the library of davgyuti {_text(version)}, and this is {_text(VERSION)}")
-    return library
+    return library, bare
 
 
 def _text(version: tuple[int, int, int]) -> str:
@@ -227,4 +232,6 @@ def _text(version: tuple[int, int, int]) -> str:
 
 
 version_text = _text(VERSION)
-functions = _load()
+# The functions; and the same without a look at what is passed, which takes longer than most of them do. They take bytes, arrays,
+# what byref gives, None, numbers that have a place in theirs, and sizes as a c_size_t: an int would be passed as one of C.
+functions, bare = _load()

@@ -7,12 +7,12 @@ import struct
 from collections.abc import Callable, Iterator
 from ctypes import byref, c_size_t, c_uint8, c_uint16, c_uint32
 from functools import partial
-from itertools import count, islice, product
+from itertools import chain, islice, product
 from typing import Any, TypeAlias, TypeVar
 
 from . import _library as c
 from . import _values as v
-from ._library import functions
+from ._library import bare, functions
 
 try:
     from . import _fast  # what is below, in C, for what packets have most
@@ -31,6 +31,7 @@ _DEFAULT = v.Policy()
 _CHECKSUMMED = {v.ChunkType.INIT, v.ChunkType.COOKIE_ECHO, v.ChunkType.ASCONF}
 _REFLECTING = {v.ChunkType.ABORT, v.ChunkType.SHUTDOWN_COMPLETE}
 _POLICIES = {bits: byref(c.Policy(*bits)) for bits in product((False, True), repeat=3)}
+_PLAIN = _POLICIES[False, False, False]
 # How many rows are read with a packet; those of one that has more chunks are read when they are asked for.
 _FEW = 8
 _FewRows = c.Row * _FEW
@@ -50,6 +51,14 @@ def number(value: int, most: int, name: str) -> int:
     return index
 
 
+_SIZES = [c_size_t(it) for it in range(2049)]  # (each is read alone, and to make one takes longer)
+
+
+def size(count: int) -> c_size_t:
+    """A size, as a bare function takes it."""
+    return _SIZES[count] if count < len(_SIZES) else c_size_t(count)
+
+
 def start_of(buffer: bytearray) -> Any:
     """What leads C to the bytes, whose size is not changed while it lives."""
     return byref(c_uint8.from_buffer(buffer)) if buffer else None
@@ -59,7 +68,10 @@ def start_of(buffer: bytearray) -> Any:
 
 
 def _arguments(data: bytes, policy: v.Policy, word: int | None) -> tuple[Any, ...]:
-    right = functions.dcsctp_word(data, len(data)) if word is None else number(word, 0xFFFFFFFF, "word")
+    length = size(len(data))
+    right = bare.dcsctp_word(data, length) if word is None else number(word, 0xFFFFFFFF, "word")
+    if policy is _DEFAULT:
+        return data, length, right, _PLAIN
     if not isinstance(policy, v.Policy):
         raise TypeError(f"policy has to be a Policy, and is {policy!r}")
     zero = policy.zero_checksum or (
@@ -68,12 +80,12 @@ def _arguments(data: bytes, policy: v.Policy, word: int | None) -> tuple[Any, ..
         and len(data) <= _LARGEST
         and not needs_checksum(data)
     )
-    return data, len(data), right, _POLICIES[policy.any_checksum, zero, policy.strict_padding]
+    return data, length, right, _POLICIES[policy.any_checksum, zero, policy.strict_padding]
 
 
 def _first_fault(arguments: tuple[Any, ...]) -> v.Fault | None:
     offset = c_size_t()
-    code = functions.dcsctp_first_fault(*arguments, byref(offset))
+    code = bare.dcsctp_first_fault(*arguments, byref(offset))
     return v.Fault(v.Result(code), offset.value) if code else None
 
 
@@ -82,7 +94,7 @@ def read(data: bytes, policy: v.Policy, word: int | None, /) -> tuple[int, int, 
     Fault."""
     arguments = _arguments(data, policy, word)
     rows, packet = _FewRows(), c.Packet()
-    if functions.dcsctp_read(*arguments, rows, _FEW, byref(packet)):
+    if bare.dcsctp_read(*arguments, byref(rows), size(_FEW), byref(packet)):
         raise v.Fault(v.Result(packet.code), packet.fault_offset)
     return arguments[2], packet.chunk_count, (rows, packet)
 
@@ -123,7 +135,7 @@ def check(data: Buffer, policy: v.Policy = _DEFAULT, *, word: int | None = None)
         fast.read(to_bytes(data), policy, word)
         return
     arguments = _arguments(to_bytes(data), policy, word)
-    if functions.dcsctp_check(*arguments):
+    if bare.dcsctp_check(*arguments):
         fault = _first_fault(arguments)
         assert fault is not None
         raise fault
@@ -188,7 +200,7 @@ def raw_items(data: Buffer) -> Iterator[tuple[v.RawChunk, tuple[v.RawParameter, 
     are; of a cause the code is the type."""
     data = to_bytes(data)
     for chunk in _chunks(data):
-        yield _raw_chunk(data, chunk), tuple(_placed(_raw_parameter(data, it), it) for it in _items(data, chunk))
+        yield _raw_chunk(data, chunk), tuple([_placed(_raw_parameter(data, it), it[1]) for it in _items(data, chunk)])
 
 
 # ---- without a packet around it
@@ -212,16 +224,18 @@ def read_chunk(data: Buffer) -> v.Chunk:
 def parameter(type: int, value: Buffer = b"") -> v.Parameter:
     """Returns the parameter of this type with this value: of its kind, or a RawParameter. It has them as its `type` and
     `value` again, with zeros in reserved bytes."""
-    return _parameter(*_item(number(type, 0xFFFF, "type"), to_bytes(value)))
+    it: v.Parameter = _parameter(*_item(number(type, 0xFFFF, "type"), to_bytes(value)))
+    return it
 
 
 def cause(code: int, value: Buffer = b"") -> v.Cause:
     """Returns the error cause of this code with this value, likewise."""
-    return _cause(*_item(number(code, 0xFFFF, "code"), to_bytes(value)))
+    it: v.Cause = _cause(*_item(number(code, 0xFFFF, "code"), to_bytes(value)))
+    return it
 
 
-def _item(type: int, value: bytes) -> tuple[bytes, c.Parameter]:
-    return value, c.Parameter(type, 0, len(value), len(value))
+def _item(type: int, value: bytes) -> "tuple[bytes, _Item]":
+    return value, (type, 0, len(value), len(value))
 
 
 class Packet:
@@ -307,24 +321,28 @@ def _chunks(data: bytes) -> Iterator[c.Chunk]:
         at = chunk.next
 
 
-def _value(data: bytes, part: c.Chunk | c.Parameter) -> bytes:
-    start: int = part.value_offset
-    return data[start : start + part.value_size]
+def _value(data: bytes, chunk: c.Chunk) -> bytes:
+    start: int = chunk.value_offset
+    return data[start : start + chunk.value_size]
 
 
-def _placed(part: _P, place: c.Chunk | c.Parameter) -> _P:
-    """The part, with its offset."""
-    part.offset = place.value_offset - 4
+def _placed(part: _P, start: int) -> _P:
+    """The part, with its offset, where its value starts."""
+    part.offset = start - 4
     return part
 
 
-def _each(function: Any, data: bytes, part: ctypes.Structure, new: Callable[[], Any]) -> Iterator[Any]:
-    """What a function reads at the indices 0, 1 .. as long as there is something."""
-    for index in count():
-        out = new()
-        if not function(data, len(data), byref(part), index, byref(out)):
-            return
-        yield out
+_ARRAYS = [c_uint8 * (1 << bits) for bits in range(21)]
+
+
+def _list(function: Any, data: bytes, part: Any, value_size: int, form: struct.Struct) -> Iterator[tuple[Any, ...]]:
+    """What a function writes of a list in one call, of a chunk or a parameter whose value has a size: items of this form."""
+    # (as many as the value has room for, where an item has four bytes at least, or is a number of two)
+    most = value_size >> 2 if form.size > 2 else value_size >> 1
+    bits = (most * form.size).bit_length()
+    out = (_ARRAYS[bits] if bits < len(_ARRAYS) else c_uint8 * (1 << bits))()
+    count = function(data, size(len(data)), part, out, size(most))
+    return form.iter_unpack(memoryview(out)[: count * form.size])
 
 
 def chunk_at(data: bytes, offset: int, /) -> v.Chunk:
@@ -338,17 +356,17 @@ def _of_rows(data: bytes, count: int, rows: Any) -> tuple[v.Chunk, ...]:
     """The chunks of a packet, of which these are the first rows."""
     if count > _FEW:
         rows = (c.Row * count)()
-        functions.dcsctp_read(data, len(data), 0, _POLICIES[True, False, False], rows, count, byref(c.Packet()))
+        bare.dcsctp_read(data, size(len(data)), 0, _POLICIES[True, False, False], byref(rows), size(count), byref(c.Packet()))
     return tuple([_ROWS.get(it[0], _rare_of)(data, it) for it in islice(c.ROW.iter_unpack(rows), count)])
 
 
 def _chunk(data: bytes, chunk: c.Chunk) -> v.Chunk:
     read = _CHUNKS.get(chunk.type)
-    return _placed(read and read(data, chunk) or _raw_chunk(data, chunk), chunk)
+    return _placed(read and read(data, chunk) or _raw_chunk(data, chunk), chunk.value_offset)
 
 
 def _raw_chunk(data: bytes, chunk: c.Chunk) -> v.RawChunk:
-    return _placed(v.RawChunk(chunk.type, chunk.flags, _value(data, chunk)), chunk)
+    return _placed(v.RawChunk(chunk.type, chunk.flags, _value(data, chunk)), chunk.value_offset)
 
 
 def _data(data: bytes, chunk: c.Chunk) -> v.Data | v.IData | None:
@@ -380,7 +398,7 @@ def _init(data: bytes, chunk: c.Chunk) -> v.Init | v.InitAck | None:
         out.outbound_streams,
         out.inbound_streams,
         out.initial_tsn,
-        _parameters(data, chunk),
+        _parameters(data, _items(data, chunk)),
     )
 
 
@@ -388,14 +406,13 @@ def _sack(data: bytes, chunk: c.Chunk) -> v.Sack | None:
     out = c.Sack()
     if not functions.dcsctp_sack(data, len(data), byref(chunk), byref(out)):
         return None
-    blocks = _each(functions.dcsctp_gap_ack_block, data, chunk, c.GapAckBlock)
-    duplicates = _each(functions.dcsctp_duplicate_tsn, data, chunk, c_uint32)
-    return v.Sack(
-        out.cumulative_tsn_ack,
-        out.a_rwnd,
-        tuple(v.GapAckBlock(it.start, it.end) for it in blocks),
-        tuple(it.value for it in duplicates),
-    )
+    return v.Sack(out.cumulative_tsn_ack, out.a_rwnd, *_sack_lists(data, byref(chunk), chunk.value_size))
+
+
+def _sack_lists(data: bytes, chunk: Any, size: int) -> tuple[tuple[v.GapAckBlock, ...], tuple[int, ...]]:
+    blocks = _list(bare.dcsctp_gap_ack_blocks, data, chunk, size, c.BLOCK)
+    duplicates = _list(bare.dcsctp_duplicate_tsns, data, chunk, size, c.U32)
+    return tuple(map(_block, blocks)), tuple(chain.from_iterable(duplicates))
 
 
 def _shutdown(data: bytes, chunk: c.Chunk) -> v.Shutdown | None:
@@ -408,11 +425,11 @@ def _forward_tsn(data: bytes, chunk: c.Chunk) -> v.ForwardTsn | v.IForwardTsn | 
     out = c.ForwardTsn()
     if not functions.dcsctp_forward_tsn(data, len(data), byref(chunk), byref(out)):
         return None
-    streams = _each(functions.dcsctp_skipped_stream, data, chunk, c.SkippedStream)
+    streams = _list(bare.dcsctp_skipped_streams, data, byref(chunk), chunk.value_size, c.SKIPPED)
     tsn: int = out.new_cumulative_tsn
     if chunk.type == v.ChunkType.FORWARD_TSN:
-        return v.ForwardTsn(tsn, tuple(v.SkippedStream(it.stream, it.ssn) for it in streams))
-    return v.IForwardTsn(tsn, tuple(v.SkippedIStream(it.stream, it.mid, it.is_unordered) for it in streams))
+        return v.ForwardTsn(tsn, tuple(v.SkippedStream(stream, ssn) for stream, ssn, _, _ in streams))
+    return v.IForwardTsn(tsn, tuple(v.SkippedIStream(stream, mid, bit) for stream, _, mid, bit in streams))
 
 
 def _tag_reflected(chunk: c.Chunk) -> bool:
@@ -425,18 +442,18 @@ _CHUNKS: dict[int, Callable[[bytes, c.Chunk], v.Chunk | None]] = {
     v.ChunkType.INIT: _init,
     v.ChunkType.INIT_ACK: _init,
     v.ChunkType.SACK: _sack,
-    v.ChunkType.HEARTBEAT: lambda data, chunk: v.Heartbeat(_parameters(data, chunk)),
-    v.ChunkType.HEARTBEAT_ACK: lambda data, chunk: v.HeartbeatAck(_parameters(data, chunk)),
-    v.ChunkType.ABORT: lambda data, chunk: v.Abort(_causes(data, chunk), _tag_reflected(chunk)),
+    v.ChunkType.HEARTBEAT: lambda data, chunk: v.Heartbeat(_parameters(data, _items(data, chunk))),
+    v.ChunkType.HEARTBEAT_ACK: lambda data, chunk: v.HeartbeatAck(_parameters(data, _items(data, chunk))),
+    v.ChunkType.ABORT: lambda data, chunk: v.Abort(_causes(data, _items(data, chunk)), _tag_reflected(chunk)),
     v.ChunkType.SHUTDOWN: _shutdown,
     v.ChunkType.SHUTDOWN_ACK: lambda data, chunk: None if chunk.value_size else v.ShutdownAck(),
-    v.ChunkType.ERROR: lambda data, chunk: v.OperationError(_causes(data, chunk)),
+    v.ChunkType.ERROR: lambda data, chunk: v.OperationError(_causes(data, _items(data, chunk))),
     v.ChunkType.COOKIE_ECHO: lambda data, chunk: v.CookieEcho(_value(data, chunk)),
     v.ChunkType.COOKIE_ACK: lambda data, chunk: None if chunk.value_size else v.CookieAck(),
     v.ChunkType.SHUTDOWN_COMPLETE: lambda data, chunk: (
         None if chunk.value_size else v.ShutdownComplete(_tag_reflected(chunk))
     ),
-    v.ChunkType.RE_CONFIG: lambda data, chunk: v.ReConfig(_parameters(data, chunk)),
+    v.ChunkType.RE_CONFIG: lambda data, chunk: v.ReConfig(_parameters(data, _items(data, chunk))),
     v.ChunkType.FORWARD_TSN: _forward_tsn,
     v.ChunkType.I_FORWARD_TSN: _forward_tsn,
 }
@@ -449,51 +466,39 @@ def _rare_of(data: bytes, row: tuple[Any, ...]) -> v.Chunk:
 
 
 def _data_of(data: bytes, row: tuple[Any, ...]) -> v.Data:
-    _, _, start, _, _, rest, size, _, _, tsn, _, _, _, _, ppid, stream, ssn, _, _, unordered, beginning, end, immediate = row
-    return v.Data(
-        offset=start - 4,
-        tsn=tsn,
-        stream=stream,
-        ssn=ssn,
-        ppid=ppid,
-        payload=data[rest : rest + size],
-        is_unordered=unordered,
-        is_beginning=beginning,
-        is_end=end,
-        immediate_ack=immediate,
-    )
+    it: v.Data = _new(v.Data)
+    (_, _, start, _, _, rest, size, _, _, it.tsn, _, _, _, _, it.ppid, it.stream, it.ssn, _, _, it.is_unordered, it.is_beginning,
+     it.is_end, it.immediate_ack) = row
+    it.offset, it.payload = start - 4, data[rest : rest + size]
+    return it
 
 
 def _i_data_of(data: bytes, row: tuple[Any, ...]) -> v.IData:
-    _, _, start, _, _, rest, size, _, _, tsn, _, _, mid, fsn, ppid, stream, _, _, _, unordered, beginning, end, immediate = row
-    return v.IData(
-        offset=start - 4,
-        tsn=tsn,
-        stream=stream,
-        mid=mid,
-        ppid=ppid,
-        fsn=fsn,
-        payload=data[rest : rest + size],
-        is_unordered=unordered,
-        is_beginning=beginning,
-        is_end=end,
-        immediate_ack=immediate,
-    )
+    it: v.IData = _new(v.IData)
+    (_, _, start, _, _, rest, size, _, _, it.tsn, _, _, it.mid, it.fsn, it.ppid, it.stream, _, _, _, it.is_unordered,
+     it.is_beginning, it.is_end, it.immediate_ack) = row
+    it.offset, it.payload = start - 4, data[rest : rest + size]
+    return it
 
 
 def _init_of(data: bytes, row: tuple[Any, ...]) -> v.Init | v.InitAck:
-    kind: type[v.Init | v.InitAck] = v.Init if row[0] == v.ChunkType.INIT else v.InitAck
-    tsn, a_rwnd, tag = row[9:12]
-    return kind(tag, a_rwnd, row[17], row[18], tsn, _parameters(data, c.Chunk(*row[:5])), offset=row[2] - 4)
+    it: v.Init | v.InitAck = _new(v.Init if row[0] == v.ChunkType.INIT else v.InitAck)
+    items = _list(bare.dcsctp_parameters, data, c.CHUNK.pack(*row[:5]), row[3], c.PARAMETER)
+    it.initial_tsn, it.a_rwnd, it.initiate_tag = row[9:12]
+    it.outbound_streams, it.inbound_streams = row[17:19]
+    it.offset, it.parameters = row[2] - 4, _parameters(data, items)
+    return it
 
 
 def _sack_of(data: bytes, row: tuple[Any, ...]) -> v.Sack:
-    _, _, start, _, _, rest, _, count, duplicates, tsn, a_rwnd, *_ = row
-    after = rest + 4 * count
-    blocks = tuple(map(_block, struct.iter_unpack(">HH", data[rest:after])))
-    return v.Sack(tsn, a_rwnd, blocks, struct.unpack_from(f">{duplicates}I", data, after), offset=start - 4)
+    it: v.Sack = _new(v.Sack)
+    it.cumulative_tsn_ack, it.a_rwnd = row[9:11]
+    it.blocks, it.duplicates = _sack_lists(data, c.CHUNK.pack(*row[:5]), row[3])
+    it.offset = row[2] - 4
+    return it
 
 
+_new: Any = object.__new__
 _block: Any = partial(tuple.__new__, v.GapAckBlock)
 _ROWS: dict[int, Callable[[bytes, tuple[Any, ...]], v.Chunk]] = {
     v.ChunkType.DATA: _data_of,
@@ -506,59 +511,61 @@ _ROWS: dict[int, Callable[[bytes, tuple[Any, ...]], v.Chunk]] = {
 
 # ---- parameters and error causes
 
-
-def _items(data: bytes, chunk: c.Chunk) -> Iterator[c.Parameter]:
-    at = functions.dcsctp_list_offset(byref(chunk))
-    while True:
-        item = c.Parameter()
-        if not functions.dcsctp_parameter_at(data, len(data), byref(chunk), at, byref(item)):
-            return
-        yield item
-        at = item.next
+_Item: TypeAlias = tuple[Any, ...]  # the fields of a Parameter
 
 
-def _parameters(data: bytes, chunk: c.Chunk) -> tuple[v.Parameter, ...]:
-    return tuple(_placed(_parameter(data, it), it) for it in _items(data, chunk))
+def _items(data: bytes, chunk: c.Chunk) -> Iterator[_Item]:
+    return _list(bare.dcsctp_parameters, data, byref(chunk), chunk.value_size, c.PARAMETER)
 
 
-def _causes(data: bytes, chunk: c.Chunk) -> tuple[v.Cause, ...]:
-    return tuple(_placed(_cause(data, it), it) for it in _items(data, chunk))
+_Kinds: TypeAlias = dict[int, Callable[[bytes, _Item], Any]]
 
 
-def _parameter(data: bytes, item: c.Parameter) -> v.Parameter:
-    read = _PARAMETERS.get(item.type)
-    return read and read(data, item) or _raw_parameter(data, item)
+def _part(kinds: _Kinds, raw: Callable[[bytes, _Item], Any], data: bytes, item: _Item) -> Any:
+    """A parameter or an error cause: of its kind, if it has one and its value is one of it, or else as it is."""
+    return kinds.get(item[0], raw)(data, item) or raw(data, item)
 
 
-def _raw_parameter(data: bytes, item: c.Parameter) -> v.RawParameter:
-    return v.RawParameter(item.type, _value(data, item))
+def _parts(kinds: _Kinds, raw: Callable[[bytes, _Item], Any], data: bytes, items: Iterator[_Item]) -> tuple[Any, ...]:
+    parts = []
+    for it in items:
+        part = kinds.get(it[0], raw)(data, it) or raw(data, it)
+        part.offset = it[1] - 4
+        parts.append(part)
+    return tuple(parts)
 
 
-def _cause(data: bytes, item: c.Parameter) -> v.Cause:
-    read = _CAUSES.get(item.type)
-    return read and read(data, item) or v.RawCause(item.type, _value(data, item))
+def _raw_parameter(data: bytes, item: _Item) -> v.RawParameter:
+    it: v.RawParameter = _new(v.RawParameter)
+    it.type, start, size, _ = item
+    it.value, it.offset = data[start : start + size], None
+    return it
 
 
-def _number(data: bytes, item: c.Parameter) -> int | None:
+def _raw_cause(data: bytes, item: _Item) -> v.RawCause:
+    return v.RawCause(item[0], _item_value(data, item))
+
+
+def _item_value(data: bytes, item: _Item) -> bytes:
+    _, start, size, _ = item
+    return data[start : start + size]
+
+
+def _number(kind: Callable[[int], _P], data: bytes, item: _Item) -> _P | None:
     out = c_uint32()
-    return out.value if functions.dcsctp_number(data, len(data), byref(item), byref(out)) else None
+    found = functions.dcsctp_number(data, len(data), byref(c.Parameter(*item)), byref(out))
+    return kind(out.value) if found else None
 
 
-def _zero_checksum_acceptable(data: bytes, item: c.Parameter) -> v.ZeroChecksumAcceptable | None:
-    method = _number(data, item)
-    return None if method is None else v.ZeroChecksumAcceptable(method)
+def _shorts(function: Any, data: bytes, item: _Item) -> tuple[int, ...]:
+    return tuple(chain.from_iterable(_list(function, data, c.PARAMETER.pack(*item), item[2], c.U16)))
 
 
-def _no_user_data(data: bytes, item: c.Parameter) -> v.NoUserData | None:
-    tsn = _number(data, item)
-    return None if tsn is None else v.NoUserData(tsn)
-
-
-def _re_config(data: bytes, item: c.Parameter) -> v.Parameter | None:
+def _re_config(data: bytes, item: _Item) -> v.Parameter | None:
     out = c.ReConfig()
-    if not functions.dcsctp_re_config(data, len(data), byref(item), byref(out)):
+    if not functions.dcsctp_re_config(data, len(data), byref(c.Parameter(*item)), byref(out)):
         return None
-    streams = tuple(it.value for it in _each(functions.dcsctp_reset_stream, data, item, c_uint16))
+    streams = _shorts(bare.dcsctp_reset_streams, data, item)
     match v.ParameterType(out.type):
         case v.ParameterType.OUTGOING_SSN_RESET:
             return v.OutgoingSsnReset(out.request_number, out.response_number, out.last_tsn, streams)
@@ -576,31 +583,33 @@ def _re_config(data: bytes, item: c.Parameter) -> v.Parameter | None:
     return None
 
 
-def _missing_mandatory_parameter(data: bytes, item: c.Parameter) -> v.MissingMandatoryParameter | None:
-    types = tuple(it.value for it in _each(functions.dcsctp_missing_parameter, data, item, c_uint16))
-    return v.MissingMandatoryParameter(types) if item.value_size == 4 + 2 * len(types) else None
+def _missing_mandatory_parameter(data: bytes, item: _Item) -> v.MissingMandatoryParameter | None:
+    types = _shorts(bare.dcsctp_missing_parameters, data, item)
+    return v.MissingMandatoryParameter(types) if item[2] == 4 + 2 * len(types) else None
 
 
-_PARAMETERS: dict[int, Callable[[bytes, c.Parameter], v.Parameter | None]] = {
-    v.ParameterType.HEARTBEAT_INFO: lambda data, item: v.HeartbeatInfo(_value(data, item)),
-    v.ParameterType.STATE_COOKIE: lambda data, item: v.StateCookie(_value(data, item)),
+_PARAMETERS: _Kinds = {
+    v.ParameterType.HEARTBEAT_INFO: lambda data, item: v.HeartbeatInfo(_item_value(data, item)),
+    v.ParameterType.STATE_COOKIE: lambda data, item: v.StateCookie(_item_value(data, item)),
     v.ParameterType.OUTGOING_SSN_RESET: _re_config,
     v.ParameterType.INCOMING_SSN_RESET: _re_config,
     v.ParameterType.SSN_TSN_RESET: _re_config,
     v.ParameterType.RECONFIGURATION_RESPONSE: _re_config,
     v.ParameterType.ADD_OUTGOING_STREAMS: _re_config,
     v.ParameterType.ADD_INCOMING_STREAMS: _re_config,
-    v.ParameterType.ZERO_CHECKSUM_ACCEPTABLE: _zero_checksum_acceptable,
-    v.ParameterType.SUPPORTED_EXTENSIONS: lambda data, item: v.SupportedExtensions(_value(data, item)),
-    v.ParameterType.FORWARD_TSN_SUPPORTED: lambda data, item: None if item.value_size else v.ForwardTsnSupported(),
+    v.ParameterType.ZERO_CHECKSUM_ACCEPTABLE: partial(_number, v.ZeroChecksumAcceptable),
+    v.ParameterType.SUPPORTED_EXTENSIONS: lambda data, item: v.SupportedExtensions(_item_value(data, item)),
+    v.ParameterType.FORWARD_TSN_SUPPORTED: lambda data, item: None if item[2] else v.ForwardTsnSupported(),
 }
-_CAUSES: dict[int, Callable[[bytes, c.Parameter], v.Cause | None]] = {
+_CAUSES: _Kinds = {
     v.CauseCode.MISSING_MANDATORY_PARAMETER: _missing_mandatory_parameter,
-    v.CauseCode.UNRECOGNIZED_CHUNK: lambda data, item: v.UnrecognizedChunk(_value(data, item)),
-    v.CauseCode.NO_USER_DATA: _no_user_data,
+    v.CauseCode.UNRECOGNIZED_CHUNK: lambda data, item: v.UnrecognizedChunk(_item_value(data, item)),
+    v.CauseCode.NO_USER_DATA: partial(_number, v.NoUserData),
     v.CauseCode.COOKIE_RECEIVED_WHILE_SHUTTING_DOWN: lambda data, item: (
-        None if item.value_size else v.CookieReceivedWhileShuttingDown()
+        None if item[2] else v.CookieReceivedWhileShuttingDown()
     ),
-    v.CauseCode.USER_INITIATED_ABORT: lambda data, item: v.UserInitiatedAbort(_value(data, item)),
-    v.CauseCode.PROTOCOL_VIOLATION: lambda data, item: v.ProtocolViolation(_value(data, item)),
+    v.CauseCode.USER_INITIATED_ABORT: lambda data, item: v.UserInitiatedAbort(_item_value(data, item)),
+    v.CauseCode.PROTOCOL_VIOLATION: lambda data, item: v.ProtocolViolation(_item_value(data, item)),
 }
+_parameter, _parameters = (partial(it, _PARAMETERS, _raw_parameter) for it in (_part, _parts))
+_cause, _causes = (partial(it, _CAUSES, _raw_cause) for it in (_part, _parts))

@@ -10,37 +10,40 @@ from typing import Any
 
 from . import _library as c
 from . import _values as v
-from ._library import functions
-from ._reading import Buffer, chunk_at, fast, number, read, start_of, to_bytes
+from ._library import bare, functions
+from ._reading import Buffer, chunk_at, fast, number, read, size, start_of, to_bytes
 
 _SMALL = 2048
 
 
+# (what most are is looked at here, in less time)
+
+
 def _u8(value: int, name: str) -> int:
-    return number(value, 0xFF, name)
+    return value if type(value) is int and 0 <= value <= 0xFF else number(value, 0xFF, name)
 
 
 def _u16(value: int, name: str) -> int:
-    return number(value, 0xFFFF, name)
+    return value if type(value) is int and 0 <= value <= 0xFFFF else number(value, 0xFFFF, name)
 
 
 def _u32(value: int, name: str) -> int:
-    return number(value, 0xFFFFFFFF, name)
+    return value if type(value) is int and 0 <= value <= 0xFFFFFFFF else number(value, 0xFFFFFFFF, name)
 
 
-def _array(kind: Any, items: Sequence[Any]) -> tuple[Any, int]:
+def _array(kind: Any, items: Sequence[Any]) -> tuple[Any, c_size_t]:
     """The two arguments of C for a list."""
-    return ((kind * len(items))(*items) if items else None), len(items)
+    return ((kind * len(items))(*items) if items else None), size(len(items))
 
 
-def _numbers(kind: Any, check: Callable[[int, str], int], values: Iterable[int], name: str) -> tuple[Any, int]:
+def _numbers(kind: Any, check: Callable[[int, str], int], values: Iterable[int], name: str) -> tuple[Any, c_size_t]:
     return _array(kind, [check(it, name) for it in values])
 
 
-def _blocks(blocks: Iterable[tuple[int, int]]) -> tuple[Any, int]:
+def _blocks(blocks: Iterable[tuple[int, int]]) -> tuple[Any, c_size_t]:
     numbers = [it for start, end in blocks for it in (start, end)]
     if not numbers:
-        return None, 0
+        return None, size(0)
     array = (c.GapAckBlock * (len(numbers) // 2))()
     try:
         struct.pack_into(f"@{len(numbers)}H", array, 0, *numbers)
@@ -48,12 +51,12 @@ def _blocks(blocks: Iterable[tuple[int, int]]) -> tuple[Any, int]:
         for it in range(0, len(numbers), 2):
             _u16(numbers[it], "a block's start"), _u16(numbers[it + 1], "a block's end")
         raise
-    return array, len(array)
+    return array, size(len(array))
 
 
-def _bytes(data: Buffer) -> tuple[bytes, int]:
+def _bytes(data: Buffer) -> tuple[bytes, c_size_t]:
     data = to_bytes(data)
-    return data, len(data)
+    return data, size(len(data))
 
 
 # ---- changing a packet
@@ -85,8 +88,8 @@ def set_tag(data: Buffer, verification_tag: int) -> bytes:
 def clean_blocks(blocks: Iterable[tuple[int, int]]) -> list[v.GapAckBlock]:
     """Returns gap ack blocks in order, with those joined that overlap or touch, and without those that end before their
     start: the fewest blocks that cover the same offsets, for a SACK that is to be sent (RFC 9260 section 3.3.4)."""
-    array, size = _blocks(blocks)
-    left = functions.dcsctp_clean_blocks(array, size)
+    array, count = _blocks(blocks)
+    left = functions.dcsctp_clean_blocks(array, count)
     return [v.GapAckBlock(it.start, it.end) for it in array[:left]] if array else []
 
 
@@ -115,7 +118,7 @@ class PacketBuilder:
     is atomic, in any number of threads; but a list that is written call by call, by a ChunkWriter, belongs to one thread:
     no other may add to the packet, or take a chunk back, until it is complete. `add` writes a whole list in one call."""
 
-    __slots__ = ("__dict__", "__weakref__", "_is_taken", "_last", "_limit", "_lock", "_packet", "_size", "_start")
+    __slots__ = ("__dict__", "__weakref__", "_end", "_is_taken", "_last", "_limit", "_lock", "_packet", "_size", "_start")
 
     def __init__(
         self, source_port: int, destination_port: int, verification_tag: int, *, limit: int = v.MAX_PACKET_SIZE
@@ -123,7 +126,9 @@ class PacketBuilder:
         """Begins a packet of at most `limit` bytes, and never more than 65,532; NoRoom where the limit is below 12."""
         self._limit = max(0, min(limit, v.MAX_PACKET_SIZE))
         self._packet = bytearray(min(self._limit, _SMALL))
+        # What each function that writes is called with first, once one was: the memory, its size, and where `_end` is.
         self._start: Any = None
+        self._end = c_size_t()
         self._size = 0
         # The token of the writer whose chunk is the packet's last one.
         self._last: object = None
@@ -136,7 +141,7 @@ class PacketBuilder:
         limit. One builder for many packets takes less time than one for each."""
         if fast is None or not fast.begin(self, source_port, destination_port, verification_tag):
             self._call(
-                functions.dcsctp_begin,
+                bare.dcsctp_begin,
                 _u16(source_port, "source_port"),
                 _u16(destination_port, "destination_port"),
                 _u32(verification_tag, "verification_tag"),
@@ -150,11 +155,11 @@ class PacketBuilder:
         """What is alone calls this."""
         while True:
             if self._start is None:
-                self._start = start_of(self._packet)
-            size = c_size_t(self._size)
-            code = function(self._start, len(self._packet), byref(size), *arguments)
+                self._start = start_of(self._packet), size(len(self._packet)), byref(self._end)
+            self._end.value = self._size
+            code = function(*self._start, *arguments)
             if code == 0:
-                self._size = size.value
+                self._size = self._end.value
                 return
             if code != v.Result.NO_ROOM or len(self._packet) == self._limit:
                 break
@@ -162,7 +167,7 @@ class PacketBuilder:
             packet[: len(self._packet)] = self._packet
             self._packet, self._start = packet, None
         text = f"{v.Result(code).text}: {function.__name__.removeprefix('dcsctp_')}"
-        value = "".join(f" of {len(it)} bytes" for it in arguments if isinstance(it, bytes))
+        value = "".join([f" of {len(it)} bytes" for it in arguments if isinstance(it, bytes)][-1:])
         raise v.write_error(code, f"{text}{value}, after {self._size} of at most {self._limit}")
 
     def _call(self, function: Any, *arguments: Any) -> None:
@@ -200,7 +205,7 @@ class PacketBuilder:
         if sealed is not None:
             return sealed
         with self._alone():
-            functions.dcsctp_seal(self._start or start_of(self._packet), self._size)
+            bare.dcsctp_seal(self._start[0] if self._start else start_of(self._packet), size(self._size))
             sealed = bytes(memoryview(self._packet)[: self._size])
             self._packet[8:12] = bytes(4)
             return sealed
@@ -220,49 +225,16 @@ class PacketBuilder:
                 raise
 
     def _add(self, chunk: v.Chunk) -> None:
-        match chunk:
-            case v.Data():
-                self._data(functions.dcsctp_add_data, chunk, chunk.payload, ssn=chunk.ssn)
-            case v.IData():
-                self._data(functions.dcsctp_add_i_data, chunk, chunk.payload, mid=chunk.mid, fsn=chunk.fsn)
-            case v.Init():
-                self._init(functions.dcsctp_add_init, chunk)._parameters(chunk.parameters)
-            case v.InitAck():
-                self._init(functions.dcsctp_add_init_ack, chunk)._parameters(chunk.parameters)
-            case v.Sack():
-                self.sack(chunk.cumulative_tsn_ack, chunk.a_rwnd, chunk.blocks, chunk.duplicates)
-            case v.Heartbeat():
-                self.chunk(v.ChunkType.HEARTBEAT)._parameters(chunk.parameters)
-            case v.HeartbeatAck():
-                self.chunk(v.ChunkType.HEARTBEAT_ACK)._parameters(chunk.parameters)
-            case v.Abort():
-                self.abort(tag_reflected=chunk.tag_reflected)._causes(chunk.causes)
-            case v.Shutdown():
-                self.shutdown(chunk.cumulative_tsn_ack)
-            case v.ShutdownAck():
-                self.shutdown_ack()
-            case v.OperationError():
-                self.error()._causes(chunk.causes)
-            case v.CookieEcho():
-                self.cookie_echo(chunk.cookie)
-            case v.CookieAck():
-                self.cookie_ack()
-            case v.ShutdownComplete():
-                self.shutdown_complete(tag_reflected=chunk.tag_reflected)
-            case v.ReConfig():
-                self.re_config()._parameters(chunk.parameters)
-            case v.ForwardTsn():
-                self.forward_tsn(chunk.new_cumulative_tsn, chunk.streams)
-            case v.IForwardTsn():
-                self.i_forward_tsn(chunk.new_cumulative_tsn, chunk.streams)
-            case v.RawChunk():
-                self.chunk(chunk.type, chunk.flags, chunk.value)
-            case _:
-                raise TypeError(f"{type(chunk).__name__} is no chunk")
+        for kind in type(chunk).__mro__:
+            add = _ADD.get(kind)
+            if add is not None:
+                add(self, chunk)
+                return
+        raise TypeError(f"{type(chunk).__name__} is no chunk")
 
     def chunk(self, type: int, flags: int = 0, value: Buffer = b"") -> "ChunkWriter":
         """Adds a chunk of any type (RFC 9260 section 3.2), to which parameters or error causes can be added."""
-        return self._list(functions.dcsctp_add_chunk, _u8(type, "type"), _u8(flags, "flags"), *_bytes(value))
+        return self._list(bare.dcsctp_add_chunk, _u8(type, "type"), _u8(flags, "flags"), *_bytes(value))
 
     def data(
         self,
@@ -326,16 +298,16 @@ class PacketBuilder:
     def _data(
         self, function: Any, chunk: v.Data | v.IData, payload: Buffer, *, ssn: int = 0, mid: int = 0, fsn: int = 0
     ) -> None:
-        numbers = c.Data()
         bits = chunk.is_unordered, chunk.is_beginning, chunk.is_end, chunk.immediate_ack
         try:
-            c.DATA.pack_into(numbers, 0, chunk.tsn, mid, fsn, chunk.ppid, chunk.stream, ssn, *bits, 0, 0)
+            numbers = c.DATA.pack(chunk.tsn, mid, fsn, chunk.ppid, chunk.stream, ssn, *bits, 0, 0)
         except struct.error:  # (not all have a place: what is raised says which)
             for value, name in ((chunk.tsn, "tsn"), (mid, "mid"), (fsn, "fsn"), (chunk.ppid, "ppid")):
                 _u32(value, name)
             _u16(chunk.stream, "stream"), _u16(ssn, "ssn")
             raise
-        self._call(function, byref(numbers), *_bytes(payload))
+        self._write(function, numbers, *_bytes(payload))
+        self._last = None
 
     def sack(
         self,
@@ -346,7 +318,7 @@ class PacketBuilder:
     ) -> None:
         """Adds a SACK (RFC 9260 section 3.3.4). `clean_blocks` brings blocks into order."""
         self._call(
-            functions.dcsctp_add_sack,
+            bare.dcsctp_add_sack,
             _u32(cumulative_tsn_ack, "cumulative_tsn_ack"),
             _u32(a_rwnd, "a_rwnd"),
             *_blocks(blocks),
@@ -358,14 +330,14 @@ class PacketBuilder:
     ) -> "ChunkWriter":
         """Adds INIT (RFC 9260 section 3.3.2), to which parameters can be added. It goes alone, under tag 0."""
         chunk = v.Init(initiate_tag, a_rwnd, outbound_streams, inbound_streams, initial_tsn)
-        return self._init(functions.dcsctp_add_init, chunk)
+        return self._init(bare.dcsctp_add_init, chunk)
 
     def init_ack(
         self, *, initiate_tag: int, a_rwnd: int, outbound_streams: int, inbound_streams: int, initial_tsn: int
     ) -> "ChunkWriter":
         """Adds INIT ACK (RFC 9260 section 3.3.3). A StateCookie has to be added."""
         chunk = v.InitAck(initiate_tag, a_rwnd, outbound_streams, inbound_streams, initial_tsn)
-        return self._init(functions.dcsctp_add_init_ack, chunk)
+        return self._init(bare.dcsctp_add_init_ack, chunk)
 
     def _init(self, function: Any, chunk: v.Init | v.InitAck) -> "ChunkWriter":
         numbers = c.Init(
@@ -379,19 +351,19 @@ class PacketBuilder:
 
     def cookie_echo(self, cookie: Buffer) -> None:
         """Adds COOKIE ECHO (RFC 9260 section 3.3.11)."""
-        self._call(functions.dcsctp_add_cookie_echo, *_bytes(cookie))
+        self._call(bare.dcsctp_add_cookie_echo, *_bytes(cookie))
 
     def cookie_ack(self) -> None:
         """Adds COOKIE ACK (RFC 9260 section 3.3.12)."""
-        self._call(functions.dcsctp_add_cookie_ack)
+        self._call(bare.dcsctp_add_cookie_ack)
 
     def heartbeat(self, info: Buffer) -> "ChunkWriter":
         """Adds HEARTBEAT with this Heartbeat Info (RFC 9260 section 3.3.5)."""
-        return self._list(functions.dcsctp_add_heartbeat, False, *_bytes(info))
+        return self._list(bare.dcsctp_add_heartbeat, False, *_bytes(info))
 
     def heartbeat_ack(self, info: Buffer) -> "ChunkWriter":
         """Adds HEARTBEAT ACK with this Heartbeat Info (RFC 9260 section 3.3.6)."""
-        return self._list(functions.dcsctp_add_heartbeat, True, *_bytes(info))
+        return self._list(bare.dcsctp_add_heartbeat, True, *_bytes(info))
 
     def abort(self, reason: str | Buffer | None = None, *, tag_reflected: bool = False) -> "ChunkWriter":
         """Adds ABORT (RFC 9260 section 3.3.7), to which error causes can be added; with a reason it has the cause
@@ -399,7 +371,7 @@ class PacketBuilder:
         if reason is None:
             return self.chunk(v.ChunkType.ABORT, int(bool(tag_reflected)))
         encoded = reason.encode(errors="surrogatepass") if isinstance(reason, str) else reason
-        return self._list(functions.dcsctp_add_abort, bool(tag_reflected), *_bytes(encoded))
+        return self._list(bare.dcsctp_add_abort, bool(tag_reflected), *_bytes(encoded))
 
     def error(self) -> "ChunkWriter":
         """Adds ERROR (RFC 9260 section 3.3.10), to which at least one error cause has to be added."""
@@ -407,15 +379,15 @@ class PacketBuilder:
 
     def shutdown(self, cumulative_tsn_ack: int) -> None:
         """Adds SHUTDOWN (RFC 9260 section 3.3.8)."""
-        self._call(functions.dcsctp_add_shutdown, _u32(cumulative_tsn_ack, "cumulative_tsn_ack"))
+        self._call(bare.dcsctp_add_shutdown, _u32(cumulative_tsn_ack, "cumulative_tsn_ack"))
 
     def shutdown_ack(self) -> None:
         """Adds SHUTDOWN ACK (RFC 9260 section 3.3.9)."""
-        self._call(functions.dcsctp_add_shutdown_ack)
+        self._call(bare.dcsctp_add_shutdown_ack)
 
     def shutdown_complete(self, *, tag_reflected: bool = False) -> None:
         """Adds SHUTDOWN COMPLETE (RFC 9260 section 3.3.13)."""
-        self._call(functions.dcsctp_add_shutdown_complete, bool(tag_reflected))
+        self._call(bare.dcsctp_add_shutdown_complete, bool(tag_reflected))
 
     def re_config(self) -> "ChunkWriter":
         """Adds RE-CONFIG (RFC 6525 section 3.1), to which one or two parameters have to be added."""
@@ -425,7 +397,7 @@ class PacketBuilder:
         """Adds FORWARD-TSN (RFC 3758 section 3.2); of each stream the number and the SSN."""
         skipped = [c.SkippedStream(_u16(stream, "stream"), _u16(ssn, "ssn"), 0, False) for stream, ssn in streams]
         self._call(
-            functions.dcsctp_add_forward_tsn,
+            bare.dcsctp_add_forward_tsn,
             _u32(new_cumulative_tsn, "new_cumulative_tsn"),
             *_array(c.SkippedStream, skipped),
         )
@@ -438,7 +410,7 @@ class PacketBuilder:
             for stream, mid, is_unordered in streams
         ]
         self._call(
-            functions.dcsctp_add_i_forward_tsn,
+            bare.dcsctp_add_i_forward_tsn,
             _u32(new_cumulative_tsn, "new_cumulative_tsn"),
             *_array(c.SkippedStream, skipped),
         )
@@ -463,6 +435,28 @@ class _Alone:
 
 if fast is not None:
     fast.prepare(read, chunk_at, PacketBuilder, v)
+
+# How each kind is added by one that is alone.
+_ADD: dict[type, Callable[[PacketBuilder, Any], object]] = {
+    v.Data: lambda to, it: to._data(bare.dcsctp_add_data, it, it.payload, ssn=it.ssn),
+    v.IData: lambda to, it: to._data(bare.dcsctp_add_i_data, it, it.payload, mid=it.mid, fsn=it.fsn),
+    v.Init: lambda to, it: to._init(bare.dcsctp_add_init, it)._parameters(it.parameters),
+    v.InitAck: lambda to, it: to._init(bare.dcsctp_add_init_ack, it)._parameters(it.parameters),
+    v.Sack: lambda to, it: to.sack(it.cumulative_tsn_ack, it.a_rwnd, it.blocks, it.duplicates),
+    v.Heartbeat: lambda to, it: to.chunk(v.ChunkType.HEARTBEAT)._parameters(it.parameters),
+    v.HeartbeatAck: lambda to, it: to.chunk(v.ChunkType.HEARTBEAT_ACK)._parameters(it.parameters),
+    v.Abort: lambda to, it: to.abort(tag_reflected=it.tag_reflected)._causes(it.causes),
+    v.Shutdown: lambda to, it: to.shutdown(it.cumulative_tsn_ack),
+    v.ShutdownAck: lambda to, it: to.shutdown_ack(),
+    v.OperationError: lambda to, it: to.error()._causes(it.causes),
+    v.CookieEcho: lambda to, it: to.cookie_echo(it.cookie),
+    v.CookieAck: lambda to, it: to.cookie_ack(),
+    v.ShutdownComplete: lambda to, it: to.shutdown_complete(tag_reflected=it.tag_reflected),
+    v.ReConfig: lambda to, it: to.re_config()._parameters(it.parameters),
+    v.ForwardTsn: lambda to, it: to.forward_tsn(it.new_cumulative_tsn, it.streams),
+    v.IForwardTsn: lambda to, it: to.i_forward_tsn(it.new_cumulative_tsn, it.streams),
+    v.RawChunk: lambda to, it: to.chunk(it.type, it.flags, it.value),
+}
 
 
 class ChunkWriter:
@@ -492,7 +486,7 @@ class ChunkWriter:
         with self._builder._alone():
             if self._builder._last is not self._token:
                 raise _not_last()
-            self._builder._write(function, self._start, *arguments)
+            self._builder._write(function, size(self._start), *arguments)
 
     def _parameters(self, parameters: Iterable[v.Parameter]) -> None:
         for it in parameters:
@@ -503,17 +497,19 @@ class ChunkWriter:
             self.cause(it)
 
     def _item(self, type: int, value: Buffer = b"") -> None:
-        self._add(functions.dcsctp_add_parameter, _u16(type, "type"), *_bytes(value))
+        self._add(bare.dcsctp_add_parameter, _u16(type, "type"), *_bytes(value))
 
     def _number(self, type: int, value: int, name: str) -> None:
-        self._add(functions.dcsctp_add_number, type, _u32(value, name))
+        self._add(bare.dcsctp_add_number, type, _u32(value, name))
 
     def _re_config(self, values: c.ReConfig, streams: Iterable[int] = ()) -> None:
-        self._add(functions.dcsctp_add_re_config, byref(values), *_numbers(c_uint16, _u16, streams, "a stream"))
+        self._add(bare.dcsctp_add_re_config, byref(values), *_numbers(c_uint16, _u16, streams, "a stream"))
 
     def parameter(self, parameter: v.Parameter) -> "ChunkWriter":
         """Adds a parameter (RFC 9260 section 3.2.1), and returns this."""
         match parameter:
+            case v.RawParameter():
+                self._item(parameter.type, parameter.value)
             case v.HeartbeatInfo():
                 self._item(v.ParameterType.HEARTBEAT_INFO, parameter.info)
             case v.StateCookie():
@@ -554,8 +550,6 @@ class ChunkWriter:
                 self._item(v.ParameterType.SUPPORTED_EXTENSIONS, parameter.chunk_types)
             case v.ForwardTsnSupported():
                 self._item(v.ParameterType.FORWARD_TSN_SUPPORTED)
-            case v.RawParameter():
-                self._item(parameter.type, parameter.value)
             case _:
                 raise TypeError(f"{type(parameter).__name__} is no parameter")
         return self
@@ -572,7 +566,7 @@ class ChunkWriter:
         """Adds an error cause (RFC 9260 section 3.3.10), and returns this."""
         match cause:
             case v.MissingMandatoryParameter():
-                self._add(functions.dcsctp_add_missing_parameters, *_numbers(c_uint16, _u16, cause.types, "a type"))
+                self._add(bare.dcsctp_add_missing_parameters, *_numbers(c_uint16, _u16, cause.types, "a type"))
             case v.UnrecognizedChunk():
                 self._item(v.CauseCode.UNRECOGNIZED_CHUNK, cause.chunk)
             case v.NoUserData():
