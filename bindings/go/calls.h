@@ -134,18 +134,19 @@ READS(forward_tsn, struct dcsctp_forward_tsn, OF_CHUNK, &chunk)
 READS(number, uint32_t, OF_ITEM, &item)
 READS(re_config, struct dcsctp_re_config, OF_ITEM, &item)
 
-/* The items of a list, as far as there is place, and how many there are. */
-#define LISTS(name, owner, type)                                                                                       \
-    static inline size_t go_##name(const uint8_t *bytes, size_t length, struct owner of, type *items, size_t count)    \
+/* The items of a list, as far as there is place, and how many there are. (A type of its own for `items` Go 1.19 can't compile under
+   -d=checkptr.) */
+#define LISTS(name, owner)                                                                                             \
+    static inline size_t go_##name(const uint8_t *bytes, size_t length, struct owner of, void *items, size_t count)    \
     {                                                                                                                  \
         return dcsctp_##name(bytes, length, &of, items, count);                                                        \
     }
-LISTS(gap_ack_blocks, dcsctp_chunk, struct dcsctp_gap_ack_block)
-LISTS(duplicate_tsns, dcsctp_chunk, uint32_t)
-LISTS(skipped_streams, dcsctp_chunk, struct dcsctp_skipped_stream)
-LISTS(parameters, dcsctp_chunk, struct dcsctp_parameter)
-LISTS(reset_streams, dcsctp_parameter, uint16_t)
-LISTS(missing_parameters, dcsctp_parameter, uint16_t)
+LISTS(gap_ack_blocks, dcsctp_chunk)
+LISTS(duplicate_tsns, dcsctp_chunk)
+LISTS(skipped_streams, dcsctp_chunk)
+LISTS(parameters, dcsctp_chunk)
+LISTS(reset_streams, dcsctp_parameter)
+LISTS(missing_parameters, dcsctp_parameter)
 
 struct go_header {
     bool is_there;

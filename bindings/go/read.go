@@ -5,7 +5,10 @@ package davgyuti
 // #include "calls.h"
 import "C"
 
-import "fmt"
+import (
+	"fmt"
+	"unsafe"
+)
 
 // FirstChunk is the offset of a packet's first chunk: the size of the common header.
 const FirstChunk = C.DCSCTP_FIRST_CHUNK
@@ -196,13 +199,13 @@ func (it *Iterator[T]) Slice() []T {
 }
 
 // listed goes over a list that C writes in one call, and whose length it returns; both calls are of what the first Next finds.
-func listed[T any](fill func(items []T) C.size_t) *Iterator[T] {
+func listed[T any](fill func(to unsafe.Pointer, room C.size_t) C.size_t) *Iterator[T] {
 	var items []T
 	isRead := false
 	return &Iterator[T]{read: func() (value T, isThere bool) {
 		if !isRead {
-			items, isRead = make([]T, fill(nil)), true
-			if count := int(fill(items)); count < len(items) {
+			items, isRead = make([]T, fill(nil, 0)), true
+			if count := int(fill(first(items), C.size_t(len(items)))); count < len(items) {
 				items = items[:count] // (the bytes were changed in between)
 			}
 		}
@@ -380,16 +383,16 @@ func (chunk Chunk) SACK() (SACK, bool) {
 // GapAckBlocks goes over the gap ack blocks of a SACK; another type has none.
 func (chunk Chunk) GapAckBlocks() *Iterator[GapAckBlock] {
 	bytes, length, c := chunk.inC()
-	return listed(func(blocks []GapAckBlock) C.size_t {
-		return C.go_gap_ack_blocks(bytes, length, c, blocksOf(blocks), C.size_t(len(blocks)))
+	return listed[GapAckBlock](func(to unsafe.Pointer, room C.size_t) C.size_t {
+		return C.go_gap_ack_blocks(bytes, length, c, to, room)
 	})
 }
 
 // DuplicateTSNs goes over the duplicate TSNs of a SACK; another type has none.
 func (chunk Chunk) DuplicateTSNs() *Iterator[uint32] {
 	bytes, length, c := chunk.inC()
-	return listed(func(tsns []uint32) C.size_t {
-		return C.go_duplicate_tsns(bytes, length, c, (*C.uint32_t)(first(tsns)), C.size_t(len(tsns)))
+	return listed[uint32](func(to unsafe.Pointer, room C.size_t) C.size_t {
+		return C.go_duplicate_tsns(bytes, length, c, to, room)
 	})
 }
 
@@ -451,8 +454,8 @@ func (chunk Chunk) ForwardTSN() (ForwardTSN, bool) {
 // SkippedStreams goes over the streams of FORWARD-TSN or I-FORWARD-TSN; another type has none.
 func (chunk Chunk) SkippedStreams() *Iterator[SkippedStream] {
 	bytes, length, c := chunk.inC()
-	return listed(func(streams []SkippedStream) C.size_t {
-		return C.go_skipped_streams(bytes, length, c, streamsOf(streams), C.size_t(len(streams)))
+	return listed[SkippedStream](func(to unsafe.Pointer, room C.size_t) C.size_t {
+		return C.go_skipped_streams(bytes, length, c, to, room)
 	})
 }
 
@@ -462,20 +465,15 @@ type item struct {
 	c      C.struct_dcsctp_parameter
 }
 
-// rawItems goes over the parameters or the error causes. (Go 1.19 can't compile the call in a generic function under -d=checkptr.)
-func (chunk Chunk) rawItems() *Iterator[C.struct_dcsctp_parameter] {
-	bytes, length, c := chunk.inC()
-	return listed(func(items []C.struct_dcsctp_parameter) C.size_t {
-		return C.go_parameters(bytes, length, c, (*C.struct_dcsctp_parameter)(first(items)), C.size_t(len(items)))
-	})
-}
-
 // items goes over the parameters, or the error causes, if this is what the chunk has.
 func items[T any](chunk Chunk, areThere bool, value func(item, int) T) *Iterator[T] {
 	if !areThere {
 		return &Iterator[T]{}
 	}
-	all := chunk.rawItems()
+	bytes, length, c := chunk.inC()
+	all := listed[C.struct_dcsctp_parameter](func(to unsafe.Pointer, room C.size_t) C.size_t {
+		return C.go_parameters(bytes, length, c, to, room)
+	})
 	return &Iterator[T]{read: func() (none T, isThere bool) {
 		if !all.Next() {
 			return none, false
@@ -575,8 +573,8 @@ func (parameter Parameter) ReConfig() (ReConfig, bool) {
 // stream is for all of them.
 func (parameter Parameter) ResetStreams() *Iterator[uint16] {
 	bytes, length := parameter.item.bytes()
-	return listed(func(streams []uint16) C.size_t {
-		return C.go_reset_streams(bytes, length, parameter.item.c, (*C.uint16_t)(first(streams)), C.size_t(len(streams)))
+	return listed[uint16](func(to unsafe.Pointer, room C.size_t) C.size_t {
+		return C.go_reset_streams(bytes, length, parameter.item.c, to, room)
 	})
 }
 
@@ -617,7 +615,7 @@ func (cause Cause) Number() (uint32, bool) { return cause.item.number() }
 // MissingParameters goes over the types of the cause Missing Mandatory Parameter (section 3.3.10.2); another code has none.
 func (cause Cause) MissingParameters() *Iterator[ParameterType] {
 	bytes, length := cause.item.bytes()
-	return listed(func(types []ParameterType) C.size_t {
-		return C.go_missing_parameters(bytes, length, cause.item.c, (*C.uint16_t)(first(types)), C.size_t(len(types)))
+	return listed[ParameterType](func(to unsafe.Pointer, room C.size_t) C.size_t {
+		return C.go_missing_parameters(bytes, length, cause.item.c, to, room)
 	})
 }
