@@ -35,6 +35,10 @@ LIBRARIES = [
 # The indented code of docs/CALLING.md that isn't a program: its first line, and what comes before and after it.
 FRAGMENTS = [
     ('for raw in packet.chunks {', "pub fn size_of(packet: SctpPacketRef<'_>) -> usize {\nlet mut size: usize = 0;", 'size\n}'),
+    ('let mut held = PacketBuf::from_slice(alloc, bytes, word, &policy)?;',
+     'pub fn kept(alloc: Global, bytes: &[u8], word: u32, next: &[u8], word_of_next: u32) -> Result<(Vec<u8>, Vec<u8>), PacketParseError> {\n'
+     'let policy = ChecksumPolicy::default();',
+     'Ok((types, bytes))\n}'),
     ('set_verification_tag(packet, tag);', 'pub fn retag(packet: &mut [u8], tag: u32) {', '}'),
     ('let mut parameters = Vec::new(alloc);', 'pub fn parameters(alloc: Global) -> Result<Vec<Parameter>, AllocError> {',
      'Ok(parameters)\n}'),
@@ -43,11 +47,13 @@ FRAGMENTS = [
      'Ok(())\n}\n\nfn send(_packet: &[u8]) -> anyhow::Result<()> {\nOk(())\n}'),
 ]
 FRAGMENTS_USE = '''use dcsctp_borrowed::in_place::{set_checksum_word, set_verification_tag};
+use dcsctp_borrowed::packet_buf::PacketBuf;
 use dcsctp_borrowed::packet_ref::SctpPacketRef;
 use dcsctp_borrowed::user_data::UserData;
 use dcsctp_buffer::data::BorrowedData;
 use dcsctp_crc32c::packet_word;
 use dcsctp_wire::packet::parameter::Parameter;
+use dcsctp_wire::packet::sctp_packet::{ChecksumPolicy, PacketParseError};
 use dcsctp_wire::packet::state_cookie_parameter::StateCookieParameter;
 use std::alloc::{AllocError, Global};
 '''

@@ -1,5 +1,6 @@
 pub mod Fronts
 pub mod PacketRefs
+pub mod PacketBufs
 pub mod TreeRows
 pub mod StreamKeys
 pub mod DataRows

@@ -3,6 +3,7 @@ pub mod UserData
 pub mod Sack
 pub mod SkippedStreams
 pub mod PacketRef
+pub mod PacketBuf
 pub mod Front
 pub mod RawParameters
 pub mod RawCauses

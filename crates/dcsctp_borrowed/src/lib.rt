@@ -4,7 +4,8 @@
 //! data, a SACK, skipped streams, parameters and those of RE-CONFIG, error causes, the types of
 //! missing parameters, a cookie and a heartbeat's info are read where they lie. What is read here
 //! is what `dcsctp_wire` builds, by the same clauses. Of a packet that may have been cut off,
-//! `part` reads the items that are there.
+//! `part` reads the items that are there. `packet_buf` has a packet that owns its bytes, which alone
+//! takes memory.
 #![tactic(auto)]
 
 pub mod checked_chunks;
@@ -16,6 +17,7 @@ pub mod in_place;
 pub mod laws;
 pub mod missing_parameters;
 pub mod numbers;
+pub mod packet_buf;
 pub mod packet_ref;
 pub mod part;
 pub mod raw_causes;

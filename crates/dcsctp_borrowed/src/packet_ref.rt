@@ -65,7 +65,7 @@ impl<'a> SctpPacketRef<'a> {
 
     /// Returns the parts of bytes that are known to be a packet.
     #[inline(always)]
-    fn of_packet(bytes: &'a [u8]) -> SctpPacketRef<'a>
+    pub(crate) fn of_packet(bytes: &'a [u8]) -> SctpPacketRef<'a>
         requires size { 12 ≤ length bytes.now }
         requires meant { MeansSome (chunks lenient) (body bytes.now) }
         ensures { result ≡ reference bytes.now }

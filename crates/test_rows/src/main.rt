@@ -17,6 +17,7 @@ mod checksums;
 mod frames;
 mod hostile;
 mod in_place;
+mod kept;
 mod kinds;
 mod made;
 mod packets;
