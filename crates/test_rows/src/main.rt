@@ -20,6 +20,7 @@ mod in_place;
 mod kinds;
 mod made;
 mod packets;
+mod registry;
 mod rows;
 mod sack;
 mod values;

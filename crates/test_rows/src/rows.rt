@@ -2,7 +2,8 @@
 
 use crate::bytes::add_words;
 use crate::{
-    buffers, built, captures, checksums, frames, hostile, in_place, kinds, made, packets, sack,
+    buffers, built, captures, checksums, frames, hostile, in_place, kinds, made, packets, registry,
+    sack,
 };
 use std::alloc::{AllocError, Global};
 
@@ -23,6 +24,7 @@ fn write_answer(
         || packets::write_answer(alloc, call, (bytes, other), out)?
         || sack::write_answer(alloc, call, (bytes, other), out)?
         || in_place::write_answer(alloc, call, (bytes, other), out)?
+        || registry::write_answer(alloc, call, bytes, out)?
         || made::write_answer(alloc, call, bytes, out)?
         || hostile::write_answer(alloc, call, (bytes, other), out)?
         || buffers::write_answer(alloc, call, bytes, out)?
