@@ -109,6 +109,28 @@ def definitions(them):
         them.number(place, them.key('parameter', match[2]), match[1])
 
 
+def registered(them):
+    """The numbers of what has no kind, in the crate that reads it in place: each has a constant and a definition there."""
+    constant = rf'^pub const (\w+): u\d+ = {NUMBER};'
+    read = rf'\b(?:typ|code) == {NUMBER} then (?:option_map|empty_of|Some|\(if length value == \d+ then Some) \(?(?!Address)(\w+)'
+    levels = {'address': 'parameter', 'registered_parameter': 'parameter', 'registered_cause': 'cause', 'registered_chunk': 'chunk'}
+    constants, definitions = set(), set()
+    for module, level in levels.items():
+        spec = module.title().replace('_', '')
+        for place, _, match in them.places(f'crates/dcsctp_registry/src/{module}.rt', constant):
+            constants.add(them.key(level, match[1]))
+            them.number(place, them.key(level, match[1]), match[2])
+        for place, _, match in them.places(f'crates/dcsctp_registry/specs/{spec}.antt', read):
+            key = them.key(level, re.sub(r'^V(\d)$', r'IPv\1Address', match[2]))
+            definitions.add(key)
+            them.number(place, key, match[1])
+    for level in LEVELS.values():
+        for row in them.table[level]:
+            for found, what in ((constants, 'constant'), (definitions, 'definition')):
+                if (them.key(level, row.identifier) in found) == (row.read == 'kind'):
+                    them.wrong.append(f'{level} {row.identifier}: {row.read} in the table, but not so as a {what} of dcsctp_registry')
+
+
 def sizes(them):
     """The bytes before a list, or before other bytes."""
     for place, name, match in them.places('crates/*/src/**/*.rt', r'^(?:pub\(crate\) )?const FIXED_SIZE: usize = (\d+);'):
@@ -141,6 +163,7 @@ def differences(root, table):
     them = Comparison(root, table)
     constants(them)
     definitions(them)
+    registered(them)
     sizes(them)
     others(them)
     return them.wrong

@@ -24,7 +24,8 @@ PAGE = os.path.join(ROOT, 'docs', 'API.md')
 
 # The libraries, in the order in which their items come within a section.
 LIBRARIES = [
-    'dcsctp_wire', 'dcsctp_borrowed', 'dcsctp_buffer', 'dcsctp_crc32c', 'dcsctp_chunk', 'dcsctp_tlv', 'dcsctp_cause', 'dcsctp_types',
+    'dcsctp_wire', 'dcsctp_borrowed', 'dcsctp_registry', 'dcsctp_buffer', 'dcsctp_crc32c', 'dcsctp_chunk', 'dcsctp_tlv', 'dcsctp_cause',
+    'dcsctp_types',
 ]
 
 # The sections of the page, and which modules each has, by their paths in a program: the first that matches.
@@ -37,6 +38,7 @@ SECTIONS = [
     ('Errors, sizes and numbers', r'dcsctp_wire::packet$'),
     ('Serial numbers, ids and times', r'dcsctp_wire::(types|api)'),
     ('Packets in their own bytes', r'dcsctp_borrowed'),
+    ('What the registry has beyond the kinds', r'dcsctp_registry'),
     ("Packets written into the caller's buffer", r'dcsctp_buffer'),
     ('The checksum', r'dcsctp_crc32c'),
 ]
@@ -54,7 +56,8 @@ HEAD = '''# The public items
 
 Made from the sources by `tools/api.py --write`; the gate compares it. A heading is the path to write in a `use`: the items below it
 are at that path, and `fn Tsn::add_to` is the method `add_to` of `Tsn`. A program needs the crate `dcsctp_wire`, and `dcsctp_borrowed`,
-`dcsctp_buffer` and `dcsctp_crc32c` where it uses them. What the caller has to prove (`requires`) comes after the signature, after *needs*:
+`dcsctp_registry`, `dcsctp_buffer` and `dcsctp_crc32c` where it uses them. What the caller has to prove (`requires`) comes after the
+signature, after *needs*:
 
 | *needs* | the caller proves that |
 |---|---|
@@ -74,6 +77,7 @@ CONDITIONS = [
     (r'SIZE.* ≤ length bytes', 'enough bytes'),
     (r'≤ length output|length items.now ≤ room', 'room'),
     (r'index < ', 'index below the count'),
+    (r'\* count ≤ ', 'as many bytes'),
     (r'place ≤ length value', 'place within the value'),
     (r'leading ≤ MAX_VALUE_SIZE', 'leading at most 65,531'),
     (r'round_up_to_4', 'n at most 2^64 - 4'),
@@ -259,7 +263,7 @@ def paths_of():
 def path_in_program(name, paths):
     """The path of a module or an item in a program, or nothing if it has none."""
     parts = name.split('::')
-    if parts[0] in ('dcsctp_wire', 'dcsctp_borrowed', 'dcsctp_buffer', 'dcsctp_crc32c'):
+    if parts[0] in ('dcsctp_wire', 'dcsctp_borrowed', 'dcsctp_registry', 'dcsctp_buffer', 'dcsctp_crc32c'):
         return name
     for size in range(len(parts), 1, -1):
         front = '::'.join(parts[:size])

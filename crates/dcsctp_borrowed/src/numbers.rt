@@ -29,9 +29,9 @@ impl<'a> Model for Numbers<'a> {
 
 #[tactic(auto, using(crate::proofs::FieldLists::field_count))]
 impl<'a> Numbers<'a> {
-    /// Returns the numbers at the front of the bytes.
+    /// Returns so many numbers at the front of the bytes, which have to be there.
     #[inline(always)]
-    pub(crate) fn new(count: usize, bytes: &'a [u8]) -> Numbers<'a>
+    pub fn new(count: usize, bytes: &'a [u8]) -> Numbers<'a>
         requires { 2 * count ≤ length bytes.now }
         ensures { result ≡ fields number16 2 count bytes.now }
     {

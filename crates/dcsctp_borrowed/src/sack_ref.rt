@@ -143,10 +143,7 @@ impl<'a> SackRef<'a> {
         ensures blocks { result ≡ self.now.blocks }
         ensures few { length result < 2 ^ 16 }
     {
-        GapAckBlocks {
-            count: self.numbers.gap_ack_block_count as usize,
-            rest: self.lists,
-        }
+        GapAckBlocks::new(self.numbers.gap_ack_block_count as usize, self.lists)
     }
 
     /// Returns an iterator over the duplicate TSNs, in their order.
@@ -154,10 +151,10 @@ impl<'a> SackRef<'a> {
     pub fn duplicate_tsns(&self) -> DuplicateTsns<'a>
         ensures { result ≡ self.now.duplicates }
     {
-        DuplicateTsns {
-            count: self.numbers.duplicate_tsn_count as usize,
-            rest: &self.lists[4 * self.numbers.gap_ack_block_count as usize..],
-        }
+        DuplicateTsns::new(
+            self.numbers.duplicate_tsn_count as usize,
+            &self.lists[4 * self.numbers.gap_ack_block_count as usize..],
+        )
     }
 
     /// Returns whether the gap ack blocks are the runs of the offsets that they cover, by rising
@@ -184,7 +181,7 @@ impl<'a> SackRef<'a> {
     }
 }
 
-/// An iterator over the gap ack blocks of a SACK. A contract sees the list of those that are left.
+/// An iterator over gap ack blocks. A contract sees the list of those that are left.
 #[derive(Clone, Debug, Drop)]
 pub struct GapAckBlocks<'a> {
     count: usize,
@@ -197,6 +194,17 @@ impl<'a> Model for GapAckBlocks<'a> {
     ghost view = { λ b. fields block_at 4 b.count b.rest.now };
 
     ghost invariant = { λ b. 4 * b.count ≤ length b.rest.now };
+}
+
+impl<'a> GapAckBlocks<'a> {
+    /// Returns so many gap ack blocks at the front of the bytes, which have to be there.
+    #[inline(always)]
+    pub fn new(count: usize, rest: &'a [u8]) -> GapAckBlocks<'a>
+        requires { 4 * count ≤ length rest.now }
+        ensures { result ≡ fields block_at 4 count rest.now }
+    {
+        GapAckBlocks { count, rest }
+    }
 }
 
 impl<'a> Iterator for GapAckBlocks<'a> {
@@ -219,8 +227,7 @@ impl<'a> Iterator for GapAckBlocks<'a> {
     }
 }
 
-/// An iterator over the duplicate TSNs of a SACK. A contract sees the list of the numbers of those
-/// that are left.
+/// An iterator over duplicate TSNs. A contract sees the list of the numbers of those that are left.
 #[derive(Clone, Debug, Drop)]
 pub struct DuplicateTsns<'a> {
     count: usize,
@@ -233,6 +240,17 @@ impl<'a> Model for DuplicateTsns<'a> {
     ghost view = { λ d. fields number32 4 d.count d.rest.now };
 
     ghost invariant = { λ d. 4 * d.count ≤ length d.rest.now };
+}
+
+impl<'a> DuplicateTsns<'a> {
+    /// Returns so many duplicate TSNs at the front of the bytes, which have to be there.
+    #[inline(always)]
+    pub fn new(count: usize, rest: &'a [u8]) -> DuplicateTsns<'a>
+        requires { 4 * count ≤ length rest.now }
+        ensures { result ≡ fields number32 4 count rest.now }
+    {
+        DuplicateTsns { count, rest }
+    }
 }
 
 impl<'a> Iterator for DuplicateTsns<'a> {

@@ -21,6 +21,7 @@ mod kept;
 mod kinds;
 mod made;
 mod packets;
+mod registry;
 mod rows;
 mod sack;
 mod values;

@@ -3,7 +3,7 @@
 use crate::bytes::add_words;
 use crate::{
     buffers, built, captures, checksums, frames, hostile, in_place, kept, kinds, made, packets,
-    sack,
+    registry, sack,
 };
 use std::alloc::{AllocError, Global};
 
@@ -25,6 +25,7 @@ fn write_answer(
         || sack::write_answer(alloc, call, (bytes, other), out)?
         || in_place::write_answer(alloc, call, (bytes, other), out)?
         || kept::write_answer(alloc, call, (bytes, other), out)?
+        || registry::write_answer(alloc, call, bytes, out)?
         || made::write_answer(alloc, call, bytes, out)?
         || hostile::write_answer(alloc, call, (bytes, other), out)?
         || buffers::write_answer(alloc, call, bytes, out)?

@@ -1,0 +1,6 @@
+pub mod Address
+pub mod RawItems
+pub mod RegisteredCause
+pub mod RegisteredChunk
+pub mod RegisteredParameter
+pub mod Shapes

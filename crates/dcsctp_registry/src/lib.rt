@@ -1,0 +1,16 @@
+//! What IANA's registry of SCTP has beyond the kinds of `dcsctp_wire`, read in a packet's bytes.
+//!
+//! An owned packet keeps these chunks, parameters and error causes as bytes, of a type that isn't
+//! named. They are read here where they lie, without memory: addresses (RFC 9260 section 3.3.2.1),
+//! what a peer didn't recognize (sections 3.3.3.1 and 3.3.10), congestion (appendix A), what
+//! authenticates chunks (RFC 4895), changes addresses (RFC 5061) or makes packets longer (RFC 4820),
+//! NR-SACK and PKTDROP. A list of items is checked one level deep: what is in an item, its own
+//! reader reads.
+#![tactic(auto)]
+
+pub mod address;
+pub mod raw_items;
+pub mod registered_cause;
+pub mod registered_chunk;
+pub mod registered_parameter;
+mod shapes;

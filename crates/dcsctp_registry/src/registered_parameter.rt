@@ -1,0 +1,208 @@
+//! Parameters that the owned packet keeps as bytes.
+
+ghost use Rattle.std.specs.Prelude.{◌≡◌, option_map};
+ghost use Rattle.dcsctp_tlv.specs.Parameter.{ParameterTree, row};
+ghost use Rattle.dcsctp_registry.specs.RegisteredParameter.{view, read, registered_of};
+
+use crate::address::{Address, IPV4_ADDRESS, IPV6_ADDRESS};
+use crate::raw_items::RawItems;
+use crate::shapes::{number, numbered_address, numbered_items, short_numbers};
+use dcsctp_borrowed::numbers::Numbers;
+use dcsctp_tlv::parameter::RawParameter;
+
+/// The type of Unrecognized Parameter.
+pub const UNRECOGNIZED_PARAMETER: u16 = 8;
+
+/// The type of Cookie Preservative.
+pub const COOKIE_PRESERVATIVE: u16 = 9;
+
+/// The type of Host Name Address.
+pub const HOST_NAME_ADDRESS: u16 = 11;
+
+/// The type of Supported Address Types.
+pub const SUPPORTED_ADDRESS_TYPES: u16 = 12;
+
+/// The type of ECN Capable.
+pub const ECN_CAPABLE: u16 = 0x8000;
+
+/// The type of Random.
+pub const RANDOM: u16 = 0x8002;
+
+/// The type of Chunk List.
+pub const CHUNK_LIST: u16 = 0x8003;
+
+/// The type of Requested HMAC Algorithm.
+pub const REQUESTED_HMAC_ALGORITHM: u16 = 0x8004;
+
+/// The type of Padding.
+pub const PADDING: u16 = 0x8005;
+
+/// The type of Add IP Address.
+pub const ADD_IP_ADDRESS: u16 = 0xc001;
+
+/// The type of Delete IP Address.
+pub const DELETE_IP_ADDRESS: u16 = 0xc002;
+
+/// The type of Error Cause Indication.
+pub const ERROR_CAUSE_INDICATION: u16 = 0xc003;
+
+/// The type of Set Primary Address.
+pub const SET_PRIMARY_ADDRESS: u16 = 0xc004;
+
+/// The type of Success Indication.
+pub const SUCCESS_INDICATION: u16 = 0xc005;
+
+/// The type of Adaptation Layer Indication.
+pub const ADAPTATION_LAYER_INDICATION: u16 = 0xc006;
+
+/// A parameter that IANA's registry has and `Parameter` doesn't name, whose bytes stay where they
+/// lie in the packet.
+#[derive(Clone, Debug, Drop)]
+pub enum RegisteredParameter<'a> {
+    /// IPv4 Address or IPv6 Address (RFC 9260 sections 3.3.2.1.1 and 3.3.2.1.2), type 5 or 6.
+    Address(Address),
+    /// Unrecognized Parameter (RFC 9260 section 3.3.3.1.2), type 8: the parameter that a peer didn't
+    /// recognize, or several.
+    UnrecognizedParameter(RawItems<'a>),
+    /// Cookie Preservative (RFC 9260 section 3.3.2.1), type 9: milliseconds that the cookie is to
+    /// live longer.
+    CookiePreservative(u32),
+    /// Host Name Address (RFC 9260 section 3.3.2.1), type 11: the name, with the zero that ends it.
+    HostNameAddress(&'a [u8]),
+    /// Supported Address Types (RFC 9260 section 3.3.2.1), type 12: types of address parameters.
+    SupportedAddressTypes(Numbers<'a>),
+    /// ECN Capable (RFC 9260 appendix A), type 0x8000.
+    EcnCapable,
+    /// Random (RFC 4895 section 3.1), type 0x8002: the random number.
+    Random(&'a [u8]),
+    /// Chunk List (RFC 4895 section 3.2), type 0x8003: types of chunks, a byte each.
+    ChunkList(&'a [u8]),
+    /// Requested HMAC Algorithm (RFC 4895 section 3.3), type 0x8004: identifiers of HMACs.
+    RequestedHmacAlgorithm(Numbers<'a>),
+    /// Padding (RFC 4820 section 4), type 0x8005.
+    Padding(&'a [u8]),
+    /// Add IP Address (RFC 5061 section 4.2.1), type 0xc001.
+    AddIpAddress {
+        /// By which the request is answered.
+        correlation_id: u32,
+        /// The address to be added; all zeros stand for the packet's source.
+        address: Address,
+    },
+    /// Delete IP Address (RFC 5061 section 4.2.2), type 0xc002.
+    DeleteIpAddress {
+        /// By which the request is answered.
+        correlation_id: u32,
+        /// The address to be deleted; all zeros stand for all but the packet's source.
+        address: Address,
+    },
+    /// Error Cause Indication (RFC 5061 section 4.2.3), type 0xc003.
+    ErrorCauseIndication {
+        /// Of the request that it answers.
+        correlation_id: u32,
+        /// The error causes.
+        causes: RawItems<'a>,
+    },
+    /// Set Primary Address (RFC 5061 section 4.2.4), type 0xc004.
+    SetPrimaryAddress {
+        /// By which the request is answered.
+        correlation_id: u32,
+        /// The address to send to; all zeros stand for the packet's source.
+        address: Address,
+    },
+    /// Success Indication (RFC 5061 section 4.2.5), type 0xc005: the correlation id of the request
+    /// that it answers.
+    SuccessIndication(u32),
+    /// Adaptation Layer Indication (RFC 5061 section 4.2.6), type 0xc006: the code point.
+    AdaptationLayerIndication(u32),
+}
+
+impl<'a> RegisteredParameter<'a> {
+    /// Reads the parameter, without a copy. `None` if and only if it has another type, or a value
+    /// that its type doesn't allow: of another size, or with a list that is broken.
+    ///
+    /// Of a parameter of a packet this is what the bytes mean that `SctpPacket::from_bytes` keeps,
+    /// and `None` where it names the parameter.
+    #[inline(always)]
+    pub fn from_raw(raw: &RawParameter<'a>) -> Option<RegisteredParameter<'a>>
+        ensures read { option_map view result ≡ read raw.now.typ raw.now.value.now }
+        ensures kept { (tree : ParameterTree) → (row raw.now.typ).means raw.now.value.now tree
+            → option_map view result ≡ registered_of tree }
+    {
+        RegisteredParameter::of_value(raw.typ, raw.value)
+    }
+
+    /// Reads what a value of this type means.
+    fn of_value(typ: u16, value: &'a [u8]) -> Option<RegisteredParameter<'a>>
+        ensures { option_map view result ≡ read typ value.now }
+    {
+        match typ {
+            IPV4_ADDRESS | IPV6_ADDRESS => {
+                let address = Address::of_value(typ, value)?;
+                Some(RegisteredParameter::Address(address))
+            }
+            UNRECOGNIZED_PARAMETER => {
+                let parameters = RawItems::from_bytes(value)?;
+                Some(RegisteredParameter::UnrecognizedParameter(parameters))
+            }
+            COOKIE_PRESERVATIVE => {
+                let increment = number(value)?;
+                Some(RegisteredParameter::CookiePreservative(increment))
+            }
+            HOST_NAME_ADDRESS => Some(RegisteredParameter::HostNameAddress(value)),
+            SUPPORTED_ADDRESS_TYPES => {
+                let types = short_numbers(value)?;
+                Some(RegisteredParameter::SupportedAddressTypes(types))
+            }
+            ECN_CAPABLE => {
+                if !value.is_empty() {
+                    return None;
+                }
+                Some(RegisteredParameter::EcnCapable)
+            }
+            RANDOM => Some(RegisteredParameter::Random(value)),
+            CHUNK_LIST => Some(RegisteredParameter::ChunkList(value)),
+            REQUESTED_HMAC_ALGORITHM => {
+                let ids = short_numbers(value)?;
+                Some(RegisteredParameter::RequestedHmacAlgorithm(ids))
+            }
+            PADDING => Some(RegisteredParameter::Padding(value)),
+            ADD_IP_ADDRESS => {
+                let (correlation_id, address) = numbered_address(value)?;
+                Some(RegisteredParameter::AddIpAddress {
+                    correlation_id,
+                    address,
+                })
+            }
+            DELETE_IP_ADDRESS => {
+                let (correlation_id, address) = numbered_address(value)?;
+                Some(RegisteredParameter::DeleteIpAddress {
+                    correlation_id,
+                    address,
+                })
+            }
+            ERROR_CAUSE_INDICATION => {
+                let (correlation_id, causes) = numbered_items(value)?;
+                Some(RegisteredParameter::ErrorCauseIndication {
+                    correlation_id,
+                    causes,
+                })
+            }
+            SET_PRIMARY_ADDRESS => {
+                let (correlation_id, address) = numbered_address(value)?;
+                Some(RegisteredParameter::SetPrimaryAddress {
+                    correlation_id,
+                    address,
+                })
+            }
+            SUCCESS_INDICATION => {
+                let correlation_id = number(value)?;
+                Some(RegisteredParameter::SuccessIndication(correlation_id))
+            }
+            ADAPTATION_LAYER_INDICATION => {
+                let code = number(value)?;
+                Some(RegisteredParameter::AdaptationLayerIndication(code))
+            }
+            _ => None,
+        }
+    }
+}
