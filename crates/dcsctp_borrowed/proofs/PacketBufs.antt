@@ -1,6 +1,6 @@
 -- A packet that owns its bytes: what is kept of bytes that were checked, or why nothing is.
 use Rattle.std.proofs.Common.{◌≡◌, ℕ, List, Result, Ok, Err, inl, inr, refl, sym, ap, subst, ◌∙◌, ◌↔◌, IsErrOf}
-use Rattle.dcsctp_tlv.{specs.Number.{AreBytes}, specs.Reading.{Errors, Answers, Exactly}, specs.declared.error.ChunkParseError.TheVariants.{OutOfMemory}, proofs.Exact.{Single, Distinct, exactly}}
+use Rattle.dcsctp_tlv.{specs.Number.{AreBytes}, specs.Reading.{Errors, Answers, Exactly}, specs.declared.error.ChunkParseError.TheVariants.{OutOfMemory}, proofs.Exact.{Single, exactly}}
 use Rattle.dcsctp_wire.{specs.Packet.{PacketTree, PacketFault, Answer, packet_error_of, packet_reading, packet_checking}, specs.declared.packet.sctp_packet.ChecksumPolicy.{ChecksumPolicy}, specs.declared.packet.sctp_packet.PacketParseError.{PacketParseError}, specs.declared.packet.sctp_packet.PacketParseError.TheVariants.{FailedParseChunk}, proofs.PacketChecks.{packet_error_one, packet_no_memory, packet_single}}
 use Rattle.dcsctp_borrowed.{specs.PacketBuf.{HoldsPacket, Kept}, proofs.PacketRefs.{chunks_lent}}
 

@@ -1,4 +1,4 @@
-use Rattle.std.proofs.{Common.{Ok, Err}, lemmas.Result.{err_from_is_err_and}}
+use Rattle.std.proofs.{lemmas.Result.{err_from_is_err_and}}
 use Rattle.dcsctp_wire.specs.Packet.{packet_reading}
 use Rattle.dcsctp_borrowed.{specs.PacketBuf.{OwnedBytes}, proofs.PacketBufs.{packet_kept, fault_kept, memory_kept}}
 use Rattle.dcsctp_borrowed.proofs.packet_buf.PacketBuf.from_slice.Goals as goal

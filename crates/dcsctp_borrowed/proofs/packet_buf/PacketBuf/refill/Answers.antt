@@ -1,4 +1,4 @@
-use Rattle.std.proofs.{Common.{Ok, Err, refl}, lemmas.Result.{err_from_is_err_and}}
+use Rattle.std.proofs.{Common.{refl}, lemmas.Result.{err_from_is_err_and}}
 use Rattle.dcsctp_wire.specs.Packet.{packet_reading}
 use Rattle.dcsctp_borrowed.proofs.PacketBufs.{packet_kept, fault_kept, memory_kept}
 use Rattle.dcsctp_borrowed.proofs.packet_buf.PacketBuf.refill.Goals as goal
