@@ -7,9 +7,10 @@ import * as davgyuti from '../davgyuti.mjs';
 import library from '../library.js';
 
 const file = name => readFileSync(new URL(name, import.meta.url), 'utf8');
-// (the package reads lists item by item, without the calls that fill an array)
-const LISTS = 'gap_ack_blocks|duplicate_tsns|skipped_streams|parameters|reset_streams|missing_parameters';
-const header = file('../../../include/dcsctp.h').replace(/\/\*[^]*?\*\//g, '').replace(new RegExp(`size_t dcsctp_(${LISTS})\\([^)]*\\);`, 'g'), '');
+// (the package reads lists item by item and packets one by one, without the calls that fill an array)
+const LISTS = 'gap_ack_blocks|duplicate_tsns|skipped_streams|parameters|reset_streams|missing_parameters|read_many';
+const header = file('../../../include/dcsctp.h').replace(/\/\*[^]*?\*\//g, '').replace(new RegExp(`size_t dcsctp_(${LISTS})\\([^)]*\\);`, 'g'), '')
+  .replace(/struct dcsctp_placed_packet \{[^}]*\};/, '');
 const code = file('../davgyuti.js');
 const camel = name => name.replace(/_(\w)/g, (_, letter) => letter.toUpperCase());
 

@@ -38,10 +38,11 @@ def header() -> str:
     raise FileNotFoundError("there is no dcsctp.h")
 
 
-# (the package reads lists item by item, and SACK's by the row's range)
+# (the package reads lists item by item, SACK's by the row's range, and packets one by one)
 HEADER = re.sub(
-    r"^size_t dcsctp_(?:gap_ack_blocks|duplicate_tsns|skipped_streams|parameters|reset_streams|missing_parameters)\([^)]*\);",
-    "", header(), flags=re.MULTILINE)
+    r"^size_t dcsctp_(?:gap_ack_blocks|duplicate_tsns|skipped_streams|parameters|reset_streams|missing_parameters|read_many)\([^)]*\);"
+    r"|^struct dcsctp_placed_packet \{.*?^\};",
+    "", header(), flags=re.MULTILINE | re.DOTALL)
 
 
 def camel(name: str) -> str:

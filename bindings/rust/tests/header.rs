@@ -6,15 +6,17 @@ const HEADER: &str = include_str!("../../../dist/dcsctp.h");
 const FFI: &str = include_str!("../src/ffi.rs");
 const VALUES: &str = include_str!("../src/values.rs");
 
-/// Text without C's comments, and without `dcsctp_read` and its structs: the crate reads chunk by
-/// chunk.
+/// Text without C's comments, and without `dcsctp_read`, `dcsctp_read_many` and their structs: the
+/// crate reads chunk by chunk.
 fn without_comments(text: &str) -> String {
     let mut text: String =
         text.split("/*").map(|it| it.split_once("*/").map_or(it, |(_, rest)| rest)).collect();
     for (begin, end) in [
         ("struct dcsctp_row {", "};"),
         ("struct dcsctp_packet {", "};"),
+        ("struct dcsctp_placed_packet {", "};"),
         ("uint32_t dcsctp_read(", ");"),
+        ("size_t dcsctp_read_many(", ");"),
         ("size_t dcsctp_gap_ack_blocks(", ");"),
         ("size_t dcsctp_duplicate_tsns(", ");"),
         ("size_t dcsctp_skipped_streams(", ");"),
