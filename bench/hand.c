@@ -1,5 +1,5 @@
 /* SPDX-License-Identifier: Apache-2.0 */
-/* Reads packets by dcsctp.h, and by hand; bench/packages.py says what such a program does.
+/* Reads packets by dcsctp.h, call by call and by rows, and by hand; bench/packages.py says what such a program does.
 
    usage: hand ROUNDS MILLIS FILE.. */
 #define _GNU_SOURCE
@@ -90,6 +90,81 @@ static uint64_t by_calls(const uint8_t *bytes, size_t length)
         return 0;
     for (size_t at = DCSCTP_FIRST_CHUNK; dcsctp_chunk_at(bytes, length, at, &chunk); at = chunk.next)
         sum += chunk.type + sum_of_chunk(bytes, length, &chunk);
+    return sum;
+}
+
+/* ---- by rows: the packet in one call, and each list in one */
+
+/* As many as a packet has at most. */
+enum { MOST_ITEMS = 16384 };
+
+static uint64_t sum_of_all_items(const uint8_t *bytes, size_t length, const struct dcsctp_chunk *chunk)
+{
+    static struct dcsctp_parameter items[MOST_ITEMS];
+    size_t count = dcsctp_parameters(bytes, length, chunk, items, MOST_ITEMS);
+    uint64_t sum = 0;
+    for (size_t i = 0; i < count; i++)
+        sum += items[i].type + sum_of_value(bytes + items[i].value_offset, items[i].value_size);
+    return sum;
+}
+
+static uint64_t sum_of_row(const uint8_t *bytes, size_t length, const struct dcsctp_row *row)
+{
+    static struct dcsctp_gap_ack_block blocks[MOST_ITEMS];
+    static struct dcsctp_skipped_stream streams[MOST_ITEMS];
+    static uint32_t tsns[MOST_ITEMS];
+    uint64_t sum;
+    switch (row->chunk.type) {
+    case DCSCTP_CHUNK_DATA:
+    case DCSCTP_CHUNK_I_DATA:
+        sum = (uint64_t)row->tsn + row->mid + row->fsn + row->ppid + row->stream + row->ssn;
+        sum += row->is_unordered + row->is_beginning + row->is_end + row->immediate_ack;
+        return sum + sum_of_value(bytes + row->rest_offset, row->rest_size);
+    case DCSCTP_CHUNK_INIT:
+    case DCSCTP_CHUNK_INIT_ACK:
+        sum = (uint64_t)row->initiate_tag + row->a_rwnd + row->outbound_streams + row->inbound_streams + row->tsn;
+        return sum + sum_of_all_items(bytes, length, &row->chunk);
+    case DCSCTP_CHUNK_SACK:
+        sum = (uint64_t)row->tsn + row->a_rwnd;
+        if (row->count > 0)
+            dcsctp_gap_ack_blocks(bytes, length, &row->chunk, blocks, MOST_ITEMS);
+        for (size_t i = 0; i < row->count; i++)
+            sum += (uint32_t)blocks[i].start + blocks[i].end;
+        if (row->duplicate_count > 0)
+            dcsctp_duplicate_tsns(bytes, length, &row->chunk, tsns, MOST_ITEMS);
+        for (size_t i = 0; i < row->duplicate_count; i++)
+            sum += tsns[i];
+        return sum;
+    case DCSCTP_CHUNK_SHUTDOWN:
+        return row->tsn;
+    case DCSCTP_CHUNK_FORWARD_TSN:
+    case DCSCTP_CHUNK_I_FORWARD_TSN:
+        sum = row->tsn;
+        if (row->count > 0)
+            dcsctp_skipped_streams(bytes, length, &row->chunk, streams, MOST_ITEMS);
+        for (size_t i = 0; i < row->count; i++)
+            sum += (uint64_t)streams[i].stream + streams[i].ssn + streams[i].mid + streams[i].is_unordered;
+        return sum;
+    case DCSCTP_CHUNK_HEARTBEAT:
+    case DCSCTP_CHUNK_HEARTBEAT_ACK:
+    case DCSCTP_CHUNK_ABORT:
+    case DCSCTP_CHUNK_ERROR:
+    case DCSCTP_CHUNK_RE_CONFIG:
+        return sum_of_all_items(bytes, length, &row->chunk);
+    default:
+        return sum_of_value(bytes + row->chunk.value_offset, row->chunk.value_size);
+    }
+}
+
+static uint64_t by_rows(const uint8_t *bytes, size_t length)
+{
+    static struct dcsctp_row rows[MOST_ITEMS];
+    struct dcsctp_packet packet;
+    uint64_t sum = 1;
+    if (dcsctp_read(bytes, length, 0, &any, rows, MOST_ITEMS, &packet) != DCSCTP_OK)
+        return 0;
+    for (size_t i = 0; i < packet.chunk_count; i++)
+        sum += rows[i].chunk.type + sum_of_row(bytes, length, &rows[i]);
     return sum;
 }
 
@@ -283,7 +358,7 @@ static uint64_t by_hand(const uint8_t *bytes, size_t length)
 static const struct {
     const char *name;
     uint64_t (*call)(const uint8_t *bytes, size_t length);
-} calls[] = {{"davgyuti", by_calls}, {"by hand", by_hand}};
+} calls[] = {{"davgyuti", by_calls}, {"davgyuti, rows", by_rows}, {"by hand", by_hand}};
 enum { CALLS = sizeof calls / sizeof calls[0], MOST = 10000 };
 
 static struct {

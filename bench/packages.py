@@ -51,7 +51,7 @@ PACKETS, HOSTILE, RANDOM = 100, 1, 6000
 TIMED = ('data1200', 'data_small', 'data_bundle', 'sack20', 'init', 'hostile_acks', 'clean_falling')
 # The rows of both tables: a language, the call that the others are compared with, and those.
 READ = (
-    ('C', 'by hand', 'davgyuti'),
+    ('C', 'by hand', 'davgyuti', 'davgyuti, rows'),
     ('Rust', 'plain loop', 'davgyuti'),
     ('Python', 'aiortc', 'davgyuti'),
     ('Go', 'pion', 'davgyuti', 'davgyuti, hash/crc32'),

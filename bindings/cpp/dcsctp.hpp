@@ -881,6 +881,7 @@ class chunk {
 
   private:
     friend class packet;
+    friend class row_view;
     chunk(bytes_view bytes, const ::dcsctp_chunk &it, std::size_t offset) noexcept
         : bytes_(bytes), it_(it), offset_(offset)
     {
@@ -898,6 +899,127 @@ class chunk {
     bytes_view bytes_;
     ::dcsctp_chunk it_;
     std::size_t offset_;
+};
+
+// ---- reading a packet in one call
+
+/// What packet::read writes of a chunk; a row_view reads it.
+using row = struct ::dcsctp_row;
+
+/// A chunk of a packet that was read in one call: its numbers lie in a row, and aren't read again.
+class row_view {
+  public:
+    [[nodiscard]] chunk_type type() const noexcept { return static_cast<chunk_type>(row_->chunk.type); }
+    [[nodiscard]] std::uint8_t flags() const noexcept { return row_->chunk.flags; }
+    /// The chunk, with its value and its lists.
+    [[nodiscard]] chunk whole() const noexcept
+    {
+        return chunk(bytes_, row_->chunk, row_->chunk.value_offset - detail::header_size);
+    }
+    /// What follows the numbers in the value: the payload, the gap ack blocks and then the duplicate TSNs, the skipped
+    /// streams, the parameters or the error causes.
+    [[nodiscard]] bytes_view rest() const noexcept { return detail::part(bytes_, row_->rest_offset, row_->rest_size); }
+
+    /// The user data of DATA or I-DATA.
+    [[nodiscard]] std::optional<dcsctp::data> as_data() const noexcept
+    {
+        if (type() != chunk_type::data && type() != chunk_type::i_data)
+            return std::nullopt;
+        dcsctp::data it;
+        it.tsn = row_->tsn;
+        it.mid = row_->mid;
+        it.fsn = row_->fsn;
+        it.ppid = row_->ppid;
+        it.stream = row_->stream;
+        it.ssn = row_->ssn;
+        it.is_unordered = row_->is_unordered;
+        it.is_beginning = row_->is_beginning;
+        it.is_end = row_->is_end;
+        it.immediate_ack = row_->immediate_ack;
+        it.payload = rest();
+        return it;
+    }
+    /// The numbers of INIT or INIT ACK.
+    [[nodiscard]] std::optional<dcsctp::init> as_init() const noexcept
+    {
+        if (type() != chunk_type::init && type() != chunk_type::init_ack)
+            return std::nullopt;
+        return dcsctp::init{row_->initiate_tag, row_->a_rwnd, row_->outbound_streams, row_->inbound_streams, row_->tsn};
+    }
+    /// The numbers of a SACK.
+    [[nodiscard]] std::optional<dcsctp::sack> as_sack() const noexcept
+    {
+        if (type() != chunk_type::sack)
+            return std::nullopt;
+        return dcsctp::sack{row_->tsn, row_->a_rwnd, row_->count, row_->duplicate_count};
+    }
+    /// The cumulative TSN ack of SHUTDOWN.
+    [[nodiscard]] std::optional<std::uint32_t> as_shutdown() const noexcept
+    {
+        return type() == chunk_type::shutdown ? std::optional<std::uint32_t>(row_->tsn) : std::nullopt;
+    }
+    /// The numbers of FORWARD-TSN or I-FORWARD-TSN.
+    [[nodiscard]] std::optional<dcsctp::forward_tsn> as_forward_tsn() const noexcept
+    {
+        if (type() != chunk_type::forward_tsn && type() != chunk_type::i_forward_tsn)
+            return std::nullopt;
+        return dcsctp::forward_tsn{row_->tsn, row_->count};
+    }
+
+  private:
+    friend class reading;
+    row_view(bytes_view bytes, const row &it) noexcept : bytes_(bytes), row_(&it) {}
+    bytes_view bytes_;
+    const row *row_;
+};
+
+/// A packet that was read in one call, as a range of its chunks; or its first fault. It leads to the bytes and to the
+/// rows, which have to outlive it and stay as they are.
+class [[nodiscard]] reading {
+    struct row_source {
+        using value_type = row_view;
+        bytes_view bytes;
+        view<const row> rows;
+        [[nodiscard]] std::optional<row_view> read(std::size_t index) const noexcept
+        {
+            return index < rows.size() ? std::optional<row_view>(row_view(bytes, rows[index])) : std::nullopt;
+        }
+        static std::size_t next(std::size_t index, const row_view &) noexcept { return index + 1; }
+    };
+
+  public:
+    /// What dcsctp_read, or dcsctp_read_many, wrote of a packet: `bytes` are the packet's own, and its rows come first in
+    /// `rows`.
+    reading(bytes_view bytes DCSCTP_LIFETIME_BOUND, const struct ::dcsctp_packet &packet,
+            view<const row> rows DCSCTP_LIFETIME_BOUND) noexcept
+        : bytes_(bytes), packet_(packet), rows_(rows.subspan(0, packet.chunk_count))
+    {
+    }
+    /// Whether the bytes are a packet.
+    explicit operator bool() const noexcept { return code() == result_code::ok; }
+    [[nodiscard]] result_code code() const noexcept { return static_cast<result_code>(packet_.code); }
+    [[nodiscard]] const char *text() const noexcept { return dcsctp::text(code()); }
+    /// The first fault, if there is one.
+    [[nodiscard]] std::optional<fault> first_fault() const noexcept
+    {
+        return *this ? std::nullopt : std::optional<fault>(fault{code(), packet_.fault_offset});
+    }
+    /// The common header; none where the bytes are no packet.
+    [[nodiscard]] std::optional<dcsctp::header> header() const noexcept
+    {
+        return *this ? std::optional<dcsctp::header>(packet_.header) : std::nullopt;
+    }
+    /// How many chunks the packet has: how many rows are needed.
+    [[nodiscard]] std::size_t chunk_count() const noexcept { return packet_.chunk_count; }
+    /// Whether each chunk has a row.
+    [[nodiscard]] bool has_all() const noexcept { return rows_.size() == packet_.chunk_count; }
+    /// The chunks that have a row, from the first on.
+    [[nodiscard]] range<row_source> chunks() const noexcept { return {{bytes_, rows_}, 0}; }
+
+  private:
+    bytes_view bytes_;
+    struct ::dcsctp_packet packet_;
+    view<const row> rows_;
 };
 
 /// A packet in its bytes, from the source port on; or bytes of which first_fault says that they are none. docs/C.md has
@@ -950,6 +1072,19 @@ class packet {
         first.code = code(
             ::dcsctp_first_fault(bytes_.data(), bytes_.size(), word_of(accepted, word), &it, &first.offset));
         return first.code == result_code::ok ? std::nullopt : std::optional<fault>(first);
+    }
+    /// Checks and reads the packet in one call, into the rows: as many chunks as have room, at most 16,380.
+    ///
+    ///   std::array<dcsctp::row, 16> rows;
+    ///   const dcsctp::reading read = packet.read(rows);
+    ///   for (dcsctp::row_view chunk : read.chunks())
+    [[nodiscard]] reading read(view<row> rows DCSCTP_LIFETIME_BOUND, policy accepted = {},
+                               word_option word = {}) const noexcept
+    {
+        const ::dcsctp_policy it = c_policy(accepted);
+        struct ::dcsctp_packet wrote {};
+        ::dcsctp_read(bytes_.data(), bytes_.size(), word_of(accepted, word), &it, rows.data(), rows.size(), &wrote);
+        return reading(bytes_, wrote, {rows.data(), rows.size()});
     }
     /// Computes what the checksum field has to be. For fewer than 12 bytes it has no meaning.
     [[nodiscard]] std::uint32_t word() const noexcept { return ::dcsctp_word(bytes_.data(), bytes_.size()); }

@@ -1082,6 +1082,68 @@ void stacks()
     CHECK(dcsctp::packet(after).first_fault(allowed) == wrong);
 }
 
+// Rows of a packet with each kind of numbers: what they say is what the chunks themselves do, and what the RFCs say.
+void rows()
+{
+    const bytes packet = sealed("000b0013 01020304 0005 0006 00000033 616263 00"                      // DATA
+                                "03000018 00000009 00010000 0001 0001 00020004 00000008"             // SACK
+                                "01000014 0000000b 00020000 0003 0004 0000000d"                      // INIT
+                                "07000008 00000011"                                                  // SHUTDOWN
+                                "c000000c 00000013 00050007"                                         // FORWARD-TSN
+                                "40020015 00000015 0006 0000 00000008 00000033 61 000000"            // I-DATA
+                                "0400000c 00010008 01020304"                                         // HEARTBEAT
+                                "0b000004");                                                         // COOKIE ACK
+    std::array<row, 9> all{};
+    all[8].tsn = 7;
+    const std::size_t before = allocations;
+    const reading read = dcsctp::packet(packet).read(all);
+    CHECK(read && read.code() == result_code::ok && !read.first_fault() && read.has_all() && read.chunk_count() == 8);
+    CHECK(read.header() && read.header()->source_port == 5000 && read.header()->verification_tag == 0x01020304);
+    CHECK(read.chunks().size() == 8 && all[8].tsn == 7);
+    const auto data = read.chunks().at(0)->as_data(), i_data = read.chunks().at(5)->as_data();
+    CHECK(data && data->tsn == 0x01020304 && data->stream == 5 && data->ssn == 6 && data->ppid == 51 && data->mid == 0);
+    CHECK(data->immediate_ack && !data->is_unordered && data->is_beginning && data->is_end && as_text(data->payload) == "abc");
+    CHECK(i_data && i_data->tsn == 21 && i_data->stream == 6 && i_data->mid == 8 && i_data->ppid == 51 && i_data->ssn == 0);
+    CHECK(i_data->is_beginning && !i_data->is_end && as_text(i_data->payload) == "a");
+    const row_view sack = *read.chunks().at(1);
+    CHECK(sack.as_sack() && sack.as_sack()->cumulative_tsn_ack == 9 && sack.as_sack()->a_rwnd == 0x10000);
+    CHECK(sack.as_sack()->block_count == 1 && sack.as_sack()->duplicate_count == 1 && sack.rest().size() == 8);
+    CHECK(sack.whole().gap_ack_blocks().size() == 1 && sack.whole().duplicate_tsns().at(0) == 8u && !sack.as_data());
+    const auto init = read.chunks().at(2)->as_init();
+    CHECK(init && init->initiate_tag == 11 && init->a_rwnd == 0x20000 && init->outbound_streams == 3
+          && init->inbound_streams == 4 && init->initial_tsn == 13);
+    CHECK(read.chunks().at(3)->as_shutdown() == 17u && !read.chunks().at(2)->as_shutdown() && !sack.as_init());
+    const auto forward = read.chunks().at(4)->as_forward_tsn();
+    CHECK(forward && forward->new_cumulative_tsn == 19 && forward->stream_count == 1 && !sack.as_forward_tsn());
+    CHECK(read.chunks().at(4)->whole().skipped_streams().at(0)->ssn == 7);
+    const row_view heartbeat = *read.chunks().at(6);
+    CHECK(heartbeat.type() == chunk_type::heartbeat && heartbeat.rest().size() == 8 && !heartbeat.as_sack());
+    CHECK(heartbeat.whole().parameters().begin()->value().size() == 4);
+    CHECK(read.chunks().at(7)->type() == chunk_type::cookie_ack && read.chunks().at(7)->rest().empty() && !read.chunks().at(8));
+    std::size_t at = DCSCTP_FIRST_CHUNK, count = 0;
+    for (row_view it : read.chunks()) {
+        const chunk one = it.whole();
+        CHECK(one.offset() == at && one.type() == it.type() && one.flags() == it.flags());
+        at = one.next_offset();
+        count++;
+    }
+    CHECK(at == packet.size() && count == 8);
+
+    // fewer rows than chunks, and none; a fault; what the C function wrote; no bytes
+    const reading few = dcsctp::packet(packet).read(view<row>(all).subspan(0, 2));
+    CHECK(few && few.chunk_count() == 8 && !few.has_all() && few.chunks().size() == 2);
+    CHECK(dcsctp::packet(packet).read({}).chunk_count() == 8 && dcsctp::packet(packet).read({}).chunks().empty());
+    const reading wrong = dcsctp::packet(packet).read(all, {}, 1);
+    CHECK(!wrong && wrong.first_fault()->code == result_code::fault_checksum && wrong.first_fault()->offset == 8);
+    CHECK(!wrong.header() && wrong.chunks().empty() && wrong.has_all() && wrong.chunk_count() == 0);
+    CHECK(dcsctp::packet(packet).read(all, {true, false, false}, 1));
+    struct ::dcsctp_packet wrote {};
+    const ::dcsctp_policy any{true, false, false, {}};
+    CHECK(::dcsctp_read(packet.data(), packet.size(), 0, &any, all.data(), all.size(), &wrote) == DCSCTP_OK);
+    CHECK(reading(packet, wrote, all).chunks().at(3)->as_shutdown() == 17u && allocations == before);
+    CHECK(!dcsctp::packet().read(all) && dcsctp::packet().read(all).first_fault()->offset == 0);
+}
+
 } // namespace
 
 int main()
@@ -1107,6 +1169,7 @@ int main()
     no_memory();
     unchecked();
     stacks();
+    rows();
     any_bytes();
     std::printf("cpp: %d passed, %d failed\n", passed, failed);
     return failed != 0;

@@ -222,6 +222,74 @@ static void captured_rows(void)
     CHECK(read.fault_offset == 8 && read.header.checksum == 7 && rows[0].tsn == 7);
 }
 
+static struct dcsctp_placed_packet placed(size_t offset, size_t size, uint32_t word)
+{
+    return (struct dcsctp_placed_packet){offset, size, word, 77, {{77, 77, 77, 77}, 77, 77, 77}};
+}
+
+/* What was read: the code, the first row, the chunks, the offset of the fault. The header stays, unless there is a packet. */
+static bool was_read(const struct dcsctp_placed_packet *it, uint32_t code, size_t first_row, size_t chunks, size_t fault)
+{
+    bool has_header = it->packet.header.source_port == 5000 && it->packet.header.destination_port == 5000;
+    bool header_stays = it->packet.header.source_port == 77 && it->packet.header.checksum == 77;
+    return it->packet.code == code && it->first_row == first_row && it->packet.chunk_count == chunks
+        && it->packet.fault_offset == fault && (code == DCSCTP_OK ? has_header : header_stays);
+}
+
+/* Two packets one after the other, and ranges over them: in one call, the rows of all in one array. */
+static void packets_in_a_block(void)
+{
+    static uint8_t block[HELLO + LENGTH];
+    enum { END = HELLO + LENGTH, PACKETS = 11 };
+    memcpy(block, hello, HELLO);
+    memcpy(block + HELLO, packet, LENGTH);
+    const struct dcsctp_placed_packet asked[PACKETS] = {
+        placed(0, HELLO, HELLO_WORD), placed(HELLO, LENGTH, 0), placed(0, HELLO, 0), placed(HELLO, LENGTH, 0),
+        placed(END, 0, 0), placed(HELLO, 15, 0), /* within the block; those that follow aren't */
+        placed(END + 1, 0, 0), placed(HELLO, LENGTH + 1, 0), placed(SIZE_MAX, 1, 0), placed(1, SIZE_MAX, 0), placed(SIZE_MAX, SIZE_MAX, 0),
+    };
+    static const size_t places[] = {SACK_AT, DATA_AT, HEARTBEAT_AT};
+    static const struct {
+        size_t room, written, firsts[4];
+    } rooms[] = {
+        {9, 7, {0, 1, 4, 4}}, {7, 7, {0, 1, 4, 4}}, {6, 6, {0, 1, 4, 4}}, {3, 3, {0, 1, 3, 3}}, {1, 1, {0, 1, 1, 1}}, {0, 0, {0, 0, 0, 0}},
+    };
+    for (size_t i = 0; i < sizeof rooms / sizeof *rooms; i++) {
+        const size_t room = rooms[i].room, end = rooms[i].written, *first = rooms[i].firsts;
+        struct dcsctp_placed_packet packets[PACKETS + 1];
+        struct dcsctp_row rows[10];
+        memcpy(packets, asked, sizeof asked);
+        packets[PACKETS].first_row = 7;
+        for (size_t k = 0; k < 10; k++)
+            rows[k] = (struct dcsctp_row){.tsn = 7};
+        CHECK(dcsctp_read_many(block, END, &exact, packets, PACKETS, rows, room) == end);
+        CHECK(was_read(&packets[0], DCSCTP_OK, first[0], 1, HELLO) && was_read(&packets[1], DCSCTP_OK, first[1], 3, LENGTH));
+        CHECK(was_read(&packets[2], DCSCTP_FAULT_CHECKSUM, first[2], 0, 8) && was_read(&packets[3], DCSCTP_OK, first[3], 3, LENGTH));
+        CHECK(was_read(&packets[4], DCSCTP_FAULT_SIZE, end, 0, 0) && was_read(&packets[5], DCSCTP_FAULT_SIZE, end, 0, 15));
+        for (size_t k = 6; k < PACKETS; k++)
+            CHECK(was_read(&packets[k], DCSCTP_BAD_PLACE, end, 0, 0));
+        for (size_t k = 0; k < PACKETS; k++)
+            CHECK(packets[k].offset == asked[k].offset && packets[k].size == asked[k].size && packets[k].word == asked[k].word);
+        CHECK(packets[PACKETS].first_row == 7);
+        CHECK(end < 1 || (rows[0].chunk.type == DCSCTP_CHUNK_DATA && rows[0].tsn == 2030482608 && rows[0].rest_offset == 28));
+        for (size_t k = 1; k < end; k++) /* a SACK, I-DATA and a HEARTBEAT, twice */
+            CHECK(rows[k].chunk.type == packet[places[(k - 1) % 3]] && rows[k].chunk.value_offset == places[(k - 1) % 3] + 4);
+        for (size_t k = end; k < 10; k++)
+            CHECK(rows[k].tsn == 7 && rows[k].chunk.next == 0);
+    }
+
+    /* no packet; another policy; no bytes */
+    struct dcsctp_placed_packet one = placed(0, HELLO, 0);
+    struct dcsctp_row row = {.tsn = 7};
+    CHECK(dcsctp_read_many(block, HELLO, &exact, &one, 0, &row, 1) == 0 && row.tsn == 7 && one.first_row == 77);
+    CHECK(dcsctp_read_many(block, HELLO, &exact, NULL, 0, NULL, 0) == 0 && dcsctp_read_many(NULL, 0, &exact, NULL, 0, NULL, 0) == 0);
+    CHECK(dcsctp_read_many(block, HELLO, &exact, &one, 1, &row, 1) == 0 && was_read(&one, DCSCTP_FAULT_CHECKSUM, 0, 0, 8));
+    CHECK(dcsctp_read_many(NULL, 0, &any, &one, 1, &row, 1) == 0 && was_read(&one, DCSCTP_BAD_PLACE, 0, 0, 0) && row.tsn == 7);
+    CHECK(dcsctp_read_many(block, HELLO, &any, &one, 1, &row, 1) == 1 && was_read(&one, DCSCTP_OK, 0, 1, HELLO) && row.tsn == 2030482608);
+    one = placed(0, 0, 0);
+    CHECK(dcsctp_read_many(NULL, 0, &any, &one, 1, &row, 1) == 0 && was_read(&one, DCSCTP_FAULT_SIZE, 0, 0, 0));
+}
+
 /* A COOKIE ACK under a wrong tag and without a checksum is given both. */
 static void captured_in_place(void)
 {
@@ -1187,6 +1255,7 @@ int main(void)
     captured_lists();
     whole_lists();
     captured_rows();
+    packets_in_a_block();
     captured_in_place();
     captured_faults();
     places();

@@ -751,6 +751,81 @@ static void try_rows(const uint8_t *bytes, size_t length, uint32_t word, enum pl
     }
 }
 
+static bool is_packet(const struct dcsctp_packet *packet, const struct dcsctp_packet *other)
+{
+    return packet->header.source_port == other->header.source_port && packet->header.destination_port == other->header.destination_port
+        && packet->header.verification_tag == other->header.verification_tag && packet->header.checksum == other->header.checksum
+        && packet->code == other->code && packet->chunk_count == other->chunk_count && packet->fault_offset == other->fault_offset;
+}
+
+/* A packet to be read: all bytes, a part of them, or what isn't one. */
+static struct dcsctp_placed_packet placed(size_t length, uint32_t word)
+{
+    struct dcsctp_placed_packet it = {0, length, word, 77, {{77, 77, 77, 77}, 77, 77, 77}};
+    switch (below(8)) {
+    case 0: /* a part */
+        it.offset = below(length + 1);
+        it.size = below(length - it.offset + 1);
+        break;
+    case 1: /* from a number of four bytes to the end */
+        it.offset = below(length / 4 + 1) * 4;
+        it.size = length - it.offset;
+        break;
+    case 2: /* bytes after the end */
+        it.offset = below(length + 2);
+        it.size = length + 1 - it.offset + below(3);
+        break;
+    case 3:
+        it.offset = SIZE_MAX - below(3);
+        it.size = below(4);
+        break;
+    case 4:
+        it.word = (uint32_t)draw();
+        break;
+    }
+    return it;
+}
+
+/* Reads parts of the bytes in one call: each as dcsctp_read reads it into the rows that those before it left. */
+static void try_many(const uint8_t *bytes, size_t length, uint32_t word, enum placing placing)
+{
+    static struct pages packet_pages;
+    enum { PACKETS = 5, ROWS = 24 };
+    const struct dcsctp_policy *policy = &policies[below(POLICIES)];
+    struct dcsctp_placed_packet asked[PACKETS];
+    struct dcsctp_row wanted_rows[ROWS];
+    size_t count = below(PACKETS + 1), room = below(ROWS + 1), first = 0;
+    for (size_t i = 0; i < count; i++)
+        asked[i] = placed(length, word);
+    struct block packets = copy_of(&packet_pages, (const uint8_t *)asked, count * sizeof *asked, placing);
+    struct block rows = block_of(&output_pages, room * sizeof *wanted_rows, placing);
+    memset(rows.bytes, 0xa5, rows.size);
+    size_t end = dcsctp_read_many(bytes, length, policy, (struct dcsctp_placed_packet *)(void *)packets.bytes, count,
+                                  (struct dcsctp_row *)(void *)rows.bytes, room);
+    for (size_t i = 0; i < count; i++) {
+        struct dcsctp_placed_packet it;
+        struct dcsctp_packet wanted = asked[i].packet;
+        size_t offset = asked[i].offset, size = asked[i].size;
+        memcpy(&it, packets.bytes + i * sizeof it, sizeof it);
+        REQUIRE(it.offset == offset && it.size == size && it.word == asked[i].word && it.first_row == first);
+        if (offset > length || size > length - offset) {
+            wanted.code = DCSCTP_BAD_PLACE, wanted.chunk_count = 0, wanted.fault_offset = 0;
+        } else {
+            dcsctp_read(bytes + offset, size, it.word, policy, wanted_rows, room - first, &wanted);
+            REQUIRE(it.packet.code == reference_fault(bytes + offset, size, it.word, policy).code);
+        }
+        REQUIRE(is_packet(&it.packet, &wanted));
+        for (size_t k = 0; k < wanted.chunk_count && first < room; k++, first++) {
+            struct dcsctp_row row;
+            memcpy(&row, rows.bytes + first * sizeof row, sizeof row);
+            REQUIRE(is_row(&row, &wanted_rows[k]));
+        }
+    }
+    REQUIRE(end == first && is_filled(rows.bytes + first * sizeof *wanted_rows, (room - first) * sizeof *wanted_rows));
+    release(rows);
+    release(packets);
+}
+
 typedef uint32_t writer(const uint8_t *, size_t, uint32_t, const struct dcsctp_policy *, uint8_t *, size_t, size_t *);
 
 /* Writes to outputs that are large enough, one byte too small, and empty. The block is empty unless the call succeeds. */
@@ -894,6 +969,7 @@ static void try_bytes(const uint8_t *bytes, size_t length, enum placing placing)
     REQUIRE(word == reference_word(bytes, length));
     try_check(input.bytes, length, word);
     try_rows(input.bytes, length, word, placing);
+    try_many(input.bytes, length, word, placing);
     try_walk(input.bytes, length);
     try_outputs(input.bytes, length, below(4) ? word : (uint32_t)draw(), placing);
     try_in_place(input.bytes, length, placing);

@@ -38,10 +38,11 @@ def header() -> str:
     raise FileNotFoundError("there is no dcsctp.h")
 
 
-# (the package reads a list in one call, without those that read one item)
+# (the package reads a list in one call, without those that read one item, and packets one by one)
 HEADER = re.sub(
-    r"^\w+ dcsctp_(?:gap_ack_block|duplicate_tsn|skipped_stream|parameter_at|reset_stream|missing_parameter|list_offset)\([^)]*\);",
-    "", header(), flags=re.MULTILINE)
+    r"^\w+ dcsctp_(?:gap_ack_block|duplicate_tsn|skipped_stream|parameter_at|reset_stream|missing_parameter|list_offset|read_many)\([^)]*\);"
+    r"|^struct dcsctp_placed_packet \{.*?^\};",
+    "", header(), flags=re.MULTILINE | re.DOTALL)
 
 
 def camel(name: str) -> str:

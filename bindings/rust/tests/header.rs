@@ -6,15 +6,18 @@ const HEADER: &str = include_str!("../../../dist/dcsctp.h");
 const FFI: &str = include_str!("../src/ffi.rs");
 const VALUES: &str = include_str!("../src/values.rs");
 
-/// Text without C's comments, without `dcsctp_read` and its structs, as the crate reads chunk by
-/// chunk, and without what reads the numbers of lists, which it reads where they lie.
+/// Text without C's comments; without `dcsctp_read`, `dcsctp_read_many` and their structs, as the
+/// crate reads chunk by chunk; and without what reads the numbers of lists, which it reads where
+/// they lie.
 fn without_comments(text: &str) -> String {
     let mut text: String =
         text.split("/*").map(|it| it.split_once("*/").map_or(it, |(_, rest)| rest)).collect();
     for (begin, end) in [
         ("struct dcsctp_row {", "};"),
         ("struct dcsctp_packet {", "};"),
+        ("struct dcsctp_placed_packet {", "};"),
         ("uint32_t dcsctp_read(", ");"),
+        ("size_t dcsctp_read_many(", ");"),
         ("bool dcsctp_gap_ack_block(", ");"),
         ("size_t dcsctp_gap_ack_blocks(", ");"),
         ("bool dcsctp_duplicate_tsn(", ");"),

@@ -3,6 +3,7 @@ pub mod Fills
 pub mod Places
 pub mod InitRows
 pub mod NumberRows
+pub mod PlacedPackets
 pub mod Rows
 pub mod Walks
 pub mod Writings

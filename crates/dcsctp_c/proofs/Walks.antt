@@ -5,7 +5,7 @@ use Rattle.dcsctp_c.specs.{Part.{ValueMeans, MeansFirst}, Walk.{AreFrom, end_of,
 
 -- ---- what was written
 
--- One struct more than so many, if it has room.
+-- One struct more than the number so far, if it has room.
 pub data Adds {S : Type 0} (old new : List S) (count : ℕ) (s : S) : Type 0 where
   has_room : length old ≡ count → new ≡ old ++ s ∷ [] → Adds old new count s
   no_room : length old ≤ count → new ≡ old → Adds old new count s

@@ -3,6 +3,7 @@ pub mod Fill
 pub mod Output
 pub mod Parameter
 pub mod Part
+pub mod PlacedPacket
 pub mod ReConfig
 pub mod Row
 pub mod Walk

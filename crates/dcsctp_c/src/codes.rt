@@ -39,7 +39,8 @@ pub const TOO_LONG: u32 = 8;
 /// It can't be written.
 pub const BAD_VALUE: u32 = 9;
 
-/// No packet has this size, or no chunk begins at the place and ends the packet.
+/// No packet has this size, or no chunk begins at the place and ends the packet. Or a packet does
+/// not lie within the block that it is read from.
 pub const BAD_PLACE: u32 = 10;
 
 /// Returns the code of an error: of each fault its own, and `NO_MEMORY` where an allocation failed.

@@ -15,6 +15,7 @@ mod parameters;
 mod parts;
 mod re_config;
 mod read;
+mod read_many;
 mod structs;
 mod version;
 mod writing;

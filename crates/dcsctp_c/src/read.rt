@@ -17,13 +17,11 @@ use crate::structs::{
 };
 use dcsctp_borrowed::forward_tsn_ref::ForwardTsnRef;
 use dcsctp_borrowed::sack_ref::SackRef;
+use dcsctp_chunk::sack_chunk::SackNumbers;
 use dcsctp_tlv::frame::frame_parts;
 use dcsctp_wire::packet::init_chunk::InitNumbers;
 use dcsctp_wire::packet::raw_chunk::RawChunk;
 use dcsctp_wire::packet::sctp_packet::{COMMON_HEADER_SIZE, SctpPacket};
-
-/// Bytes of a SACK's value before the gap ack blocks.
-const SACK_SIZE: usize = 12;
 
 /// Checks a packet, and writes its header, how many chunks it has, and a row for each chunk to the
 /// front of `rows`: as many as have room. Does not allocate.
@@ -204,7 +202,7 @@ fn sack_row(chunk: &DcsctpChunk, found: &DcsctpSack) -> DcsctpRow
         duplicate_count: found.duplicate_count,
         tsn: found.cumulative_tsn_ack,
         a_rwnd: found.a_rwnd,
-        ..row_after(SACK_SIZE, chunk)
+        ..row_after(SackNumbers::SIZE, chunk)
     }
 }
 

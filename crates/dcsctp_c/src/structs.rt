@@ -229,3 +229,19 @@ pub struct DcsctpPacket {
     /// The offset of the first fault; the number of bytes where there is none.
     pub fault_offset: usize,
 }
+
+/// A packet that lies in a block of bytes beside others: where it is, and what was read of it.
+#[repr(C)]
+#[derive(Clone, Copy)]
+pub struct DcsctpPlacedPacket {
+    /// The offset of the packet in the block.
+    pub offset: usize,
+    /// The size of the packet in bytes.
+    pub size: usize,
+    /// The number that its checksum field has to be.
+    pub word: u32,
+    /// The index of its first row.
+    pub first_row: usize,
+    /// What was read, as of a packet alone: offsets are those in the packet, not in the block.
+    pub packet: DcsctpPacket,
+}
