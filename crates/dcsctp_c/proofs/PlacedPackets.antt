@@ -1,7 +1,7 @@
 -- What was read of a packet, where rows are written after its own.
-use Rattle.std.proofs.{Common.{◌≡◌, ◌∙◌, ◌+◌, ◌-◌, ◌≤◌, ◌<◌, ℕ, List, [], ◌∷◌, ◌++◌, length, take, drop, set, get_or, min, refl, sym, ap, subst, inl, inr, arith, le_refl, take_all, drop-drop, length-take, get_or-drop, add-zero}, lemmas.Bool.{cases_lt}, lemmas.List.{drop-take, take-take, take_more, take_more_set}, Math.Seq.{drop-append-add}}
+use Rattle.std.proofs.{Common.{◌≡◌, ◌∙◌, ◌+◌, ◌-◌, ◌≤◌, ◌<◌, ℕ, List, [], ◌∷◌, ◌++◌, length, take, drop, set, get_or, min, sym, ap, subst, inl, inr, arith, le_refl, take_all, drop-drop, length-take, get_or-drop, add-zero}, lemmas.Bool.{cases_lt}, lemmas.List.{drop-take, take-take, take_more, take_more_set}, Math.Seq.{drop-append-add}}
 use Rattle.dcsctp_wire.specs.declared.packet.sctp_packet.ChecksumPolicy.{ChecksumPolicy}
-use Rattle.dcsctp_c.specs.{Row.{AreRows, MeanChunks, IsReading}, PlacedPacket.{IsPlacedReading, IsPacketAt, rows_end, IsAsked}, Walk.{AreFrom, end_of, MeanEach}}
+use Rattle.dcsctp_c.specs.{Row.{AreRows, MeanChunks, IsReading}, PlacedPacket.{IsPacketAt, rows_end, IsAsked}, Walk.{AreFrom, end_of, MeanEach}}
 use Rattle.dcsctp_c.specs.declared.structs.{DcsctpPacket.{DcsctpPacket}, DcsctpPlacedPacket.{DcsctpPlacedPacket}, DcsctpRow.{DcsctpRow}}
 use Rattle.dcsctp_c.proofs.Walks.{last_means}
 

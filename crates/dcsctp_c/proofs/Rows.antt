@@ -1,7 +1,6 @@
 -- The row of a chunk, and the rows of a packet, chunk after chunk.
 use Rattle.std.{proofs.Common.{◌≡◌, ◌≢◌, ◌∙◌, ◌+◌, ◌<◌, ◌≤◌, ℕ, List, [], Option, Some, None, length, drop, refl, sym, ap, arith, length-drop, get_or-drop}, specs.Option.{option_and_then}, proofs.lemmas.List.{drop_all}}
 use Rattle.dcsctp_tlv.specs.{Frame.{lenient, BeginsWithFrame}, Level.{MeansTrees, MeansSome}, Number.{AreBytes}}
-use Rattle.dcsctp_chunk.specs.Data as data_kind
 use Rattle.dcsctp_chunk.specs.Sack as sack_kind
 use Rattle.dcsctp_chunk.specs.SkippedStreams as skipped_streams
 use Rattle.dcsctp_wire.specs.Chunk.{ChunkTree, chunks}

@@ -1,8 +1,7 @@
 -- What a call that adds something did.
-use Rattle.std.{proofs.Common.{◌≡◌, ◌↔◌, ◌∙◌, IsTrue, ℕ, ◌/◌, ◌%◌, ◌==◌, ◌||◌, Bool, true, false, List, [], ◌∷◌, ◌++◌, length, refl, sym, ap, subst, not, if◌then◌else◌, Option, Some, None, option_map, arith, append-nil}, specs.Int.{w16, w32, to_be_bytes}}
+use Rattle.std.{proofs.Common.{◌≡◌, ◌↔◌, ◌∙◌, IsTrue, ℕ, ◌/◌, ◌%◌, ◌==◌, ◌||◌, Bool, true, false, List, [], ◌∷◌, ◌++◌, length, refl, sym, ap, subst, if◌then◌else◌, Option, Some, None, option_map, arith, append-nil}, specs.Int.{w16, w32, to_be_bytes}}
 use Rattle.dcsctp_tlv.{specs.{Image.{zeroed, solid}, Number.{numbers}, Parameter.{ParameterTree, OutgoingSsnResetRequest, IncomingSsnResetRequest}}, proofs.ReadsBack.{zeroed-solid}}
 use Rattle.dcsctp_cause.specs.Cause.{MissingMandatoryParameter}
-use Rattle.dcsctp_types.specs.{StreamKey.{stream_of, is_ordered_key}, declared.{api.stream_id.StreamId.{StreamId}, types.stream_key.StreamKey.TheVariants.{Ordered, Unordered}}}
 use Rattle.dcsctp_buffer.specs.Item.{IsLastChunk}
 use Rattle.dcsctp_buffer.specs.declared.error.WriteError.TheVariants.{BadPlace, BadValue}
 use Rattle.dcsctp_c.specs.{Code.{bad_value_code, bad_place_code}, Output.{Output}, Writing.{declined, AddsNothing, AddsItem, AddsParameter, fixed_tree, re_config_tree, value_of, cause_value, has_streams}, declared.structs.DcsctpReConfig.{DcsctpReConfig}}
