@@ -1,6 +1,6 @@
 -- A walk over bytes that are items, or aren't: what is known of what is left.
 use Rattle.std.proofs.Common.{◌≡◌, ◌≢◌, ◌≤◌, ◌&&◌, ℕ, zero, suc, Bool, true, false, List, [], ◌∷◌, ◌++◌, length, refl, ◌∙◌, arith}
-use Rattle.dcsctp_tlv.{specs.Number.{AreBytes}, specs.Frame.{lenient, BeginsWithFrame, frame_length, frame_value, frame_rest}, specs.Level.{MeansSome, front_row}, specs.UnknownParameter.{Tree, read}, proofs.Lists.{Progress, begin, step, finish}, proofs.Checks.{frame_shrinks}}
+use Rattle.dcsctp_tlv.{specs.Number.{AreBytes}, specs.Frame.{lenient, BeginsWithFrame, frame_value, frame_rest}, specs.Level.{MeansSome, front_row}, specs.UnknownParameter.{Tree, read}, proofs.Lists.{Progress, begin, step, finish}, proofs.Checks.{frame_shrinks}}
 use Rattle.dcsctp_borrowed.proofs.Fronts.{front}
 use Rattle.dcsctp_registry.specs.RawItems.{raw_items, has_frame, are_items_of}
 
