@@ -9,7 +9,8 @@
    What the caller has to ensure:
    - A pointer leads to as many bytes or items as its length says. It may be null where that length is 0, and only there;
      a pointer without a length leads to one item.
-   - An output overlaps no input and no other output. `packet` of the writing functions is both, and is one buffer.
+   - An output overlaps no input and no other output. `packet` of the writing functions is both, and is one buffer; so are
+     `packets` of dcsctp_read_many, and one array.
    - A bool is 0 or 1.
    - dcsctp_canonical and dcsctp_print allocate with malloc, and free what they allocate; no other function allocates.
      Call neither from a signal handler, or in the forked child of a process with threads; all others may be called there.
@@ -50,7 +51,8 @@ enum dcsctp_result {
     DCSCTP_NO_ROOM = 7,        /* the output is too small, or the packet would have more than 65,532 bytes */
     DCSCTP_TOO_LONG = 8,       /* the bytes are a packet, but its canonical form would have more than 65,532 bytes */
     DCSCTP_BAD_VALUE = 9,      /* a chunk would have more than 65,535 bytes, or what has to be UTF-8 isn't */
-    DCSCTP_BAD_PLACE = 10      /* no packet has this size, or what should be its last chunk doesn't look like one */
+    DCSCTP_BAD_PLACE = 10      /* no packet has this size, or what should be its last chunk doesn't look like one; or a packet
+                                  that dcsctp_read_many is to read isn't within the bytes */
 };
 
 /* The offset of a packet's first chunk: the size of the common header. */
@@ -298,6 +300,16 @@ struct dcsctp_packet {
     size_t fault_offset; /* the length of the bytes where there is no fault */
 };
 
+/* A packet that dcsctp_read_many reads: the caller says where it is and which checksum is right, and the call writes the
+   rest. */
+struct dcsctp_placed_packet {
+    size_t offset; /* of its first byte, in the bytes of all packets */
+    size_t size;   /* its length */
+    uint32_t word; /* what its checksum field has to be */
+    size_t first_row; /* written: the index of its first row */
+    struct dcsctp_packet packet; /* written; its offset, and those in the rows, are counted from the packet's first byte on */
+};
+
 /* ---- reading a whole packet
 
    `length` is the packet's, as the headers before it give it: without what a frame adds after it. `word` is the number
@@ -316,6 +328,14 @@ uint32_t dcsctp_first_fault(const uint8_t *bytes, size_t length, uint32_t word, 
    stay. Of a fault its offset is written, as dcsctp_first_fault writes it, and the header and the rows stay. */
 uint32_t dcsctp_read(const uint8_t *bytes, size_t length, uint32_t word, const struct dcsctp_policy *policy,
                      struct dcsctp_row *rows, size_t row_count, struct dcsctp_packet *packet);
+
+/* Reads many packets in one call, each as dcsctp_read does: they lie anywhere in `bytes`, also over one another. The rows of
+   a packet follow those of the packet before it, from the front of `rows` on, and as many are written as have room. Returns
+   how many were: the rows after them stay. A packet has all of its rows if its chunk_count is at most row_count - first_row:
+   go on at the first that hasn't. The code of one that doesn't lie within `bytes` is DCSCTP_BAD_PLACE; it has no chunks, its
+   fault_offset is 0, and its header stays. */
+size_t dcsctp_read_many(const uint8_t *bytes, size_t length, const struct dcsctp_policy *policy,
+                        struct dcsctp_placed_packet *packets, size_t packet_count, struct dcsctp_row *rows, size_t row_count);
 
 /* Writes the canonical packet to the front of `output` and its size to `size`: two packets have the same one if and
    only if they mean the same. A text that isn't UTF-8, of the causes User-Initiated Abort and Protocol Violation, is read

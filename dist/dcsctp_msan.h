@@ -65,6 +65,23 @@
     DCSCTP_MSAN(uint32_t, name, declared, passed, before; DCSCTP_MSAN_READS(&room, 1); const size_t old = *size,          \
                 DCSCTP_MSAN_WRITES(returned == DCSCTP_OK, packet + old, *size - old))
 
+/* A packet of those that dcsctp_read_many reads: before the call, and after it. */
+static inline void dcsctp_msan_reads_placed(const uint8_t *bytes, size_t length, const struct dcsctp_placed_packet *it)
+{
+    DCSCTP_MSAN_READS_FIELDS(it, offset, size);
+    if (it->offset <= length && it->size <= length - it->offset)
+        DCSCTP_MSAN_READS(bytes + it->offset, it->size);
+}
+
+static inline void dcsctp_msan_writes_placed(const struct dcsctp_placed_packet *it)
+{
+    DCSCTP_MSAN_WRITES(true, &it->first_row, 1);
+    DCSCTP_MSAN_WRITES(true, &it->packet.code, 1);
+    DCSCTP_MSAN_WRITES(true, &it->packet.chunk_count, 1);
+    DCSCTP_MSAN_WRITES(true, &it->packet.fault_offset, 1);
+    DCSCTP_MSAN_WRITES(it->packet.code == DCSCTP_OK, &it->packet.header, 1);
+}
+
 #ifdef __cplusplus
 extern "C" {
 #endif
@@ -82,6 +99,13 @@ DCSCTP_MSAN(uint32_t, dcsctp_read,
             DCSCTP_MSAN_WRITES(returned == DCSCTP_OK, &packet->header, 1); DCSCTP_MSAN_WRITES(true, &packet->code, 1);
             DCSCTP_MSAN_WRITES(true, &packet->chunk_count, 1); DCSCTP_MSAN_WRITES(true, &packet->fault_offset, 1);
             DCSCTP_MSAN_WRITES(true, rows, packet->chunk_count < row_count ? packet->chunk_count : row_count))
+DCSCTP_MSAN(size_t, dcsctp_read_many,
+            (const uint8_t *bytes, size_t length, const struct dcsctp_policy *policy, struct dcsctp_placed_packet *packets,
+             size_t packet_count, struct dcsctp_row *rows, size_t row_count),
+            (bytes, length, policy, packets, packet_count, rows, row_count),
+            DCSCTP_MSAN_READS(policy, 1); for (size_t i = 0; i < packet_count; i++) dcsctp_msan_reads_placed(bytes, length, &packets[i]),
+            for (size_t i = 0; i < packet_count; i++) dcsctp_msan_writes_placed(&packets[i]);
+            DCSCTP_MSAN_WRITES(true, rows, returned))
 DCSCTP_MSAN_WHOLE(dcsctp_canonical)
 DCSCTP_MSAN_WHOLE(dcsctp_print)
 DCSCTP_MSAN_WHOLE(dcsctp_report)
