@@ -718,7 +718,7 @@ dcsctp_tlv.parameter.parameters_fill:
 	cbz	x2, .Ldcsctp_BB4_8
 	hint	#25
 	.cfi_negate_ra_state
-	sub	sp, sp, #112
+	str	d8, [sp, #-112]!
 	.cfi_def_cfa_offset 112
 	stp	x29, x30, [sp, #16]
 	stp	x28, x27, [sp, #32]
@@ -740,6 +740,7 @@ dcsctp_tlv.parameter.parameters_fill:
 	.cfi_offset w28, -80
 	.cfi_offset w30, -88
 	.cfi_offset w29, -96
+	.cfi_offset b8, -112
 	.cfi_remember_state
 	mov	x19, x2
 	mov	x20, x1
@@ -798,6 +799,7 @@ dcsctp_tlv.parameter.parameters_fill:
 	.cfi_same_value w28
 	.cfi_same_value w30
 	.cfi_same_value w29
+	.cfi_same_value b8
 	mov	w0, wzr
 	ret
 .Ldcsctp_BB4_9:
@@ -957,18 +959,20 @@ dcsctp_tlv.parameter.parameters_fill:
 	str	q0, [x9, #32]
 	b	.Ldcsctp_BB4_13
 .Ldcsctp_BB4_39:
-	sub	x23, x8, #16
-	lsr	x22, x23, #1
+	sub	x25, x8, #16
+	ldur	d8, [x20, #4]
+	ldr	w23, [x20, #12]
+	lsr	x22, x25, #1
 	cbz	x22, .Ldcsctp_BB4_60
 	cmp	x8, #16
 	b.lo	.Ldcsctp_BB4_104
-	and	x0, x23, #0x7ffffffffffffffe
+	and	x0, x25, #0x7ffffffffffffffe
 	mov	w1, #2
 	bl	rattle_alloc
 	tbz	w0, #0, .Ldcsctp_BB4_104
-	cmp	x23, #16
+	cmp	x25, #16
 	b.lo	.Ldcsctp_BB4_45
-	and	x8, x23, #0xfffffffffffffffe
+	and	x8, x25, #0xfffffffffffffffe
 	add	x9, x20, x8
 	add	x9, x9, #16
 	cmp	x9, x1
@@ -1053,14 +1057,12 @@ dcsctp_tlv.parameter.parameters_fill:
 .Ldcsctp_BB4_61:
 	ldp	x10, x8, [x21]
 	mov	w9, #48
-	ldur	d0, [x20, #4]
-	ldr	w11, [x20, #12]
+	rev32	v0.8b, v8.8b
 	madd	x9, x8, x9, x10
-	rev32	v0.8b, v0.8b
 	mov	w10, #2
 	add	x8, x8, #1
 	strb	w10, [x9]
-	rev	w10, w11
+	rev	w10, w23
 	str	wzr, [x9, #4]
 	str	d0, [x9, #8]
 	stp	w10, wzr, [x9, #16]
@@ -1137,7 +1139,7 @@ dcsctp_tlv.parameter.parameters_fill:
 	add	x8, x8, #1
 	b	.Ldcsctp_BB4_13
 .Ldcsctp_BB4_77:
-	cmp	x23, #64
+	cmp	x25, #64
 	b.hs	.Ldcsctp_BB4_83
 	mov	x8, xzr
 	b	.Ldcsctp_BB4_87
@@ -1179,7 +1181,7 @@ dcsctp_tlv.parameter.parameters_fill:
 	b.ne	.Ldcsctp_BB4_84
 	cmp	x22, x8
 	b.eq	.Ldcsctp_BB4_61
-	tst	x23, #0x30
+	tst	x25, #0x30
 	b.eq	.Ldcsctp_BB4_46
 .Ldcsctp_BB4_87:
 	mov	x11, x8
@@ -1291,7 +1293,7 @@ dcsctp_tlv.parameter.parameters_fill:
 	ldp	x26, x25, [sp, #48]
 	ldp	x28, x27, [sp, #32]
 	ldp	x29, x30, [sp, #16]
-	add	sp, sp, #112
+	ldr	d8, [sp], #112
 	.cfi_def_cfa_offset 0
 	.cfi_restore w19
 	.cfi_restore w20
@@ -1305,6 +1307,7 @@ dcsctp_tlv.parameter.parameters_fill:
 	.cfi_restore w28
 	.cfi_restore w30
 	.cfi_restore w29
+	.cfi_restore b8
 	hint	#29
 	.cfi_negate_ra_state
 	ret

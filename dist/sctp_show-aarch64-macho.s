@@ -583,15 +583,16 @@ Ldcsctp_BB3_6:
 _dcsctp_tlv.parameter.parameters_fill:
 	.cfi_startproc
 	cbz	x2, Ldcsctp_BB4_8
-	sub	sp, sp, #112
-	.cfi_def_cfa_offset 112
-	stp	x28, x27, [sp, #16]
-	stp	x26, x25, [sp, #32]
-	stp	x24, x23, [sp, #48]
-	stp	x22, x21, [sp, #64]
-	stp	x20, x19, [sp, #80]
-	stp	x29, x30, [sp, #96]
-	add	x29, sp, #96
+	sub	sp, sp, #128
+	.cfi_def_cfa_offset 128
+	stp	d9, d8, [sp, #16]
+	stp	x28, x27, [sp, #32]
+	stp	x26, x25, [sp, #48]
+	stp	x24, x23, [sp, #64]
+	stp	x22, x21, [sp, #80]
+	stp	x20, x19, [sp, #96]
+	stp	x29, x30, [sp, #112]
+	add	x29, sp, #112
 	.cfi_def_cfa w29, 16
 	.cfi_offset w30, -8
 	.cfi_offset w29, -16
@@ -605,6 +606,8 @@ _dcsctp_tlv.parameter.parameters_fill:
 	.cfi_offset w26, -80
 	.cfi_offset w27, -88
 	.cfi_offset w28, -96
+	.cfi_offset b8, -104
+	.cfi_offset b9, -112
 	.cfi_remember_state
 	mov	x19, x2
 	mov	x20, x1
@@ -662,6 +665,8 @@ Ldcsctp_BB4_8:
 	.cfi_same_value w26
 	.cfi_same_value w27
 	.cfi_same_value w28
+	.cfi_same_value b8
+	.cfi_same_value b9
 	mov	w0, #0
 	ret
 Ldcsctp_BB4_9:
@@ -828,18 +833,20 @@ Ldcsctp_BB4_36:
 	str	q0, [x9, #32]
 	b	Ldcsctp_BB4_76
 Ldcsctp_BB4_39:
-	sub	x23, x8, #16
-	lsr	x22, x23, #1
+	ldur	d8, [x20, #4]
+	ldr	w23, [x20, #12]
+	sub	x25, x8, #16
+	lsr	x22, x25, #1
 	cbz	x22, Ldcsctp_BB4_60
 	cmp	x8, #16
 	b.lo	Ldcsctp_BB4_104
-	and	x0, x23, #0x7ffffffffffffffe
+	and	x0, x25, #0x7ffffffffffffffe
 	mov	w1, #2
 	bl	_rattle_alloc
 	tbz	w0, #0, Ldcsctp_BB4_104
-	cmp	x23, #16
+	cmp	x25, #16
 	b.lo	Ldcsctp_BB4_45
-	and	x8, x23, #0xfffffffffffffffe
+	and	x8, x25, #0xfffffffffffffffe
 	add	x9, x20, x8
 	add	x9, x9, #16
 	cmp	x9, x1
@@ -926,13 +933,11 @@ Ldcsctp_BB4_59:
 Ldcsctp_BB4_60:
 	add	x1, sp, #14
 Ldcsctp_BB4_61:
-	ldr	w8, [x20, #12]
-	rev	w8, w8
+	rev32	v0.8b, v8.8b
+	rev	w8, w23
 	ldp	x10, x9, [x21]
 	mov	w11, #48
 	madd	x10, x9, x11, x10
-	ldur	d0, [x20, #4]
-	rev32	v0.8b, v0.8b
 	mov	w11, #2
 	strb	w11, [x10]
 	str	wzr, [x10, #4]
@@ -1009,7 +1014,7 @@ Ldcsctp_BB4_76:
 	add	x8, x8, #1
 	b	Ldcsctp_BB4_13
 Ldcsctp_BB4_77:
-	cmp	x23, #128
+	cmp	x25, #128
 	b.hs	Ldcsctp_BB4_83
 	mov	x8, #0
 	b	Ldcsctp_BB4_87
@@ -1070,7 +1075,7 @@ Ldcsctp_BB4_84:
 	b.ne	Ldcsctp_BB4_84
 	cmp	x22, x8
 	b.eq	Ldcsctp_BB4_61
-	tst	x23, #0x70
+	tst	x25, #0x70
 	b.eq	Ldcsctp_BB4_46
 Ldcsctp_BB4_87:
 	mov	x10, x8
@@ -1196,14 +1201,15 @@ Ldcsctp_BB4_104:
 Ldcsctp_BB4_105:
 	mov	w0, #0
 Ldcsctp_BB4_106:
-	.cfi_def_cfa wsp, 112
-	ldp	x29, x30, [sp, #96]
-	ldp	x20, x19, [sp, #80]
-	ldp	x22, x21, [sp, #64]
-	ldp	x24, x23, [sp, #48]
-	ldp	x26, x25, [sp, #32]
-	ldp	x28, x27, [sp, #16]
-	add	sp, sp, #112
+	.cfi_def_cfa wsp, 128
+	ldp	x29, x30, [sp, #112]
+	ldp	x20, x19, [sp, #96]
+	ldp	x22, x21, [sp, #80]
+	ldp	x24, x23, [sp, #64]
+	ldp	x26, x25, [sp, #48]
+	ldp	x28, x27, [sp, #32]
+	ldp	d9, d8, [sp, #16]
+	add	sp, sp, #128
 	.cfi_def_cfa_offset 0
 	.cfi_restore w30
 	.cfi_restore w29
@@ -1217,6 +1223,8 @@ Ldcsctp_BB4_106:
 	.cfi_restore w26
 	.cfi_restore w27
 	.cfi_restore w28
+	.cfi_restore b8
+	.cfi_restore b9
 	ret
 	.cfi_endproc
 	.p2align	2

@@ -2786,14 +2786,14 @@ dcsctp_tlv.frame.padding_fault:
 	.byte	6
 	.byte	5
 	.byte	4
-	.zero	1
-	.zero	1
-	.zero	1
-	.zero	1
-	.zero	1
-	.zero	1
-	.zero	1
-	.zero	1
+	.byte	11
+	.byte	10
+	.byte	9
+	.byte	8
+	.byte	15
+	.byte	14
+	.byte	13
+	.byte	12
 	.text
 	.p2align	4
 dcsctp_tlv.parameter.parameters_fill:
@@ -2814,8 +2814,10 @@ dcsctp_tlv.parameter.parameters_fill:
 	.seh_pushreg %rbp
 	pushq	%rbx
 	.seh_pushreg %rbx
-	subq	$56, %rsp
-	.seh_stackalloc 56
+	subq	$72, %rsp
+	.seh_stackalloc 72
+	movdqa	%xmm6, 48(%rsp)
+	.seh_savexmm %xmm6, 48
 	.seh_endprologue
 	testq	%r8, %r8
 	je	.Ldcsctp_BB5_107
@@ -2843,8 +2845,8 @@ dcsctp_tlv.parameter.parameters_fill:
 	movq	%rcx, %rdx
 	subq	%rax, %rdx
 	cmpq	%rdx, %rbx
-	movq	%r10, 48(%rsp)
-	jbe	.Ldcsctp_BB5_14
+	movq	%r10, 40(%rsp)
+	jbe	.Ldcsctp_BB5_13
 	movb	$1, %r8b
 	addq	%rax, %rbx
 	jb	.Ldcsctp_BB5_108
@@ -2875,39 +2877,31 @@ dcsctp_tlv.parameter.parameters_fill:
 	movb	$1, %r8b
 	je	.Ldcsctp_BB5_108
 .Ldcsctp_BB5_9:
-	movq	48(%rsp), %r10
+	movq	40(%rsp), %r10
 	movq	%rdx, (%r10)
 	movq	%rbx, 16(%r10)
-	jmp	.Ldcsctp_BB5_14
+	jmp	.Ldcsctp_BB5_13
 .Ldcsctp_BB5_10:
-	movl	8(%rdi), %eax
+	movl	(%r9), %eax
 	bswapl	%eax
-	cmpl	$6, %eax
-	movl	$6, %ecx
-	cmovbl	%eax, %ecx
-	movl	4(%rdi), %eax
-	bswapl	%eax
-	movq	(%r10), %rdx
-	movq	8(%r10), %r8
-	leaq	(%r8,%r8,2), %r9
-	shlq	$4, %r9
-	movb	$5, (%rdx,%r9)
-	movl	%eax, 4(%rdx,%r9)
-	movb	%cl, 8(%rdx,%r9)
-	movw	$0, 9(%rdx,%r9)
-	movb	$0, 11(%rdx,%r9)
-	movdqu	%xmm1, 12(%rdx,%r9)
-	movdqu	%xmm0, 28(%rdx,%r9)
-	movl	$0, 44(%rdx,%r9)
+	movq	(%r10), %rcx
+	movq	8(%r10), %rdx
+	leaq	(%rdx,%rdx,2), %r8
+	shlq	$4, %r8
+	movb	$8, (%rcx,%r8)
 .Ldcsctp_BB5_11:
-	incq	%r8
+	movl	%eax, 4(%rcx,%r8)
+	pxor	%xmm0, %xmm0
+	movdqu	%xmm0, 8(%rcx,%r8)
+	movdqu	%xmm0, 24(%rcx,%r8)
+	movq	$0, 40(%rcx,%r8)
+	incq	%rdx
+	movq	%rdx, 8(%r10)
 .Ldcsctp_BB5_12:
-	movq	%r8, 8(%r10)
-.Ldcsctp_BB5_13:
 	addq	%rbp, %rdi
 	subq	%rbp, %rsi
 	je	.Ldcsctp_BB5_107
-.Ldcsctp_BB5_14:
+.Ldcsctp_BB5_13:
 	movzwl	(%rdi), %ebx
 	movzwl	2(%rdi), %eax
 	rolw	$8, %ax
@@ -2923,38 +2917,40 @@ dcsctp_tlv.parameter.parameters_fill:
 	movzwl	%bx, %r14d
 	leal	-13(%r14), %eax
 	cmpl	$5, %eax
-	ja	.Ldcsctp_BB5_21
+	ja	.Ldcsctp_BB5_20
 	leaq	.Ldcsctp_JTI5_0(%rip), %rcx
 	movslq	(%rcx,%rax,4), %rax
 	addq	%rcx, %rax
 	jmpq	*%rax
-.Ldcsctp_BB5_16:
-	leaq	-16(%r13), %r14
-	movq	%r14, %rbx
+.Ldcsctp_BB5_15:
+	movq	4(%rdi), %xmm6
+	movl	12(%rdi), %r14d
+	leaq	-16(%r13), %r15
+	movq	%r15, %rbx
 	shrq	%rbx
-	je	.Ldcsctp_BB5_45
+	je	.Ldcsctp_BB5_43
 	movb	$1, %r8b
 	cmpw	$16, %r13w
 	jb	.Ldcsctp_BB5_108
 	movabsq	$9223372036854775792, %rax
 	leaq	14(%rax), %rcx
-	andq	%r14, %rcx
+	andq	%r15, %rcx
 	movl	$2, %edx
 	callq	rattle_alloc
 	movb	$1, %r8b
 	testb	$1, %al
 	je	.Ldcsctp_BB5_108
-	cmpl	$8, %r14d
-	jae	.Ldcsctp_BB5_47
+	cmpl	$8, %r15d
+	jae	.Ldcsctp_BB5_45
 	xorl	%eax, %eax
-	movq	48(%rsp), %r10
-	jmp	.Ldcsctp_BB5_66
+	movq	40(%rsp), %r10
+	jmp	.Ldcsctp_BB5_64
 	.p2align	4
-.Ldcsctp_BB5_21:
+.Ldcsctp_BB5_20:
 	cmpl	$32769, %r14d
-	je	.Ldcsctp_BB5_24
+	je	.Ldcsctp_BB5_10
 	cmpl	$49152, %r14d
-	jne	.Ldcsctp_BB5_26
+	jne	.Ldcsctp_BB5_24
 	movq	(%r10), %rax
 	movq	8(%r10), %rcx
 	leaq	(%rcx,%rcx,2), %rdx
@@ -2964,19 +2960,8 @@ dcsctp_tlv.parameter.parameters_fill:
 	movdqu	%xmm0, 4(%rax,%rdx)
 	movdqu	%xmm0, 20(%rax,%rdx)
 	movdqu	%xmm0, 32(%rax,%rdx)
-	incq	%rcx
-	movq	%rcx, 8(%r10)
-	jmp	.Ldcsctp_BB5_13
-.Ldcsctp_BB5_24:
-	movl	(%r9), %eax
-	bswapl	%eax
-	movq	(%r10), %rcx
-	movq	8(%r10), %rdx
-	leaq	(%rdx,%rdx,2), %r8
-	shlq	$4, %r8
-	movb	$8, (%rcx,%r8)
-	jmp	.Ldcsctp_BB5_33
-.Ldcsctp_BB5_25:
+	jmp	.Ldcsctp_BB5_70
+.Ldcsctp_BB5_23:
 	movl	4(%rdi), %eax
 	bswapl	%eax
 	movzwl	8(%rdi), %ecx
@@ -2986,10 +2971,10 @@ dcsctp_tlv.parameter.parameters_fill:
 	leaq	(%r8,%r8,2), %r9
 	shlq	$4, %r9
 	movb	$6, (%rdx,%r9)
-	jmp	.Ldcsctp_BB5_42
-.Ldcsctp_BB5_26:
+	jmp	.Ldcsctp_BB5_40
+.Ldcsctp_BB5_24:
 	testq	%r15, %r15
-	je	.Ldcsctp_BB5_43
+	je	.Ldcsctp_BB5_41
 	movb	$1, %r8b
 	cmpw	$4, %r13w
 	jb	.Ldcsctp_BB5_108
@@ -3000,21 +2985,21 @@ dcsctp_tlv.parameter.parameters_fill:
 	testb	$1, %al
 	je	.Ldcsctp_BB5_108
 	movq	%rdx, %r12
-	movq	48(%rsp), %r10
+	movq	40(%rsp), %r10
 	leaq	4(%rdi), %r9
 	movq	%r12, %rax
 	subq	%r9, %rax
 	cmpq	%r15, %rax
-	jae	.Ldcsctp_BB5_44
-.Ldcsctp_BB5_30:
+	jae	.Ldcsctp_BB5_42
+.Ldcsctp_BB5_28:
 	cmpl	$4, %r15d
-	jb	.Ldcsctp_BB5_31
+	jb	.Ldcsctp_BB5_29
 	movq	%r12, %rax
 	subq	%rdi, %rax
 	addq	$-4, %rax
 	cmpq	$32, %rax
-	jae	.Ldcsctp_BB5_57
-.Ldcsctp_BB5_31:
+	jae	.Ldcsctp_BB5_55
+.Ldcsctp_BB5_29:
 	xorl	%eax, %eax
 .Ldcsctp_BB5_93:
 	movq	%r13, %rdx
@@ -3049,7 +3034,7 @@ dcsctp_tlv.parameter.parameters_fill:
 	cmpq	%rcx, %r15
 	jne	.Ldcsctp_BB5_97
 	jmp	.Ldcsctp_BB5_98
-.Ldcsctp_BB5_32:
+.Ldcsctp_BB5_30:
 	movl	(%r9), %eax
 	bswapl	%eax
 	movq	(%r10), %rcx
@@ -3057,20 +3042,12 @@ dcsctp_tlv.parameter.parameters_fill:
 	leaq	(%rdx,%rdx,2), %r8
 	shlq	$4, %r8
 	movb	$4, (%rcx,%r8)
-.Ldcsctp_BB5_33:
-	movl	%eax, 4(%rcx,%r8)
-	pxor	%xmm0, %xmm0
-	movdqu	%xmm0, 8(%rcx,%r8)
-	movdqu	%xmm0, 24(%rcx,%r8)
-	movq	$0, 40(%rcx,%r8)
-	incq	%rdx
-	movq	%rdx, 8(%r10)
-	jmp	.Ldcsctp_BB5_13
-.Ldcsctp_BB5_34:
+	jmp	.Ldcsctp_BB5_11
+.Ldcsctp_BB5_31:
 	pxor	%xmm0, %xmm0
 	pxor	%xmm1, %xmm1
 	cmpl	$8, %r15d
-	je	.Ldcsctp_BB5_10
+	je	.Ldcsctp_BB5_33
 	movl	12(%rdi), %eax
 	movl	16(%rdi), %ecx
 	bswapl	%eax
@@ -3080,12 +3057,32 @@ dcsctp_tlv.parameter.parameters_fill:
 	pinsrd	$1, %eax, %xmm1
 	pinsrd	$2, %edx, %xmm1
 	pinsrd	$3, %ecx, %xmm1
-	jmp	.Ldcsctp_BB5_10
-.Ldcsctp_BB5_36:
+.Ldcsctp_BB5_33:
+	movl	8(%rdi), %eax
+	bswapl	%eax
+	cmpl	$6, %eax
+	movl	$6, %ecx
+	cmovbl	%eax, %ecx
+	movl	4(%rdi), %eax
+	bswapl	%eax
+	movq	(%r10), %rdx
+	movq	8(%r10), %r8
+	leaq	(%r8,%r8,2), %r9
+	shlq	$4, %r9
+	movb	$5, (%rdx,%r9)
+	movl	%eax, 4(%rdx,%r9)
+	movb	%cl, 8(%rdx,%r9)
+	movw	$0, 9(%rdx,%r9)
+	movb	$0, 11(%rdx,%r9)
+	movdqu	%xmm1, 12(%rdx,%r9)
+	movdqu	%xmm0, 28(%rdx,%r9)
+	movl	$0, 44(%rdx,%r9)
+	jmp	.Ldcsctp_BB5_85
+.Ldcsctp_BB5_34:
 	leaq	-8(%r13), %r14
 	movq	%r14, %rbx
 	shrq	%rbx
-	je	.Ldcsctp_BB5_46
+	je	.Ldcsctp_BB5_44
 	movb	$1, %r8b
 	cmpw	$8, %r13w
 	jb	.Ldcsctp_BB5_108
@@ -3099,11 +3096,11 @@ dcsctp_tlv.parameter.parameters_fill:
 	testb	$1, %al
 	je	.Ldcsctp_BB5_108
 	cmpl	$8, %r14d
-	jae	.Ldcsctp_BB5_49
+	jae	.Ldcsctp_BB5_47
 	xorl	%eax, %eax
-	movq	48(%rsp), %r10
-	jmp	.Ldcsctp_BB5_80
-.Ldcsctp_BB5_41:
+	movq	40(%rsp), %r10
+	jmp	.Ldcsctp_BB5_79
+.Ldcsctp_BB5_39:
 	movl	4(%rdi), %eax
 	bswapl	%eax
 	movzwl	8(%rdi), %ecx
@@ -3113,7 +3110,7 @@ dcsctp_tlv.parameter.parameters_fill:
 	leaq	(%r8,%r8,2), %r9
 	shlq	$4, %r9
 	movb	$7, (%rdx,%r9)
-.Ldcsctp_BB5_42:
+.Ldcsctp_BB5_40:
 	movl	%eax, 4(%rdx,%r9)
 	movw	%cx, 8(%rdx,%r9)
 	incq	%r8
@@ -3121,19 +3118,20 @@ dcsctp_tlv.parameter.parameters_fill:
 	movdqu	%xmm0, 10(%rdx,%r9)
 	movdqu	%xmm0, 26(%rdx,%r9)
 	movq	$0, 40(%rdx,%r9)
+	movq	%r8, 8(%r10)
 	jmp	.Ldcsctp_BB5_12
-.Ldcsctp_BB5_43:
-	leaq	46(%rsp), %r12
+.Ldcsctp_BB5_41:
+	leaq	38(%rsp), %r12
 	movq	%r12, %rax
 	subq	%r9, %rax
 	cmpq	%r15, %rax
-	jb	.Ldcsctp_BB5_30
-.Ldcsctp_BB5_44:
+	jb	.Ldcsctp_BB5_28
+.Ldcsctp_BB5_42:
 	movq	%r12, %rcx
 	movq	%r9, %rdx
 	movq	%r15, %r8
 	callq	memmove
-	movq	48(%rsp), %r10
+	movq	40(%rsp), %r10
 .Ldcsctp_BB5_98:
 	movq	8(%r10), %rax
 	leaq	(%rax,%rax,2), %rcx
@@ -3147,30 +3145,30 @@ dcsctp_tlv.parameter.parameters_fill:
 	jne	.Ldcsctp_BB5_105
 	movb	$0, (%rcx)
 	jmp	.Ldcsctp_BB5_104
+.Ldcsctp_BB5_43:
+	leaq	38(%rsp), %rdx
+	jmp	.Ldcsctp_BB5_69
+.Ldcsctp_BB5_44:
+	leaq	38(%rsp), %rdx
+	jmp	.Ldcsctp_BB5_84
 .Ldcsctp_BB5_45:
-	leaq	46(%rsp), %rdx
-	jmp	.Ldcsctp_BB5_71
-.Ldcsctp_BB5_46:
-	leaq	46(%rsp), %rdx
-	jmp	.Ldcsctp_BB5_85
-.Ldcsctp_BB5_47:
 	movq	%rdx, %rax
 	subq	%rdi, %rax
 	addq	$-16, %rax
 	cmpq	$32, %rax
-	movq	48(%rsp), %r10
-	jae	.Ldcsctp_BB5_53
+	movq	40(%rsp), %r10
+	jae	.Ldcsctp_BB5_51
 	xorl	%eax, %eax
-	jmp	.Ldcsctp_BB5_66
-.Ldcsctp_BB5_49:
+	jmp	.Ldcsctp_BB5_64
+.Ldcsctp_BB5_47:
 	movq	%rdx, %rax
 	subq	%rdi, %rax
 	addq	$-8, %rax
 	cmpq	$32, %rax
-	movq	48(%rsp), %r10
-	jae	.Ldcsctp_BB5_55
+	movq	40(%rsp), %r10
+	jae	.Ldcsctp_BB5_53
 	xorl	%eax, %eax
-	jmp	.Ldcsctp_BB5_80
+	jmp	.Ldcsctp_BB5_79
 .Ldcsctp_BB5_102:
 	movb	$1, (%rcx)
 	jmp	.Ldcsctp_BB5_104
@@ -3197,29 +3195,29 @@ dcsctp_tlv.parameter.parameters_fill:
 .Ldcsctp_BB5_106:
 	incq	%rax
 	movq	%rax, 8(%r10)
-	jmp	.Ldcsctp_BB5_13
+	jmp	.Ldcsctp_BB5_12
+.Ldcsctp_BB5_51:
+	cmpl	$32, %r15d
+	jae	.Ldcsctp_BB5_57
+	xorl	%eax, %eax
+	jmp	.Ldcsctp_BB5_61
 .Ldcsctp_BB5_53:
 	cmpl	$32, %r14d
-	jae	.Ldcsctp_BB5_59
+	jae	.Ldcsctp_BB5_71
 	xorl	%eax, %eax
-	jmp	.Ldcsctp_BB5_63
+	jmp	.Ldcsctp_BB5_75
 .Ldcsctp_BB5_55:
-	cmpl	$32, %r14d
-	jae	.Ldcsctp_BB5_72
-	xorl	%eax, %eax
-	jmp	.Ldcsctp_BB5_76
-.Ldcsctp_BB5_57:
 	cmpl	$32, %r15d
 	jae	.Ldcsctp_BB5_86
 	xorl	%eax, %eax
 	jmp	.Ldcsctp_BB5_90
-.Ldcsctp_BB5_59:
+.Ldcsctp_BB5_57:
 	movq	%rbx, %rax
 	movabsq	$9223372036854775792, %rcx
 	andq	%rcx, %rax
 	xorl	%ecx, %ecx
 	.p2align	4
-.Ldcsctp_BB5_60:
+.Ldcsctp_BB5_58:
 	movdqa	.Ldcsctp_CPI5_0(%rip), %xmm0
 	movdqu	16(%rdi,%rcx,2), %xmm1
 	movdqu	32(%rdi,%rcx,2), %xmm2
@@ -3229,46 +3227,46 @@ dcsctp_tlv.parameter.parameters_fill:
 	movdqu	%xmm2, 16(%rdx,%rcx,2)
 	addq	$16, %rcx
 	cmpq	%rcx, %rax
-	jne	.Ldcsctp_BB5_60
+	jne	.Ldcsctp_BB5_58
 	cmpq	%rax, %rbx
-	je	.Ldcsctp_BB5_71
-	testb	$24, %r14b
-	je	.Ldcsctp_BB5_66
-.Ldcsctp_BB5_63:
+	je	.Ldcsctp_BB5_69
+	testb	$24, %r15b
+	je	.Ldcsctp_BB5_64
+.Ldcsctp_BB5_61:
 	movq	%rax, %rcx
 	movabsq	$9223372036854775792, %rax
 	addq	$12, %rax
 	andq	%rbx, %rax
 	.p2align	4
-.Ldcsctp_BB5_64:
+.Ldcsctp_BB5_62:
 	movq	16(%rdi,%rcx,2), %xmm0
 	pshufb	.Ldcsctp_CPI5_1(%rip), %xmm0
 	movq	%xmm0, (%rdx,%rcx,2)
 	addq	$4, %rcx
 	cmpq	%rcx, %rax
-	jne	.Ldcsctp_BB5_64
+	jne	.Ldcsctp_BB5_62
 	cmpq	%rax, %rbx
-	je	.Ldcsctp_BB5_71
-.Ldcsctp_BB5_66:
+	je	.Ldcsctp_BB5_69
+.Ldcsctp_BB5_64:
 	movq	%rbx, %r8
 	movq	%rax, %rcx
 	andq	$3, %r8
-	je	.Ldcsctp_BB5_69
+	je	.Ldcsctp_BB5_67
 	movq	%rax, %rcx
 	.p2align	4
-.Ldcsctp_BB5_68:
+.Ldcsctp_BB5_66:
 	movzwl	16(%rdi,%rcx,2), %r9d
 	rolw	$8, %r9w
 	movw	%r9w, (%rdx,%rcx,2)
 	incq	%rcx
 	decq	%r8
-	jne	.Ldcsctp_BB5_68
-.Ldcsctp_BB5_69:
+	jne	.Ldcsctp_BB5_66
+.Ldcsctp_BB5_67:
 	subq	%rbx, %rax
 	cmpq	$-4, %rax
-	ja	.Ldcsctp_BB5_71
+	ja	.Ldcsctp_BB5_69
 	.p2align	4
-.Ldcsctp_BB5_70:
+.Ldcsctp_BB5_68:
 	movzwl	16(%rdi,%rcx,2), %eax
 	rolw	$8, %ax
 	movw	%ax, (%rdx,%rcx,2)
@@ -3283,32 +3281,33 @@ dcsctp_tlv.parameter.parameters_fill:
 	movw	%ax, 6(%rdx,%rcx,2)
 	addq	$4, %rcx
 	cmpq	%rcx, %rbx
-	jne	.Ldcsctp_BB5_70
+	jne	.Ldcsctp_BB5_68
+.Ldcsctp_BB5_69:
+	pshufb	.Ldcsctp_CPI5_2(%rip), %xmm6
+	bswapl	%r14d
+	movq	(%r10), %rax
+	movq	8(%r10), %rcx
+	leaq	(%rcx,%rcx,2), %r8
+	shlq	$4, %r8
+	movb	$2, (%rax,%r8)
+	movl	$0, 4(%rax,%r8)
+	movq	%xmm6, 8(%rax,%r8)
+	movl	%r14d, 16(%rax,%r8)
+	movl	$0, 20(%rax,%r8)
+	movq	%rdx, 24(%rax,%r8)
+	movq	%rbx, 32(%rax,%r8)
+	movq	%rbx, 40(%rax,%r8)
+.Ldcsctp_BB5_70:
+	incq	%rcx
+	movq	%rcx, 8(%r10)
+	jmp	.Ldcsctp_BB5_12
 .Ldcsctp_BB5_71:
-	movl	12(%rdi), %eax
-	bswapl	%eax
-	movq	(%r10), %rcx
-	movq	8(%r10), %r8
-	leaq	(%r8,%r8,2), %r9
-	shlq	$4, %r9
-	movq	4(%rdi), %xmm0
-	pshufb	.Ldcsctp_CPI5_2(%rip), %xmm0
-	movb	$2, (%rcx,%r9)
-	movl	$0, 4(%rcx,%r9)
-	movq	%xmm0, 8(%rcx,%r9)
-	movl	%eax, 16(%rcx,%r9)
-	movl	$0, 20(%rcx,%r9)
-	movq	%rdx, 24(%rcx,%r9)
-	movq	%rbx, 32(%rcx,%r9)
-	movq	%rbx, 40(%rcx,%r9)
-	jmp	.Ldcsctp_BB5_11
-.Ldcsctp_BB5_72:
 	movq	%rbx, %rax
 	movabsq	$9223372036854775792, %rcx
 	andq	%rcx, %rax
 	xorl	%ecx, %ecx
 	.p2align	4
-.Ldcsctp_BB5_73:
+.Ldcsctp_BB5_72:
 	movdqa	.Ldcsctp_CPI5_0(%rip), %xmm0
 	movdqu	8(%rdi,%rcx,2), %xmm1
 	movdqu	24(%rdi,%rcx,2), %xmm2
@@ -3318,50 +3317,50 @@ dcsctp_tlv.parameter.parameters_fill:
 	movdqu	%xmm2, 16(%rdx,%rcx,2)
 	addq	$16, %rcx
 	cmpq	%rcx, %rax
-	jne	.Ldcsctp_BB5_73
+	jne	.Ldcsctp_BB5_72
 	cmpq	%rax, %rbx
-	je	.Ldcsctp_BB5_79
+	je	.Ldcsctp_BB5_78
 	testb	$24, %r14b
-	je	.Ldcsctp_BB5_80
-.Ldcsctp_BB5_76:
+	je	.Ldcsctp_BB5_79
+.Ldcsctp_BB5_75:
 	movq	%rax, %rcx
 	movabsq	$9223372036854775792, %rax
 	addq	$12, %rax
 	andq	%rbx, %rax
 	.p2align	4
-.Ldcsctp_BB5_77:
+.Ldcsctp_BB5_76:
 	movq	8(%rdi,%rcx,2), %xmm0
 	pshufb	.Ldcsctp_CPI5_1(%rip), %xmm0
 	movq	%xmm0, (%rdx,%rcx,2)
 	addq	$4, %rcx
 	cmpq	%rcx, %rax
-	jne	.Ldcsctp_BB5_77
+	jne	.Ldcsctp_BB5_76
 	cmpq	%rax, %rbx
-	jne	.Ldcsctp_BB5_80
-.Ldcsctp_BB5_79:
+	jne	.Ldcsctp_BB5_79
+.Ldcsctp_BB5_78:
 	movq	%r15, %r9
-	jmp	.Ldcsctp_BB5_85
-.Ldcsctp_BB5_80:
+	jmp	.Ldcsctp_BB5_84
+.Ldcsctp_BB5_79:
 	movq	%rbx, %r8
 	movq	%rax, %rcx
 	andq	$3, %r8
-	je	.Ldcsctp_BB5_83
+	je	.Ldcsctp_BB5_82
 	movq	%rax, %rcx
 	.p2align	4
-.Ldcsctp_BB5_82:
+.Ldcsctp_BB5_81:
 	movzwl	8(%rdi,%rcx,2), %r9d
 	rolw	$8, %r9w
 	movw	%r9w, (%rdx,%rcx,2)
 	incq	%rcx
 	decq	%r8
-	jne	.Ldcsctp_BB5_82
-.Ldcsctp_BB5_83:
+	jne	.Ldcsctp_BB5_81
+.Ldcsctp_BB5_82:
 	subq	%rbx, %rax
 	movq	%r15, %r9
 	cmpq	$-4, %rax
-	ja	.Ldcsctp_BB5_85
+	ja	.Ldcsctp_BB5_84
 	.p2align	4
-.Ldcsctp_BB5_84:
+.Ldcsctp_BB5_83:
 	movzwl	8(%rdi,%rcx,2), %eax
 	rolw	$8, %ax
 	movw	%ax, (%rdx,%rcx,2)
@@ -3376,8 +3375,8 @@ dcsctp_tlv.parameter.parameters_fill:
 	movw	%ax, 6(%rdx,%rcx,2)
 	addq	$4, %rcx
 	cmpq	%rcx, %rbx
-	jne	.Ldcsctp_BB5_84
-.Ldcsctp_BB5_85:
+	jne	.Ldcsctp_BB5_83
+.Ldcsctp_BB5_84:
 	movl	(%r9), %eax
 	bswapl	%eax
 	movq	(%r10), %rcx
@@ -3392,7 +3391,10 @@ dcsctp_tlv.parameter.parameters_fill:
 	movq	%rbx, 24(%rcx,%r9)
 	movq	%rbx, 32(%rcx,%r9)
 	movq	$0, 40(%rcx,%r9)
-	jmp	.Ldcsctp_BB5_11
+.Ldcsctp_BB5_85:
+	incq	%r8
+	movq	%r8, 8(%r10)
+	jmp	.Ldcsctp_BB5_12
 .Ldcsctp_BB5_86:
 	movq	%r15, %rax
 	andq	$-32, %rax
@@ -3428,7 +3430,8 @@ dcsctp_tlv.parameter.parameters_fill:
 	xorl	%r8d, %r8d
 .Ldcsctp_BB5_108:
 	movl	%r8d, %eax
-	addq	$56, %rsp
+	movaps	48(%rsp), %xmm6
+	addq	$72, %rsp
 	popq	%rbx
 	popq	%rbp
 	popq	%rdi
@@ -3441,12 +3444,12 @@ dcsctp_tlv.parameter.parameters_fill:
 	.section	.rdata,"dr"
 	.p2align	2, 0x0
 .Ldcsctp_JTI5_0:
-	.long	.Ldcsctp_BB5_16-.Ldcsctp_JTI5_0
-	.long	.Ldcsctp_BB5_36-.Ldcsctp_JTI5_0
-	.long	.Ldcsctp_BB5_32-.Ldcsctp_JTI5_0
+	.long	.Ldcsctp_BB5_15-.Ldcsctp_JTI5_0
 	.long	.Ldcsctp_BB5_34-.Ldcsctp_JTI5_0
-	.long	.Ldcsctp_BB5_25-.Ldcsctp_JTI5_0
-	.long	.Ldcsctp_BB5_41-.Ldcsctp_JTI5_0
+	.long	.Ldcsctp_BB5_30-.Ldcsctp_JTI5_0
+	.long	.Ldcsctp_BB5_31-.Ldcsctp_JTI5_0
+	.long	.Ldcsctp_BB5_23-.Ldcsctp_JTI5_0
+	.long	.Ldcsctp_BB5_39-.Ldcsctp_JTI5_0
 	.text
 	.seh_endproc
 	.def	dcsctp_cause.error_causes.error_cause_fill;

@@ -2858,20 +2858,20 @@ Ldcsctp_CPI5_2:
 	.byte	6
 	.byte	5
 	.byte	4
-	.space	1
-	.space	1
-	.space	1
-	.space	1
-	.space	1
-	.space	1
-	.space	1
-	.space	1
+	.byte	11
+	.byte	10
+	.byte	9
+	.byte	8
+	.byte	15
+	.byte	14
+	.byte	13
+	.byte	12
 	.section	__TEXT,__text,regular,pure_instructions
 	.p2align	4
 _dcsctp_tlv.parameter.parameters_fill:
 	.cfi_startproc
 	testq	%rdx, %rdx
-	je	Ldcsctp_BB5_8
+	je	Ldcsctp_BB5_1
 	pushq	%rbp
 	.cfi_def_cfa_offset 16
 	pushq	%r15
@@ -2884,8 +2884,8 @@ _dcsctp_tlv.parameter.parameters_fill:
 	.cfi_def_cfa_offset 48
 	pushq	%rbx
 	.cfi_def_cfa_offset 56
-	subq	$24, %rsp
-	.cfi_def_cfa_offset 80
+	subq	$56, %rsp
+	.cfi_def_cfa_offset 112
 	.cfi_offset %rbx, -56
 	.cfi_offset %r12, -48
 	.cfi_offset %r13, -40
@@ -2898,7 +2898,7 @@ _dcsctp_tlv.parameter.parameters_fill:
 	movq	%rdx, %rax
 	movq	%rsi, %rcx
 	.p2align	4
-Ldcsctp_BB5_2:
+Ldcsctp_BB5_4:
 	movzwl	2(%rcx), %edx
 	rolw	$8, %dx
 	movzwl	%dx, %edx
@@ -2909,23 +2909,23 @@ Ldcsctp_BB5_2:
 	addq	%rdx, %rcx
 	incq	%rbx
 	subq	%rdx, %rax
-	jne	Ldcsctp_BB5_2
+	jne	Ldcsctp_BB5_4
 	movq	8(%rdi), %rax
 	movq	16(%rdi), %rcx
 	movq	%rcx, %rdx
 	subq	%rax, %rdx
 	cmpq	%rdx, %rbx
-	movq	%rdi, 8(%rsp)
-	jbe	Ldcsctp_BB5_15
+	movq	%rdi, 16(%rsp)
+	jbe	Ldcsctp_BB5_13
 	movb	$1, %r9b
 	addq	%rax, %rbx
-	jb	Ldcsctp_BB5_109
+	jb	Ldcsctp_BB5_110
 	movabsq	$192153584101141162, %rdx
 	cmpq	%rdx, %rbx
-	ja	Ldcsctp_BB5_109
+	ja	Ldcsctp_BB5_110
 	movq	%r8, %r15
 	testq	%rcx, %rcx
-	je	Ldcsctp_BB5_9
+	je	Ldcsctp_BB5_10
 	movq	(%rdi), %rdi
 	shlq	$4, %rax
 	leaq	(%rax,%rax,2), %rsi
@@ -2936,13 +2936,13 @@ Ldcsctp_BB5_2:
 	callq	_rattle_realloc
 	testb	$1, %al
 	movb	$1, %r9b
-	jne	Ldcsctp_BB5_10
-	jmp	Ldcsctp_BB5_109
-Ldcsctp_BB5_8:
+	jne	Ldcsctp_BB5_12
+	jmp	Ldcsctp_BB5_110
+Ldcsctp_BB5_1:
 	xorl	%r9d, %r9d
 	movl	%r9d, %eax
 	retq
-Ldcsctp_BB5_9:
+Ldcsctp_BB5_10:
 	movq	%rbx, %rax
 	shlq	$4, %rax
 	leaq	(%rax,%rax,2), %rdi
@@ -2950,14 +2950,159 @@ Ldcsctp_BB5_9:
 	callq	_rattle_alloc
 	testb	$1, %al
 	movb	$1, %r9b
-	je	Ldcsctp_BB5_109
-Ldcsctp_BB5_10:
-	movq	8(%rsp), %rdi
+	je	Ldcsctp_BB5_110
+Ldcsctp_BB5_12:
+	movq	16(%rsp), %rdi
 	movq	%rdx, (%rdi)
 	movq	%rbx, 16(%rdi)
 	movq	%r15, %r8
-	jmp	Ldcsctp_BB5_15
-Ldcsctp_BB5_11:
+	jmp	Ldcsctp_BB5_13
+Ldcsctp_BB5_26:
+	movl	(%rsi), %eax
+	bswapl	%eax
+	movq	(%rdi), %rcx
+	movq	8(%rdi), %rdx
+	leaq	(%rdx,%rdx,2), %rsi
+	shlq	$4, %rsi
+	movb	$8, (%rcx,%rsi)
+Ldcsctp_BB5_19:
+	movl	%eax, 4(%rcx,%rsi)
+	pxor	%xmm0, %xmm0
+	movdqu	%xmm0, 8(%rcx,%rsi)
+	movdqu	%xmm0, 24(%rcx,%rsi)
+	movq	$0, 40(%rcx,%rsi)
+	incq	%rdx
+	movq	%rdx, 8(%rdi)
+Ldcsctp_BB5_108:
+	addq	%r13, %r14
+	subq	%r13, %r8
+	je	Ldcsctp_BB5_109
+Ldcsctp_BB5_13:
+	movzwl	(%r14), %r15d
+	movzwl	2(%r14), %eax
+	rolw	$8, %ax
+	movzwl	%ax, %r12d
+	leaq	4(%r14), %rsi
+	movl	%r12d, %r13d
+	addl	$3, %r13d
+	andl	$-4, %r13d
+	cmpq	%r13, %r8
+	cmovbq	%r8, %r13
+	rolw	$8, %r15w
+	leaq	-4(%r12), %r10
+	movzwl	%r15w, %ebx
+	leal	-13(%rbx), %eax
+	cmpl	$5, %eax
+	ja	Ldcsctp_BB5_14
+	leaq	Ldcsctp_JTI5_0(%rip), %rcx
+	movslq	(%rcx,%rax,4), %rax
+	addq	%rcx, %rax
+	jmpq	*%rax
+Ldcsctp_BB5_27:
+	movq	4(%r14), %xmm3
+	movl	12(%r14), %ebx
+	leaq	-16(%r12), %rbp
+	movq	%rbp, %r15
+	shrq	%r15
+	je	Ldcsctp_BB5_28
+	movb	$1, %r9b
+	cmpw	$16, %r12w
+	jb	Ldcsctp_BB5_110
+	movdqa	%xmm3, 32(%rsp)
+	movq	%r8, %r12
+	movabsq	$9223372036854775792, %rax
+	leaq	14(%rax), %rdi
+	andq	%rbp, %rdi
+	movl	$2, %esi
+	callq	_rattle_alloc
+	movb	$1, %r9b
+	testb	$1, %al
+	je	Ldcsctp_BB5_110
+	cmpl	$8, %ebp
+	jae	Ldcsctp_BB5_33
+	xorl	%eax, %eax
+	movq	%r12, %r8
+	movq	16(%rsp), %rdi
+	movdqa	32(%rsp), %xmm3
+	jmp	Ldcsctp_BB5_44
+	.p2align	4
+Ldcsctp_BB5_14:
+	cmpl	$32769, %ebx
+	je	Ldcsctp_BB5_26
+	cmpl	$49152, %ebx
+	jne	Ldcsctp_BB5_75
+	movq	(%rdi), %rax
+	movq	8(%rdi), %rcx
+	leaq	(%rcx,%rcx,2), %rdx
+	shlq	$4, %rdx
+	movb	$10, (%rax,%rdx)
+	pxor	%xmm0, %xmm0
+	movdqu	%xmm0, 4(%rax,%rdx)
+	movdqu	%xmm0, 20(%rax,%rdx)
+	movdqu	%xmm0, 32(%rax,%rdx)
+	jmp	Ldcsctp_BB5_17
+Ldcsctp_BB5_23:
+	movl	4(%r14), %eax
+	bswapl	%eax
+	movzwl	8(%r14), %ecx
+	rolw	$8, %cx
+	movq	(%rdi), %rdx
+	movq	8(%rdi), %rsi
+	leaq	(%rsi,%rsi,2), %r9
+	shlq	$4, %r9
+	movb	$6, (%rdx,%r9)
+	jmp	Ldcsctp_BB5_24
+Ldcsctp_BB5_75:
+	testq	%r10, %r10
+	movq	%r8, 24(%rsp)
+	je	Ldcsctp_BB5_76
+	movb	$1, %r9b
+	cmpw	$4, %r12w
+	jb	Ldcsctp_BB5_110
+	movl	$1, %esi
+	movq	%r10, %rdi
+	callq	_rattle_alloc
+	movb	$1, %r9b
+	testb	$1, %al
+	je	Ldcsctp_BB5_110
+	movq	%rdx, %rbp
+	movq	16(%rsp), %rdi
+	leaq	4(%r14), %rsi
+	leaq	-4(%r12), %r10
+	movq	%rbp, %rax
+	subq	%rsi, %rax
+	cmpq	%r10, %rax
+	jae	Ldcsctp_BB5_112
+Ldcsctp_BB5_81:
+	cmpl	$4, %r10d
+	jae	Ldcsctp_BB5_83
+	xorl	%eax, %eax
+	movq	24(%rsp), %r8
+	jmp	Ldcsctp_BB5_94
+Ldcsctp_BB5_18:
+	movl	(%rsi), %eax
+	bswapl	%eax
+	movq	(%rdi), %rcx
+	movq	8(%rdi), %rdx
+	leaq	(%rdx,%rdx,2), %rsi
+	shlq	$4, %rsi
+	movb	$4, (%rcx,%rsi)
+	jmp	Ldcsctp_BB5_19
+Ldcsctp_BB5_20:
+	pxor	%xmm0, %xmm0
+	pxor	%xmm1, %xmm1
+	cmpl	$8, %r10d
+	je	Ldcsctp_BB5_22
+	movl	12(%r14), %eax
+	movl	16(%r14), %ecx
+	bswapl	%eax
+	bswapl	%ecx
+	movl	$1, %edx
+	movd	%edx, %xmm1
+	pinsrd	$1, %eax, %xmm1
+	pinsrd	$2, %edx, %xmm1
+	pinsrd	$3, %ecx, %xmm1
+Ldcsctp_BB5_22:
 	movl	8(%r14), %eax
 	bswapl	%eax
 	cmpl	$6, %eax
@@ -2977,163 +3122,15 @@ Ldcsctp_BB5_11:
 	movdqu	%xmm1, 12(%rdx,%r9)
 	movdqu	%xmm0, 28(%rdx,%r9)
 	movl	$0, 44(%rdx,%r9)
-Ldcsctp_BB5_12:
-	incq	%rsi
-Ldcsctp_BB5_13:
-	movq	%rsi, 8(%rdi)
-Ldcsctp_BB5_14:
-	addq	%r13, %r14
-	subq	%r13, %r8
-	je	Ldcsctp_BB5_108
-Ldcsctp_BB5_15:
-	movzwl	(%r14), %r15d
-	movzwl	2(%r14), %eax
-	rolw	$8, %ax
-	movzwl	%ax, %r12d
-	leaq	4(%r14), %rsi
-	movl	%r12d, %r13d
-	addl	$3, %r13d
-	andl	$-4, %r13d
-	cmpq	%r13, %r8
-	cmovbq	%r8, %r13
-	rolw	$8, %r15w
-	leaq	-4(%r12), %r10
-	movzwl	%r15w, %ebx
-	leal	-13(%rbx), %eax
-	cmpl	$5, %eax
-	ja	Ldcsctp_BB5_22
-	leaq	Ldcsctp_JTI5_0(%rip), %rcx
-	movslq	(%rcx,%rax,4), %rax
-	addq	%rcx, %rax
-	jmpq	*%rax
-Ldcsctp_BB5_17:
-	leaq	-16(%r12), %rbx
-	movq	%rbx, %r15
-	shrq	%r15
-	je	Ldcsctp_BB5_46
-	movb	$1, %r9b
-	cmpw	$16, %r12w
-	jb	Ldcsctp_BB5_109
-	movq	%r8, %r12
-	movabsq	$9223372036854775792, %rax
-	leaq	14(%rax), %rdi
-	andq	%rbx, %rdi
-	movl	$2, %esi
-	callq	_rattle_alloc
-	movb	$1, %r9b
-	testb	$1, %al
-	je	Ldcsctp_BB5_109
-	cmpl	$8, %ebx
-	jae	Ldcsctp_BB5_48
-	xorl	%eax, %eax
-	movq	%r12, %r8
-	movq	8(%rsp), %rdi
-	jmp	Ldcsctp_BB5_67
-	.p2align	4
-Ldcsctp_BB5_22:
-	cmpl	$32769, %ebx
-	je	Ldcsctp_BB5_25
-	cmpl	$49152, %ebx
-	jne	Ldcsctp_BB5_27
-	movq	(%rdi), %rax
-	movq	8(%rdi), %rcx
-	leaq	(%rcx,%rcx,2), %rdx
-	shlq	$4, %rdx
-	movb	$10, (%rax,%rdx)
-	pxor	%xmm0, %xmm0
-	movdqu	%xmm0, 4(%rax,%rdx)
-	movdqu	%xmm0, 20(%rax,%rdx)
-	movdqu	%xmm0, 32(%rax,%rdx)
-	incq	%rcx
-	movq	%rcx, 8(%rdi)
-	jmp	Ldcsctp_BB5_14
-Ldcsctp_BB5_25:
-	movl	(%rsi), %eax
-	bswapl	%eax
-	movq	(%rdi), %rcx
-	movq	8(%rdi), %rdx
-	leaq	(%rdx,%rdx,2), %rsi
-	shlq	$4, %rsi
-	movb	$8, (%rcx,%rsi)
-	jmp	Ldcsctp_BB5_34
-Ldcsctp_BB5_26:
-	movl	4(%r14), %eax
-	bswapl	%eax
-	movzwl	8(%r14), %ecx
-	rolw	$8, %cx
-	movq	(%rdi), %rdx
-	movq	8(%rdi), %rsi
-	leaq	(%rsi,%rsi,2), %r9
-	shlq	$4, %r9
-	movb	$6, (%rdx,%r9)
-	jmp	Ldcsctp_BB5_43
-Ldcsctp_BB5_27:
-	testq	%r10, %r10
-	movq	%r8, 16(%rsp)
-	je	Ldcsctp_BB5_44
-	movb	$1, %r9b
-	cmpw	$4, %r12w
-	jb	Ldcsctp_BB5_109
-	movl	$1, %esi
-	movq	%r10, %rdi
-	callq	_rattle_alloc
-	movb	$1, %r9b
-	testb	$1, %al
-	je	Ldcsctp_BB5_109
-	movq	%rdx, %rbp
-	movq	8(%rsp), %rdi
-	leaq	4(%r14), %rsi
-	leaq	-4(%r12), %r10
-	movq	%rbp, %rax
-	subq	%rsi, %rax
-	cmpq	%r10, %rax
-	jae	Ldcsctp_BB5_45
-Ldcsctp_BB5_31:
-	cmpl	$4, %r10d
-	jae	Ldcsctp_BB5_52
-	xorl	%eax, %eax
-	movq	16(%rsp), %r8
-	jmp	Ldcsctp_BB5_94
-Ldcsctp_BB5_33:
-	movl	(%rsi), %eax
-	bswapl	%eax
-	movq	(%rdi), %rcx
-	movq	8(%rdi), %rdx
-	leaq	(%rdx,%rdx,2), %rsi
-	shlq	$4, %rsi
-	movb	$4, (%rcx,%rsi)
-Ldcsctp_BB5_34:
-	movl	%eax, 4(%rcx,%rsi)
-	pxor	%xmm0, %xmm0
-	movdqu	%xmm0, 8(%rcx,%rsi)
-	movdqu	%xmm0, 24(%rcx,%rsi)
-	movq	$0, 40(%rcx,%rsi)
-	incq	%rdx
-	movq	%rdx, 8(%rdi)
-	jmp	Ldcsctp_BB5_14
-Ldcsctp_BB5_35:
-	pxor	%xmm0, %xmm0
-	pxor	%xmm1, %xmm1
-	cmpl	$8, %r10d
-	je	Ldcsctp_BB5_11
-	movl	12(%r14), %eax
-	movl	16(%r14), %ecx
-	bswapl	%eax
-	bswapl	%ecx
-	movl	$1, %edx
-	movd	%edx, %xmm1
-	pinsrd	$1, %eax, %xmm1
-	pinsrd	$2, %edx, %xmm1
-	pinsrd	$3, %ecx, %xmm1
-	jmp	Ldcsctp_BB5_11
-Ldcsctp_BB5_37:
+	jmp	Ldcsctp_BB5_74
+Ldcsctp_BB5_50:
 	leaq	-8(%r12), %r15
 	movq	%r15, %rbx
 	shrq	%rbx
-	je	Ldcsctp_BB5_47
+	je	Ldcsctp_BB5_51
 	movb	$1, %r9b
 	cmpw	$8, %r12w
-	jb	Ldcsctp_BB5_109
+	jb	Ldcsctp_BB5_110
 	movq	%rsi, %rbp
 	movq	%r8, %r12
 	movabsq	$9223372036854775792, %rax
@@ -3143,14 +3140,14 @@ Ldcsctp_BB5_37:
 	callq	_rattle_alloc
 	movb	$1, %r9b
 	testb	$1, %al
-	je	Ldcsctp_BB5_109
+	je	Ldcsctp_BB5_110
 	cmpl	$8, %r15d
-	jae	Ldcsctp_BB5_50
+	jae	Ldcsctp_BB5_61
 	xorl	%eax, %eax
 	movq	%r12, %r8
-	movq	8(%rsp), %rdi
-	jmp	Ldcsctp_BB5_81
-Ldcsctp_BB5_42:
+	movq	16(%rsp), %rdi
+	jmp	Ldcsctp_BB5_56
+Ldcsctp_BB5_25:
 	movl	4(%r14), %eax
 	bswapl	%eax
 	movzwl	8(%r14), %ecx
@@ -3160,7 +3157,7 @@ Ldcsctp_BB5_42:
 	leaq	(%rsi,%rsi,2), %r9
 	shlq	$4, %r9
 	movb	$7, (%rdx,%r9)
-Ldcsctp_BB5_43:
+Ldcsctp_BB5_24:
 	movl	%eax, 4(%rdx,%r9)
 	movw	%cx, 8(%rdx,%r9)
 	incq	%rsi
@@ -3168,79 +3165,81 @@ Ldcsctp_BB5_43:
 	movdqu	%xmm0, 10(%rdx,%r9)
 	movdqu	%xmm0, 26(%rdx,%r9)
 	movq	$0, 40(%rdx,%r9)
-	jmp	Ldcsctp_BB5_13
-Ldcsctp_BB5_44:
-	leaq	6(%rsp), %rbp
+	movq	%rsi, 8(%rdi)
+	jmp	Ldcsctp_BB5_108
+Ldcsctp_BB5_76:
+	leaq	14(%rsp), %rbp
 	movq	%rbp, %rax
 	subq	%rsi, %rax
 	cmpq	%r10, %rax
-	jb	Ldcsctp_BB5_31
-Ldcsctp_BB5_45:
+	jb	Ldcsctp_BB5_81
+Ldcsctp_BB5_112:
 	movq	%rbp, %rdi
 	movq	%r10, %rdx
 	movq	%r10, %r12
 	callq	_memmove
 	movq	%r12, %r10
-	movq	8(%rsp), %rdi
-	movq	16(%rsp), %r8
+	movq	16(%rsp), %rdi
+	movq	24(%rsp), %r8
 	jmp	Ldcsctp_BB5_99
-Ldcsctp_BB5_46:
-	leaq	6(%rsp), %rdx
-	jmp	Ldcsctp_BB5_72
-Ldcsctp_BB5_47:
-	leaq	6(%rsp), %rdx
-	jmp	Ldcsctp_BB5_86
-Ldcsctp_BB5_48:
+Ldcsctp_BB5_28:
+	leaq	14(%rsp), %rdx
+	jmp	Ldcsctp_BB5_49
+Ldcsctp_BB5_51:
+	leaq	14(%rsp), %rdx
+	jmp	Ldcsctp_BB5_73
+Ldcsctp_BB5_33:
 	movq	%rdx, %rax
 	subq	%r14, %rax
 	addq	$-16, %rax
 	cmpq	$32, %rax
 	movq	%r12, %r8
-	movq	8(%rsp), %rdi
-	jae	Ldcsctp_BB5_54
+	movq	16(%rsp), %rdi
+	movdqa	32(%rsp), %xmm3
+	jae	Ldcsctp_BB5_35
 	xorl	%eax, %eax
-	jmp	Ldcsctp_BB5_67
-Ldcsctp_BB5_50:
+	jmp	Ldcsctp_BB5_44
+Ldcsctp_BB5_61:
 	movq	%rdx, %rax
 	subq	%r14, %rax
 	addq	$-8, %rax
 	cmpq	$32, %rax
 	movq	%r12, %r8
-	movq	8(%rsp), %rdi
-	jae	Ldcsctp_BB5_56
+	movq	16(%rsp), %rdi
+	jae	Ldcsctp_BB5_63
 	xorl	%eax, %eax
-	jmp	Ldcsctp_BB5_81
-Ldcsctp_BB5_52:
+	jmp	Ldcsctp_BB5_56
+Ldcsctp_BB5_83:
 	movq	%rbp, %rax
 	subq	%r14, %rax
 	addq	$-4, %rax
 	cmpq	$32, %rax
-	movq	16(%rsp), %r8
-	jae	Ldcsctp_BB5_58
+	movq	24(%rsp), %r8
+	jae	Ldcsctp_BB5_85
 	xorl	%eax, %eax
 	jmp	Ldcsctp_BB5_94
-Ldcsctp_BB5_54:
-	cmpl	$32, %ebx
-	jae	Ldcsctp_BB5_60
+Ldcsctp_BB5_35:
+	cmpl	$32, %ebp
+	jae	Ldcsctp_BB5_37
 	xorl	%eax, %eax
-	jmp	Ldcsctp_BB5_64
-Ldcsctp_BB5_56:
+	jmp	Ldcsctp_BB5_41
+Ldcsctp_BB5_63:
 	cmpl	$32, %r15d
-	jae	Ldcsctp_BB5_73
+	jae	Ldcsctp_BB5_65
 	xorl	%eax, %eax
-	jmp	Ldcsctp_BB5_77
-Ldcsctp_BB5_58:
+	jmp	Ldcsctp_BB5_69
+Ldcsctp_BB5_85:
 	cmpl	$32, %r10d
 	jae	Ldcsctp_BB5_87
 	xorl	%eax, %eax
 	jmp	Ldcsctp_BB5_91
-Ldcsctp_BB5_60:
+Ldcsctp_BB5_37:
 	movq	%r15, %rax
 	movabsq	$9223372036854775792, %rcx
 	andq	%rcx, %rax
 	xorl	%ecx, %ecx
 	.p2align	4
-Ldcsctp_BB5_61:
+Ldcsctp_BB5_38:
 	movdqa	Ldcsctp_CPI5_0(%rip), %xmm0
 	movdqu	16(%r14,%rcx,2), %xmm1
 	movdqu	32(%r14,%rcx,2), %xmm2
@@ -3250,46 +3249,46 @@ Ldcsctp_BB5_61:
 	movdqu	%xmm2, 16(%rdx,%rcx,2)
 	addq	$16, %rcx
 	cmpq	%rcx, %rax
-	jne	Ldcsctp_BB5_61
+	jne	Ldcsctp_BB5_38
 	cmpq	%rax, %r15
-	je	Ldcsctp_BB5_72
-	testb	$24, %bl
-	je	Ldcsctp_BB5_67
-Ldcsctp_BB5_64:
+	je	Ldcsctp_BB5_49
+	testb	$24, %bpl
+	je	Ldcsctp_BB5_44
+Ldcsctp_BB5_41:
 	movq	%rax, %rcx
 	movabsq	$9223372036854775792, %rax
 	addq	$12, %rax
 	andq	%r15, %rax
 	.p2align	4
-Ldcsctp_BB5_65:
+Ldcsctp_BB5_42:
 	movq	16(%r14,%rcx,2), %xmm0
 	pshufb	Ldcsctp_CPI5_1(%rip), %xmm0
 	movq	%xmm0, (%rdx,%rcx,2)
 	addq	$4, %rcx
 	cmpq	%rcx, %rax
-	jne	Ldcsctp_BB5_65
+	jne	Ldcsctp_BB5_42
 	cmpq	%rax, %r15
-	je	Ldcsctp_BB5_72
-Ldcsctp_BB5_67:
+	je	Ldcsctp_BB5_49
+Ldcsctp_BB5_44:
 	movq	%r15, %rsi
 	movq	%rax, %rcx
 	andq	$3, %rsi
-	je	Ldcsctp_BB5_70
+	je	Ldcsctp_BB5_47
 	movq	%rax, %rcx
 	.p2align	4
-Ldcsctp_BB5_69:
+Ldcsctp_BB5_46:
 	movzwl	16(%r14,%rcx,2), %r9d
 	rolw	$8, %r9w
 	movw	%r9w, (%rdx,%rcx,2)
 	incq	%rcx
 	decq	%rsi
-	jne	Ldcsctp_BB5_69
-Ldcsctp_BB5_70:
+	jne	Ldcsctp_BB5_46
+Ldcsctp_BB5_47:
 	subq	%r15, %rax
 	cmpq	$-4, %rax
-	ja	Ldcsctp_BB5_72
+	ja	Ldcsctp_BB5_49
 	.p2align	4
-Ldcsctp_BB5_71:
+Ldcsctp_BB5_48:
 	movzwl	16(%r14,%rcx,2), %eax
 	rolw	$8, %ax
 	movw	%ax, (%rdx,%rcx,2)
@@ -3304,32 +3303,33 @@ Ldcsctp_BB5_71:
 	movw	%ax, 6(%rdx,%rcx,2)
 	addq	$4, %rcx
 	cmpq	%rcx, %r15
-	jne	Ldcsctp_BB5_71
-Ldcsctp_BB5_72:
-	movl	12(%r14), %eax
-	bswapl	%eax
-	movq	(%rdi), %rcx
-	movq	8(%rdi), %rsi
-	leaq	(%rsi,%rsi,2), %r9
-	shlq	$4, %r9
-	movq	4(%r14), %xmm0
-	pshufb	Ldcsctp_CPI5_2(%rip), %xmm0
-	movb	$2, (%rcx,%r9)
-	movl	$0, 4(%rcx,%r9)
-	movq	%xmm0, 8(%rcx,%r9)
-	movl	%eax, 16(%rcx,%r9)
-	movl	$0, 20(%rcx,%r9)
-	movq	%rdx, 24(%rcx,%r9)
-	movq	%r15, 32(%rcx,%r9)
-	movq	%r15, 40(%rcx,%r9)
-	jmp	Ldcsctp_BB5_12
-Ldcsctp_BB5_73:
+	jne	Ldcsctp_BB5_48
+Ldcsctp_BB5_49:
+	pshufb	Ldcsctp_CPI5_2(%rip), %xmm3
+	bswapl	%ebx
+	movq	(%rdi), %rax
+	movq	8(%rdi), %rcx
+	leaq	(%rcx,%rcx,2), %rsi
+	shlq	$4, %rsi
+	movb	$2, (%rax,%rsi)
+	movl	$0, 4(%rax,%rsi)
+	movq	%xmm3, 8(%rax,%rsi)
+	movl	%ebx, 16(%rax,%rsi)
+	movl	$0, 20(%rax,%rsi)
+	movq	%rdx, 24(%rax,%rsi)
+	movq	%r15, 32(%rax,%rsi)
+	movq	%r15, 40(%rax,%rsi)
+Ldcsctp_BB5_17:
+	incq	%rcx
+	movq	%rcx, 8(%rdi)
+	jmp	Ldcsctp_BB5_108
+Ldcsctp_BB5_65:
 	movq	%rbx, %rax
 	movabsq	$9223372036854775792, %rcx
 	andq	%rcx, %rax
 	xorl	%ecx, %ecx
 	.p2align	4
-Ldcsctp_BB5_74:
+Ldcsctp_BB5_66:
 	movdqa	Ldcsctp_CPI5_0(%rip), %xmm0
 	movdqu	8(%r14,%rcx,2), %xmm1
 	movdqu	24(%r14,%rcx,2), %xmm2
@@ -3339,50 +3339,50 @@ Ldcsctp_BB5_74:
 	movdqu	%xmm2, 16(%rdx,%rcx,2)
 	addq	$16, %rcx
 	cmpq	%rcx, %rax
-	jne	Ldcsctp_BB5_74
+	jne	Ldcsctp_BB5_66
 	cmpq	%rax, %rbx
-	je	Ldcsctp_BB5_80
+	je	Ldcsctp_BB5_72
 	testb	$24, %r15b
-	je	Ldcsctp_BB5_81
-Ldcsctp_BB5_77:
+	je	Ldcsctp_BB5_56
+Ldcsctp_BB5_69:
 	movq	%rax, %rcx
 	movabsq	$9223372036854775792, %rax
 	addq	$12, %rax
 	andq	%rbx, %rax
 	.p2align	4
-Ldcsctp_BB5_78:
+Ldcsctp_BB5_70:
 	movq	8(%r14,%rcx,2), %xmm0
 	pshufb	Ldcsctp_CPI5_1(%rip), %xmm0
 	movq	%xmm0, (%rdx,%rcx,2)
 	addq	$4, %rcx
 	cmpq	%rcx, %rax
-	jne	Ldcsctp_BB5_78
+	jne	Ldcsctp_BB5_70
 	cmpq	%rax, %rbx
-	jne	Ldcsctp_BB5_81
-Ldcsctp_BB5_80:
+	jne	Ldcsctp_BB5_56
+Ldcsctp_BB5_72:
 	movq	%rbp, %rsi
-	jmp	Ldcsctp_BB5_86
-Ldcsctp_BB5_81:
+	jmp	Ldcsctp_BB5_73
+Ldcsctp_BB5_56:
 	movq	%rbx, %rsi
 	movq	%rax, %rcx
 	andq	$3, %rsi
-	je	Ldcsctp_BB5_84
+	je	Ldcsctp_BB5_59
 	movq	%rax, %rcx
 	.p2align	4
-Ldcsctp_BB5_83:
+Ldcsctp_BB5_58:
 	movzwl	8(%r14,%rcx,2), %r9d
 	rolw	$8, %r9w
 	movw	%r9w, (%rdx,%rcx,2)
 	incq	%rcx
 	decq	%rsi
-	jne	Ldcsctp_BB5_83
-Ldcsctp_BB5_84:
+	jne	Ldcsctp_BB5_58
+Ldcsctp_BB5_59:
 	subq	%rbx, %rax
 	movq	%rbp, %rsi
 	cmpq	$-4, %rax
-	ja	Ldcsctp_BB5_86
+	ja	Ldcsctp_BB5_73
 	.p2align	4
-Ldcsctp_BB5_85:
+Ldcsctp_BB5_60:
 	movzwl	8(%r14,%rcx,2), %eax
 	rolw	$8, %ax
 	movw	%ax, (%rdx,%rcx,2)
@@ -3397,8 +3397,8 @@ Ldcsctp_BB5_85:
 	movw	%ax, 6(%rdx,%rcx,2)
 	addq	$4, %rcx
 	cmpq	%rcx, %rbx
-	jne	Ldcsctp_BB5_85
-Ldcsctp_BB5_86:
+	jne	Ldcsctp_BB5_60
+Ldcsctp_BB5_73:
 	movl	(%rsi), %eax
 	bswapl	%eax
 	movq	(%rdi), %rcx
@@ -3413,7 +3413,10 @@ Ldcsctp_BB5_86:
 	movq	%rbx, 24(%rcx,%r9)
 	movq	%rbx, 32(%rcx,%r9)
 	movq	$0, 40(%rcx,%r9)
-	jmp	Ldcsctp_BB5_12
+Ldcsctp_BB5_74:
+	incq	%rsi
+	movq	%rsi, 8(%rdi)
+	jmp	Ldcsctp_BB5_108
 Ldcsctp_BB5_87:
 	movq	%r10, %rax
 	andq	$-32, %rax
@@ -3482,19 +3485,19 @@ Ldcsctp_BB5_99:
 	shlq	$4, %rcx
 	addq	(%rdi), %rcx
 	cmpl	$32776, %ebx
-	je	Ldcsctp_BB5_104
+	je	Ldcsctp_BB5_105
 	cmpl	$7, %ebx
-	je	Ldcsctp_BB5_103
+	je	Ldcsctp_BB5_104
 	cmpl	$1, %ebx
 	jne	Ldcsctp_BB5_106
 	movb	$0, (%rcx)
-	jmp	Ldcsctp_BB5_105
-Ldcsctp_BB5_103:
-	movb	$1, (%rcx)
-	jmp	Ldcsctp_BB5_105
+	jmp	Ldcsctp_BB5_103
 Ldcsctp_BB5_104:
-	movb	$9, (%rcx)
+	movb	$1, (%rcx)
+	jmp	Ldcsctp_BB5_103
 Ldcsctp_BB5_105:
+	movb	$9, (%rcx)
+Ldcsctp_BB5_103:
 	movl	$0, 4(%rcx)
 	movq	%rbp, 8(%rcx)
 	movq	%r10, 16(%rcx)
@@ -3515,11 +3518,11 @@ Ldcsctp_BB5_106:
 Ldcsctp_BB5_107:
 	incq	%rax
 	movq	%rax, 8(%rdi)
-	jmp	Ldcsctp_BB5_14
-Ldcsctp_BB5_108:
-	xorl	%r9d, %r9d
+	jmp	Ldcsctp_BB5_108
 Ldcsctp_BB5_109:
-	addq	$24, %rsp
+	xorl	%r9d, %r9d
+Ldcsctp_BB5_110:
+	addq	$56, %rsp
 	popq	%rbx
 	popq	%r12
 	popq	%r13
@@ -3531,19 +3534,19 @@ Ldcsctp_BB5_109:
 	.cfi_endproc
 	.p2align	2
 	.data_region jt32
-L5_0_set_17 = Ldcsctp_BB5_17-Ldcsctp_JTI5_0
-L5_0_set_37 = Ldcsctp_BB5_37-Ldcsctp_JTI5_0
-L5_0_set_33 = Ldcsctp_BB5_33-Ldcsctp_JTI5_0
-L5_0_set_35 = Ldcsctp_BB5_35-Ldcsctp_JTI5_0
-L5_0_set_26 = Ldcsctp_BB5_26-Ldcsctp_JTI5_0
-L5_0_set_42 = Ldcsctp_BB5_42-Ldcsctp_JTI5_0
+L5_0_set_27 = Ldcsctp_BB5_27-Ldcsctp_JTI5_0
+L5_0_set_50 = Ldcsctp_BB5_50-Ldcsctp_JTI5_0
+L5_0_set_18 = Ldcsctp_BB5_18-Ldcsctp_JTI5_0
+L5_0_set_20 = Ldcsctp_BB5_20-Ldcsctp_JTI5_0
+L5_0_set_23 = Ldcsctp_BB5_23-Ldcsctp_JTI5_0
+L5_0_set_25 = Ldcsctp_BB5_25-Ldcsctp_JTI5_0
 Ldcsctp_JTI5_0:
-	.long	L5_0_set_17
-	.long	L5_0_set_37
-	.long	L5_0_set_33
-	.long	L5_0_set_35
-	.long	L5_0_set_26
-	.long	L5_0_set_42
+	.long	L5_0_set_27
+	.long	L5_0_set_50
+	.long	L5_0_set_18
+	.long	L5_0_set_20
+	.long	L5_0_set_23
+	.long	L5_0_set_25
 	.end_data_region
 	.section	__TEXT,__literal16,16byte_literals
 	.p2align	4, 0x0
