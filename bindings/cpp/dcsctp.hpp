@@ -978,6 +978,7 @@ class row_view {
 class [[nodiscard]] reading {
     struct row_source {
         using value_type = row_view;
+        static constexpr bool is_of_numbers = false;
         bytes_view bytes;
         view<const row> rows;
         [[nodiscard]] std::optional<row_view> read(std::size_t index) const noexcept
@@ -985,6 +986,7 @@ class [[nodiscard]] reading {
             return index < rows.size() ? std::optional<row_view>(row_view(bytes, rows[index])) : std::nullopt;
         }
         static std::size_t next(std::size_t index, const row_view &) noexcept { return index + 1; }
+        [[nodiscard]] std::size_t size(std::size_t first) const noexcept { return rows.size() - (std::min)(first, rows.size()); }
     };
 
   public:
