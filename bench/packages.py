@@ -54,7 +54,7 @@ READ = (
     ('C', 'by hand', 'davgyuti', 'davgyuti, rows'),
     ('Rust', 'plain loop', 'davgyuti'),
     ('Python', 'aiortc', 'davgyuti'),
-    ('Go', 'pion', 'davgyuti', 'davgyuti, hash/crc32'),
+    ('Go', 'pion', 'davgyuti'),
     ('JavaScript', 'DataView', 'davgyuti'),
 )
 WRITTEN = (('Python', 'aiortc writes', 'davgyuti writes'), ('Go', 'pion writes', 'davgyuti writes'))

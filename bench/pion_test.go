@@ -11,7 +11,6 @@ import (
 	"bytes"
 	"encoding/binary"
 	"fmt"
-	"math/bits"
 	"os"
 	"strconv"
 	"syscall"
@@ -90,25 +89,14 @@ func sumOfChunk(chunk davgyuti.Chunk, i int) (sum uint64) {
 	}
 }
 
-func sumOfPacket(raw []byte, policy davgyuti.Policy) uint64 {
-	if parsed.Read(raw, policy) != nil {
+func readByDavgyuti(raw []byte) uint64 {
+	if parsed.Read(raw, davgyuti.Policy{}) != nil {
 		return 0
 	}
 	sum := uint64(1)
 	for i := 0; i < parsed.Len(); i++ {
 		chunk := parsed.Chunk(i)
 		sum += uint64(chunk.Type) + sumOfChunk(chunk, i)
-	}
-	return sum
-}
-
-func readByDavgyuti(raw []byte) uint64 { return sumOfPacket(raw, davgyuti.Policy{}) }
-
-// Compares the checksum with the processor's CRC32c, as the package's README.md says.
-func readWithItsCrc(raw []byte) uint64 {
-	sum := sumOfPacket(raw, davgyuti.Policy{AnyChecksum: true})
-	if sum == 0 || bits.ReverseBytes32(generatePacketChecksum(raw)) != parsed.Header.Checksum {
-		return 0
 	}
 	return sum
 }
@@ -288,10 +276,7 @@ func writer(name string, packets [][]byte, write func(i int) ([]byte, error)) ca
 }
 
 func callsOver(packets [][]byte, isTimed bool) []call {
-	calls := []call{
-		reader("davgyuti", packets, readByDavgyuti),
-		reader("davgyuti, hash/crc32", packets, readWithItsCrc),
-	}
+	calls := []call{reader("davgyuti", packets, readByDavgyuti)}
 	if !isTimed {
 		return calls
 	}

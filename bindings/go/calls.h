@@ -9,12 +9,6 @@
 
 /* ---- a whole packet */
 
-/* The word that the policy wants; it wants none where it accepts any checksum. */
-static inline uint32_t go_word(const uint8_t *bytes, size_t length, struct dcsctp_policy policy)
-{
-    return policy.any_checksum ? 0 : dcsctp_word(bytes, length);
-}
-
 /* Whether the packet has to have its CRC32c also where a checksum of zero was negotiated (RFC 9653 section 5.2). */
 static inline bool go_needs_checksum(const uint8_t *bytes, size_t length)
 {
@@ -32,9 +26,9 @@ static inline bool go_needs_checksum(const uint8_t *bytes, size_t length)
     return false;
 }
 
-static inline uint32_t go_check(const uint8_t *bytes, size_t length, struct dcsctp_policy policy)
+static inline uint32_t go_check(const uint8_t *bytes, size_t length, uint32_t word, struct dcsctp_policy policy)
 {
-    return dcsctp_check(bytes, length, go_word(bytes, length, policy), &policy);
+    return dcsctp_check(bytes, length, word, &policy);
 }
 
 /* A code, and the offset or the size that the call wrote. */
@@ -43,10 +37,10 @@ struct go_result {
     size_t size;
 };
 
-static inline struct go_result go_first_fault(const uint8_t *bytes, size_t length, struct dcsctp_policy policy)
+static inline struct go_result go_first_fault(const uint8_t *bytes, size_t length, uint32_t word, struct dcsctp_policy policy)
 {
     struct go_result result = {0, 0};
-    result.code = dcsctp_first_fault(bytes, length, go_word(bytes, length, policy), &policy, &result.size);
+    result.code = dcsctp_first_fault(bytes, length, word, &policy, &result.size);
     return result;
 }
 
@@ -69,8 +63,8 @@ struct go_counts {
 
 /* Reads a packet with its rows, and the lists of its chunks one after the other, each as far as there is place. Of a row whose
    list is one of parameters or error causes `count` becomes how many. */
-static inline struct go_counts go_read(const uint8_t *bytes, size_t length, struct dcsctp_policy policy, bool allowed_zero_checksum,
-                                       struct go_counts room, struct dcsctp_packet *packet, struct dcsctp_row *rows,
+static inline struct go_counts go_read(const uint8_t *bytes, size_t length, uint32_t word, struct dcsctp_policy policy,
+                                       bool allowed_zero_checksum, struct go_counts room, struct dcsctp_packet *packet, struct dcsctp_row *rows,
                                        struct dcsctp_gap_ack_block *blocks, uint32_t *numbers,
                                        struct dcsctp_skipped_stream *streams, struct dcsctp_parameter *items)
 {
@@ -78,7 +72,7 @@ static inline struct go_counts go_read(const uint8_t *bytes, size_t length, stru
     if (allowed_zero_checksum && !policy.zero_checksum && length <= 0xFFFF && dcsctp_header(bytes, length, &packet->header)
         && packet->header.checksum == 0)
         policy.zero_checksum = !go_needs_checksum(bytes, length);
-    dcsctp_read(bytes, length, go_word(bytes, length, policy), &policy, rows, room.rows, packet);
+    dcsctp_read(bytes, length, word, &policy, rows, room.rows, packet);
     counts.rows = packet->chunk_count;
     for (size_t i = 0; i < counts.rows && i < room.rows; i++) {
         const size_t before = counts.items;

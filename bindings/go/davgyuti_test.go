@@ -394,6 +394,19 @@ func TestPacket(t *testing.T) {
 	equal(t, "short", davgyuti.Packet(nil).SetTag(1), davgyuti.ErrBadPlace)
 }
 
+// What Seal writes, the library's own CRC32c, is the word that a packet is checked by, which Go computes.
+func TestWord(t *testing.T) {
+	packet := make(davgyuti.Packet, 3000)
+	for i := range packet {
+		packet[i] = byte(i*i>>3 + i)
+	}
+	for size := davgyuti.FirstChunk; size <= len(packet); size++ {
+		equal(t, "seal", packet[:size].Seal(), nil)
+		equal(t, "word", packet[:size].Word(), there[davgyuti.Header](t)(packet[:size].Header()).Checksum)
+	}
+	equal(t, "word", packet[:davgyuti.FirstChunk-1].Word(), uint32(0))
+}
+
 func TestFaults(t *testing.T) {
 	changed := sealed("0b000004")
 	changed[8] ^= 1
@@ -581,8 +594,8 @@ func TestAllFunctions(t *testing.T) {
 		t.Errorf("dcsctp.h has %d functions", len(names))
 	}
 	for _, name := range names {
-		// (a list is read in one call, without those that read one item; and packets one by one)
-		if regexp.MustCompile(`^(gap_ack_block|duplicate_tsn|skipped_stream|parameter_at|reset_stream|missing_parameter|list_offset|read_many)$`).MatchString(name[1]) {
+		// (a list is read in one call, without those that read one item; packets one by one; and hash/crc32 computes the word)
+		if regexp.MustCompile(`^(gap_ack_block|duplicate_tsn|skipped_stream|parameter_at|reset_stream|missing_parameter|list_offset|read_many|word)$`).MatchString(name[1]) {
 			continue
 		}
 		if !regexp.MustCompile(`\bC\.(dcsctp|go)_` + name[1] + `\(`).MatchString(code) {

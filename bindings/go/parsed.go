@@ -48,10 +48,11 @@ func (parsed *Parsed) Read(packet Packet, policy Policy) error {
 		zero_checksum:  C.bool(policy.ZeroChecksum),
 		strict_padding: C.bool(policy.StrictPadding),
 	}
+	word := policy.word(packet)
 	for {
 		room := C.struct_go_counts{C.size_t(len(parsed.rows)), C.size_t(len(parsed.blocks)), C.size_t(len(parsed.numbers)),
 			C.size_t(len(parsed.streams)), C.size_t(len(parsed.items))}
-		counts := C.go_read(bytesOf(packet), C.size_t(len(packet)), c, C.bool(policy.AllowedZeroChecksum), room, &parsed.read,
+		counts := C.go_read(bytesOf(packet), C.size_t(len(packet)), word, c, C.bool(policy.AllowedZeroChecksum), room, &parsed.read,
 			&parsed.rows[0], blocksOf(parsed.blocks), (*C.uint32_t)(&parsed.numbers[0]), streamsOf(parsed.streams), &parsed.items[0])
 		parsed.packet, parsed.counts = packet, counts
 		isWhole := counts.rows <= room.rows && counts.blocks <= room.blocks && counts.numbers <= room.numbers

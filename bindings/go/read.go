@@ -7,6 +7,8 @@ import "C"
 
 import (
 	"fmt"
+	"hash/crc32"
+	"math/bits"
 	"unsafe"
 )
 
@@ -42,6 +44,15 @@ func (policy Policy) c(p Packet) C.struct_dcsctp_policy {
 	}
 }
 
+// word returns the word that the policy wants of a packet; it wants none where it accepts any checksum, or where the size is
+// refused first.
+func (policy Policy) word(p Packet) C.uint32_t {
+	if policy.AnyChecksum || len(p) > largest {
+		return 0
+	}
+	return C.uint32_t(p.Word())
+}
+
 // A Packet has the bytes of a packet, from the source port on; or bytes of which Check says that they are none.
 type Packet []byte
 
@@ -56,7 +67,7 @@ func (p Packet) Check(policy Policy) error {
 }
 
 func (p Packet) firstFault(policy Policy) *Error {
-	result := C.go_first_fault(bytesOf(p), C.size_t(len(p)), policy.c(p))
+	result := C.go_first_fault(bytesOf(p), C.size_t(len(p)), policy.word(p), policy.c(p))
 	if result.code == C.DCSCTP_OK {
 		return nil
 	}
@@ -65,12 +76,24 @@ func (p Packet) firstFault(policy Policy) *Error {
 
 // IsValid returns whether Check returns nil.
 func (p Packet) IsValid(policy Policy) bool {
-	return C.go_check(bytesOf(p), C.size_t(len(p)), policy.c(p)) == C.DCSCTP_OK
+	return C.go_check(bytesOf(p), C.size_t(len(p)), policy.word(p), policy.c(p)) == C.DCSCTP_OK
 }
 
+// castagnoli is the table of CRC32c, which hash/crc32 computes by the processor's own instructions where it has them.
+var castagnoli = crc32.MakeTable(crc32.Castagnoli)
+
+// zeros stand for the checksum field.
+var zeros = make([]byte, FirstChunk-8)
+
 // Word computes what the checksum field has to be (section 6.8): the packet's CRC32c over zeros in the field, as the number
-// that Header.Checksum has to be. For fewer than 12 bytes it has no meaning.
-func (p Packet) Word() uint32 { return uint32(C.dcsctp_word(bytesOf(p), C.size_t(len(p)))) }
+// that Header.Checksum has to be. It is 0 for fewer than 12 bytes.
+func (p Packet) Word() uint32 {
+	if len(p) < FirstChunk {
+		return 0
+	}
+	sum := crc32.Update(crc32.Checksum(p[:8], castagnoli), castagnoli, zeros)
+	return bits.ReverseBytes32(crc32.Update(sum, castagnoli, p[FirstChunk:]))
+}
 
 // NeedsChecksum returns whether the packet has to have its CRC32c also where a checksum of zero was negotiated (RFC 9653
 // section 5.2): it has INIT, COOKIE ECHO or ASCONF; or it answers a packet out of the blue, by a chunk that IsTagReflected.
@@ -117,10 +140,7 @@ func (p Packet) Canonical(policy Policy) ([]byte, error) {
 
 // write calls a function for the size that it needs, and then for what it writes.
 func (p Packet) write(policy Policy, call func(C.uint32_t, []byte) C.struct_go_result) ([]byte, error) {
-	var word C.uint32_t
-	if !policy.AnyChecksum {
-		word = C.dcsctp_word(bytesOf(p), C.size_t(len(p)))
-	}
+	word := policy.word(p)
 	result := call(word, nil)
 	if result.code == C.DCSCTP_NO_ROOM {
 		output := make([]byte, result.size)
