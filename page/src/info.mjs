@@ -88,6 +88,7 @@ function controlInfo(chunk) {
   if (duplicates.length)
     parts.push(`${duplicates.length > 1 ? 'duplicates' : 'duplicate'} ${some(duplicates)}`);
   add('new_cumulative_tsn', it => `new TSN ${it}`);
+  add('sequence_number', it => `sequence number ${it}`);
   if (streams.length)
     parts.push(`skips in stream ${some(streams)}`);
   add('a_rwnd', it => `a_rwnd ${it}`);

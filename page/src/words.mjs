@@ -66,28 +66,36 @@ const FIELDS = {
     inbound_streams: 'Number of Inbound Streams', initial_tsn: 'Initial TSN', cumulative_tsn: 'Cumulative TSN Ack',
     new_cumulative_tsn: 'New Cumulative TSN', tag_reflected: 'T bit: the tag is reflected', message: 'Message Type',
     channel_type: 'Channel Type', reliability: 'Reliability Parameter', value: 'Chunk Value', blocks: 'Gap Ack Block',
-    duplicates: 'Duplicate TSN',
+    duplicates: 'Duplicate TSN', sequence_number: 'Sequence Number', shared_key: 'Shared Key Identifier', hmac_identifier: 'HMAC Identifier',
+    hmac: 'HMAC', lowest_tsn: 'Lowest TSN Number', nr_blocks: 'Non-Renegable Gap Ack Block',
   },
   'chunks.parameters': {
     parameter: 'Parameter Type', length: 'Parameter Length', increment: 'Suggested Cookie Life-Span Increment',
     request: 'Re-configuration Request Sequence Number', response: 'Re-configuration Response Sequence Number',
     last_tsn: 'Sender’s Last Assigned TSN', sender_next_tsn: 'Sender’s Next TSN', receiver_next_tsn: 'Receiver’s Next TSN',
-    new_streams: 'Number of new streams', method: 'Error Detection Method Identifier', indication: 'Adaptation Code point',
+    correlation_id: 'ASCONF Correlation ID', new_streams: 'Number of new streams', method: 'Error Detection Method Identifier', indication: 'Adaptation Code point',
     value: 'Parameter Value',
   },
   'chunks.parameters.streams': { stream: 'Stream Number' },
   'chunks.parameters.hmacs': { identifier: 'HMAC Identifier' },
   'chunks.parameters.chunk_types': { type: 'Chunk Type' },
-  'chunks.causes': { cause: 'Cause Code', length: 'Cause Length', value: 'Cause-Specific Information' },
+  'chunks.causes': {
+    cause: 'Cause Code', length: 'Cause Length', value: 'Cause-Specific Information', stream: 'Stream Identifier', staleness: 'Measure of Staleness',
+    hmac_identifier: 'HMAC Identifier',
+  },
   'chunks.causes.types': { parameter: 'Missing Param Type' },
+  'chunks.nr_blocks': { start: 'NR Gap Ack Block Start', end: 'NR Gap Ack Block End' },
   'chunks.blocks': { start: 'Gap Ack Block Start', end: 'Gap Ack Block End' },
   'chunks.duplicates': { tsn: 'Duplicate TSN' },
   'chunks.streams': { stream: 'Stream Identifier', ssn: 'Stream Sequence Number', mid: 'Message Identifier' },
 };
 
-/** The name that the RFCs have for a field in lists within lists, if its key is another.
+/** The name that the RFCs have for a field in lists within lists, if its key is another. Parameters and causes can be in one another.
     @param {string} key */
-const fieldName = (lists, key) => FIELDS[lists.join('.')]?.[key];
+function fieldName(lists, key) {
+  const owner = Math.max(lists.lastIndexOf('parameters'), lists.lastIndexOf('causes'));
+  return FIELDS[(owner > 1 ? ['chunks', ...lists.slice(owner)] : lists).join('.')]?.[key];
+}
 
 /** Chunks by their colours. */
 const COLOURS = {

@@ -937,6 +937,10 @@ each('the name of a field in lists', (key, ...lists) => fieldName(lists, key), [
   ['last_tsn', 'chunks', 'parameters', 'Sender’s Last Assigned TSN'], ['length', 'chunks', 'causes', 'Cause Length'],
   ['reliability', 'chunks', 'Reliability Parameter'], ['stream', 'chunks', 'parameters', 'streams', 'Stream Number'],
   ['stream', 'chunks', 'streams', 'Stream Identifier'], ['tag', 'ends', undefined], ['verdict', 'Whether the Checksum is right'],
+  // RFC 5061 sections 4.2 and 4.3, RFC 4895 section 4.1
+  ['correlation_id', 'chunks', 'parameters', 'causes', 'parameters', 'ASCONF Correlation ID'],
+  ['hmac_identifier', 'chunks', 'parameters', 'causes', 'HMAC Identifier'],
+  ['type', 'chunks', 'causes', 'parameters', 'chunk_types', 'Chunk Type'],
 ]);
 // The deepest field of each byte.
 each('the field of a byte', byte => nodes[ownersOf(nodes, 34)[byte]]?.label, [

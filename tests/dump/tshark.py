@@ -38,9 +38,10 @@ DATA = os.path.join(ROOT, 'crates', 'sctp_dump', 'data')
 TOOLS = 'tshark', 'editcap', 'mergecap', 'text2pcap', 'tcpdump', 'hexdump', 'od', 'xxd'
 CHUNKS = {'DATA': 0, 'INIT': 1, 'INIT ACK': 2, 'SACK': 3, 'HEARTBEAT': 4, 'HEARTBEAT ACK': 5, 'ABORT': 6, 'SHUTDOWN': 7,
           'SHUTDOWN ACK': 8, 'ERROR': 9, 'COOKIE ECHO': 10, 'COOKIE ACK': 11, 'SHUTDOWN COMPLETE': 14, 'I-DATA': 64,
-          'RE-CONFIG': 130, 'FORWARD-TSN': 192, 'I-FORWARD-TSN': 194, 'AUTH': 15, 'ASCONF ACK': 128, 'PAD': 132, 'ASCONF': 193}
-# Those that sctp_dump shows as bytes.
-BYTES = (15, 128, 132, 193)
+          'RE-CONFIG': 130, 'FORWARD-TSN': 192, 'I-FORWARD-TSN': 194, 'ECNE': 12, 'CWR': 13, 'AUTH': 15, 'NR-SACK': 16,
+          'ASCONF ACK': 128, 'PKTDROP': 129, 'PAD': 132, 'ASCONF': 193}
+# Those that end in bytes, and the bytes before them.
+BYTES = {0: 16, 10: 4, 15: 8, 64: 20, 129: 16, 132: 4}
 # tshark's fields of a chunk, and what sctp_dump calls them.
 NUMBERS = {
     'data_tsn_raw': 'tsn', 'data_sid': 'stream', 'data_ssn': 'ssn', 'data_payload_proto_id': 'ppid', 'data_mid': 'mid',
@@ -56,8 +57,14 @@ NUMBERS = {
     'parameter_senders_last_assigned_tsn': 'last tsn', 'parameter_reconfig_sid': 'stream',
     'parameter_senders_next_tsn': 'next tsn', 'parameter_receivers_next_tsn': 'next tsn',
     'parameter_add_outgoing_streams_number': 'new streams', 'parameter_add_incoming_streams_number': 'new streams',
-    'cause_code': 'cause', 'cause_tsn': 'tsn',
-    'cause_missing_parameter_type': 'parameter type'}
+    'cause_code': 'cause', 'cause_tsn': 'tsn', 'cause_stream_identifier': 'stream', 'cause_measure_of_staleness': 'staleness',
+    'cause_missing_parameter_type': 'parameter type', 'ecne_lowest_tsn': 'lowest tsn', 'cwr_lowest_tsn': 'lowest tsn',
+    'shared_key_id': 'shared key', 'hmac_id': 'hmac identifier', 'asconf_seq_nr_number': 'sequence number',
+    'asconf_ack_seq_nr_number': 'sequence number', 'correlation_id': 'correlation id', 'nr_sack_cumulative_tsn_ack': 'cumulative tsn',
+    'nr_sack_a_rwnd': 'a_rwnd', 'nr_sack_gap_block_start': 'block', 'nr_sack_gap_block_end': 'to',
+    'nr_sack_nr_gap_block_start': 'nr block', 'nr_sack_nr_gap_block_end': 'to', 'nr_sack_duplicate_tsn': 'duplicate tsn',
+    'pktdrop_bandwidth': 'bandwidth', 'pktdrop_queuesize': 'queued', 'pktdrop_truncated_length': 'truncated length'}
+ADDRESSES = 'parameter_ipv4_address', 'parameter_ipv6_address'
 WORDS = {'data_u_bit': 'unordered', 'data_b_bit': 'beginning', 'data_e_bit': 'end', 'data_i_bit': 'immediate',
          'i_forward_tsn_u_bit': 'unordered', 'abort_t_bit': 'tag reflected', 'shutdown_complete_t_bit': 'tag reflected'}
 NUMBER = re.compile(r'(?<![\w-])(%s) (0x[0-9a-f]+|\d+)' % '|'.join(sorted(set(NUMBERS.values()), key=len, reverse=True)))
@@ -93,14 +100,16 @@ def said(line, values, chunks):
     # What is counted from other numbers, and what a message says, isn't compared.
     if line.startswith(('  text: ', '  DATA_CHANNEL_')):
         return
-    line = re.sub(r'^  (parameter|cause) (?:type|code) (\d+) \(\w+\)', r'  \1 \2', line)
+    line = re.sub(r'^( +)(parameter|cause) (?:type|code) (\d+) \(\w+\)', r'\1\2 \3', line)
+    address = re.search(r' IPv[46] Address: (\S+)$', line)
     line = re.sub(r'"[^"]*"|\([^)]*\)|(?<= to )(\d+): tsn .*', r'\1', line)
     if line[0] != ' ' or not chunks:
         name = re.split('[:,]', line)[0]
         typ = re.match(r'chunk type (\d+) ', line)
         chunks.append([('chunk', int(typ[1]) if typ else CHUNKS.get(name, name))])
     chunks[-1] += [(name, int(number, 0)) for name, number in NUMBER.findall(line)] + [(it, 1) for it in WORD.findall(line)]
-    size = re.match(r'  payload: (\d+) byte|\S[^:,]*[:,] (?:flags \w+, )?(\d+) byte', line)
+    chunks[-1] += [('address', ipaddress.ip_address(address[1]))] if address else []
+    size = re.match(r'  (?:payload|hmac|packet): (\d+) byte|\S[^:,]*[:,] (?:flags \w+, )?(\d+) byte', line)
     chunks[-1] += [('bytes', int(size[1] or size[2]))] if size else []
 
 
@@ -140,18 +149,31 @@ def shown(packet):
     return int(of['frame.number']), values, chunks, True
 
 
+def inside(field):
+    """What is in a field, but for a chunk that a cause quotes, and for the HMACs of a list, which have their names alone."""
+    of = {it.get('name'): it.get('show') for it in field}
+    is_listed, quotes = of.get('sctp.parameter_type') == '0x8004', of.get('sctp.cause_code') == '0x0006'
+    for it in field:
+        if not (is_listed and it.get('name') == 'sctp.hmac_id'):
+            yield it.get('name').removeprefix('sctp.'), it.get('show')
+        if not quotes:
+            yield from inside(it)
+
+
 def fields_of(chunk):
-    """The fields of a chunk, but for those of chunks and parameters that it quotes."""
-    found = [(it.get('name').removeprefix('sctp.'), it.get('show')) for field in chunk for it in (field, *field)]
-    typ = int(dict(found)['chunk_type'])
+    """The fields of a chunk."""
+    found = list(inside(chunk))
+    typ, length = (int(next(it[1] for it in found if it[0] == name)) for name in ('chunk_type', 'chunk_length'))
     yield 'chunk', typ
     for name, text in found:
-        if name in NUMBERS and typ in CHUNKS.values() and typ not in BYTES:
+        if name in NUMBERS and typ in CHUNKS.values():
             yield NUMBERS[name], int(text, 0)
+        elif name in ADDRESSES:
+            yield 'address', ipaddress.ip_address(text)
         elif name in WORDS and text == '1':
             yield WORDS[name], 1
-    if typ in (0, 10, 64, *BYTES) or typ not in CHUNKS.values():
-        yield 'bytes', int(dict(found)['chunk_length']) - {0: 16, 64: 20}.get(typ, 4)
+    if typ in BYTES or typ not in CHUNKS.values():
+        yield 'bytes', length - BYTES.get(typ, 4)
 
 
 def differences(mine, theirs, absent):
@@ -195,12 +217,20 @@ def sealed(packet):
     return packet[:8] + crc32c(packet[:8] + bytes(4) + packet[12:]) + packet[12:]
 
 
+def chunks_of_rows():
+    """The chunks of the rows of reports.txt."""
+    with open(os.path.join(ROOT, 'tests', 'dump', 'reports.txt'), encoding='utf-8') as file:
+        for words in re.findall('^report ([^=\n]*)', file.read(), re.MULTILINE):
+            yield bytes.fromhex(re.sub(r'(\w\w)\*(\d+)', lambda it: it[1] * int(it[2]), words))
+
+
 def packets():
     with open(os.path.join(DATA, 'association.txt'), encoding='ascii') as file:
         yield from (bytes.fromhex(line) for line in file if re.match('[0-9a-f]', line) and len(line) > 32)
     for at, (name, make) in enumerate((name, make) for name, _, count, make in FILES if count > HOSTILE_PACKETS):
         packet = make(Peer(Draw(1, name)))
         yield [sealed(packet), sealed(packet), packet, packet[:8] + bytes(4) + packet[12:]][at % 4]
+    yield from (sealed(bytes.fromhex('1388138800000001') + bytes(4) + it) for it in chunks_of_rows())
     for typ in (15, 73, 132, 255):
         yield sealed(bytes.fromhex('1388138800000001') + bytes(4) + chunk(typ, 0, bytes(range(60))) + chunk(11, 0, b''))
 

@@ -23,8 +23,8 @@ pub struct BriefFields<'f, W> {
     before_number: &'static str,
     /// Whether a chunk began.
     has_chunk: bool,
-    /// Whether a parameter or an error cause began that hasn't ended.
-    is_inside: bool,
+    /// How many parameters and error causes began that haven't ended.
+    depth: usize,
     /// Whether an entry began that hasn't ended.
     is_entry: bool,
 }
@@ -38,7 +38,7 @@ impl<'f, W: fmt::Write> BriefFields<'f, W> {
             before_item: "",
             before_number: "",
             has_chunk: false,
-            is_inside: false,
+            depth: 0,
             is_entry: false,
         }
     }
@@ -125,7 +125,10 @@ impl<'f, W: fmt::Write> Fields for BriefFields<'f, W> {
             Level::Cause => cause_name(code),
             _ => parameter_name(code),
         };
-        self.is_inside = true;
+        self.depth = self.depth.saturating_add(1);
+        if self.depth > 1 {
+            return Ok(());
+        }
         self.begin_item()?;
         match name {
             Some(name) => self.put_name(name),
@@ -134,12 +137,12 @@ impl<'f, W: fmt::Write> Fields for BriefFields<'f, W> {
     }
 
     fn end(&mut self, _level: Level) -> fmt::Result {
-        self.is_inside = false;
+        self.depth = self.depth.saturating_sub(1);
         Ok(())
     }
 
     fn begin_list(&mut self, key: &'static str, is_empty: bool) -> fmt::Result {
-        if is_empty || self.is_inside || !self.has_chunk {
+        if is_empty || self.depth > 0 || !self.has_chunk {
             return Ok(());
         }
         self.before_item = "";
@@ -147,7 +150,7 @@ impl<'f, W: fmt::Write> Fields for BriefFields<'f, W> {
     }
 
     fn begin_entry(&mut self, _offset: usize, _size: usize) -> fmt::Result {
-        if self.is_inside {
+        if self.depth > 0 {
             return Ok(());
         }
         self.is_entry = true;
@@ -162,7 +165,7 @@ impl<'f, W: fmt::Write> Fields for BriefFields<'f, W> {
 
     /// Writes nothing of a number without words.
     fn number(&mut self, number: &Number) -> fmt::Result {
-        if self.is_inside || number.words.is_empty() {
+        if self.depth > 0 || number.words.is_empty() {
             return Ok(());
         }
         if self.is_entry {
@@ -181,7 +184,7 @@ impl<'f, W: fmt::Write> Fields for BriefFields<'f, W> {
     fn named(&mut self, number: &Number, name: Option<&'static str>) -> fmt::Result {
         self.number(number)?;
         match name {
-            Some(name) if !self.is_inside => {
+            Some(name) if self.depth == 0 => {
                 self.f.write_str("/")?;
                 self.put_name(name)
             }
@@ -195,7 +198,7 @@ impl<'f, W: fmt::Write> Fields for BriefFields<'f, W> {
         } else {
             flag.otherwise
         };
-        if self.is_inside || word.is_empty() {
+        if self.depth > 0 || word.is_empty() {
             return Ok(());
         }
         if self.is_entry {
@@ -222,6 +225,9 @@ impl<'f, W: fmt::Write> Fields for BriefFields<'f, W> {
     }
 
     fn text_value(&mut self, bytes: &[u8]) -> fmt::Result {
+        if self.depth > 1 {
+            return Ok(());
+        }
         let word = OneWord(bytes);
         write!(self.f, ":{word}")
     }

@@ -1,42 +1,48 @@
 //! What an error cause holds.
 
 use crate::fields::{Fields, Form, Number, walk_numbers};
+use crate::lists::{Listed, is_list, walk_list};
+use crate::parameters::InnerParameters;
 use dcsctp_borrowed::missing_parameters::missing_parameters;
-use dcsctp_borrowed::part::{Item, Part};
+use dcsctp_borrowed::part::Item;
 use dcsctp_wire::packet::parameter::RawParameter;
 use dump_text::names::Level;
+use dump_text::registry::hmac_name;
 use std::fmt;
 
-/// Hands over each cause of a list, as far as there are causes.
-pub fn walk_causes<F: Fields>(list: Part<'_>, fields: &mut F) -> fmt::Result {
-    fields.begin_list("causes", list.item().is_none())?;
-    for cause in list.items() {
-        walk_cause(&cause, fields)?;
-    }
-    fields.end_list()
-}
+/// The causes in a chunk or a parameter.
+pub struct Causes;
 
-/// Hands over a cause.
-fn walk_cause<F: Fields>(cause: &Item<'_>, fields: &mut F) -> fmt::Result {
-    fields.begin(Level::Cause, cause)?;
-    if !cause.value.is_whole() || !walk_meaning(cause, fields)? {
-        fields.value(Level::Cause, cause)?;
-    }
-    fields.end(Level::Cause)
-}
+impl Listed for Causes {
+    const KEY: &'static str = "causes";
 
-/// Hands over what a cause means; returns false, and hands over nothing, where its value isn't
-/// known to mean anything but its bytes.
-fn walk_meaning<F: Fields>(cause: &Item<'_>, fields: &mut F) -> Result<bool, fmt::Error> {
-    let (code, value) = (cause.code(), cause.value.bytes);
-    match code {
-        2 => return walk_missing(cause, fields),
-        9 if value.len() == 4 => fields.number(&Number::read(": tsn ", "tsn", cause, 4, 4))?,
-        10 if value.is_empty() => {}
-        12 | 13 => fields.text_value(value)?,
-        _ => return Ok(false),
+    const LEVEL: Level = Level::Cause;
+
+    fn walk_meaning<F: Fields>(cause: &Item<'_>, fields: &mut F) -> Result<bool, fmt::Error> {
+        let (code, value) = (cause.code(), cause.value.bytes);
+        match code {
+            1 if value.len() == 4 => {
+                fields.number(&Number::at(": stream ", "stream", cause, 0, 2))?;
+            }
+            2 => return walk_missing(cause, fields),
+            3 if value.len() == 4 => {
+                let staleness = Number::at(": staleness ", "staleness", cause, 0, 4);
+                fields.number(&staleness.in_form(Form::Microseconds))?;
+            }
+            5 | 8 | 11 | 0x00a0..=0x00a2 | 0x00a4 if is_list(cause.value) => {
+                walk_list::<InnerParameters, F>(cause.value, fields)?;
+            }
+            9 if value.len() == 4 => fields.number(&Number::at(": tsn ", "tsn", cause, 0, 4))?,
+            4 | 7 | 10 | 0x00a3 if value.is_empty() => {}
+            12 | 13 => fields.text_value(value)?,
+            0x0105 if value.len() == 2 => {
+                let hmac = Number::at(": hmac identifier ", "hmac_identifier", cause, 0, 2);
+                fields.named(&hmac, hmac_name(hmac.value))?;
+            }
+            _ => return Ok(false),
+        }
+        Ok(true)
     }
-    Ok(true)
 }
 
 /// Hands over the types that a Missing Mandatory Parameter lists.

@@ -1,9 +1,10 @@
 //! What a chunk holds.
 
-use crate::causes::walk_causes;
+use crate::causes::Causes;
 use crate::channel::walk_channel;
-use crate::fields::{Block, Fields, Flag, Form, HEADER_SIZE, Number, walk_numbers};
-use crate::parameters::walk_parameters;
+use crate::fields::{Block, Bytes, Fields, Flag, Form, HEADER_SIZE, Number, walk_numbers};
+use crate::lists::{is_list, walk_list};
+use crate::parameters::Parameters;
 use dcsctp_borrowed::forward_tsn_ref::ForwardTsnRef;
 use dcsctp_borrowed::part::{Item, Part};
 use dcsctp_borrowed::user_data::UserData;
@@ -12,13 +13,26 @@ use dcsctp_wire::packet::data_chunk::DataNumbers;
 use dcsctp_wire::packet::forward_tsn_chunk::ForwardTsnNumbers;
 use dcsctp_wire::packet::idata_chunk::IDataNumbers;
 use dcsctp_wire::packet::init_chunk::InitNumbers;
+use dcsctp_wire::packet::read_u16_be;
 use dcsctp_wire::packet::sack_chunk::SackNumbers;
 use dump_text::names::Level;
-use dump_text::registry::payload_protocol;
+use dump_text::registry::{hmac_name, payload_protocol};
 use std::fmt;
 
 /// Bytes of a gap ack block, and of a duplicate TSN.
 const SACK_ENTRY_SIZE: usize = 4;
+
+/// Bytes of an NR-SACK before its lists.
+const NR_SACK_SIZE: usize = 16;
+
+/// Bytes of the number of an ASCONF or an ASCONF ACK.
+const SEQUENCE_NUMBER_SIZE: usize = 4;
+
+/// Bytes of an AUTH before its HMAC.
+const AUTH_SIZE: usize = 4;
+
+/// Bytes of a PKTDROP before the packet.
+const PKTDROP_SIZE: usize = 12;
 
 /// Hands over each chunk of a packet's list, as far as there are chunks.
 pub fn walk_chunks<F: Fields>(list: Part<'_>, fields: &mut F) -> fmt::Result {
@@ -49,24 +63,38 @@ fn walk_meaning<F: Fields>(chunk: &Item<'_>, fields: &mut F) -> Result<bool, fmt
         // INIT, INIT ACK
         1 | 2 if size >= InitNumbers::SIZE => {
             walk_init(chunk, fields)?;
-            walk_parameters(value.after(InitNumbers::SIZE), fields)?;
+            walk_list::<Parameters, F>(value.after(InitNumbers::SIZE), fields)?;
         }
         // SACK
         3 => return walk_sack(chunk, fields),
         // HEARTBEAT, HEARTBEAT ACK, RE-CONFIG
-        4 | 5 | 130 => walk_parameters(value, fields)?,
+        4 | 5 | 130 => walk_list::<Parameters, F>(value, fields)?,
         // ABORT, ERROR
         6 => {
             fields.flag(&tag_reflected(chunk))?;
-            walk_causes(value, fields)?;
+            walk_list::<Causes, F>(value, fields)?;
         }
-        9 => walk_causes(value, fields)?,
+        9 => walk_list::<Causes, F>(value, fields)?,
         // SHUTDOWN, SHUTDOWN ACK, COOKIE ACK, SHUTDOWN COMPLETE
         7 if value.is_whole() && size == 4 => {
             fields.number(&Number::read(": cumulative tsn ", "cumulative_tsn", chunk, 4, 4))?;
         }
         8 | 11 if value.size == 0 => {}
+        // ECNE, CWR
+        12 | 13 if value.is_whole() && size == 4 => {
+            fields.number(&Number::at(": lowest tsn ", "lowest_tsn", chunk, 0, 4))?;
+        }
         14 if value.size == 0 => fields.flag(&tag_reflected(chunk))?,
+        // AUTH, NR-SACK
+        15 if size >= AUTH_SIZE => walk_auth(chunk, fields)?,
+        16 => return walk_nr_sack(chunk, fields),
+        // ASCONF ACK, ASCONF
+        128 | 193 if size >= SEQUENCE_NUMBER_SIZE && is_list(value.after(SEQUENCE_NUMBER_SIZE)) => {
+            fields.number(&Number::at(": sequence number ", "sequence_number", chunk, 0, 4))?;
+            walk_list::<Parameters, F>(value.after(SEQUENCE_NUMBER_SIZE), fields)?;
+        }
+        // PKTDROP
+        129 if size >= PKTDROP_SIZE => walk_dropped(chunk, fields)?,
         // FORWARD-TSN, I-FORWARD-TSN
         192 | 194 if value.is_whole() => return walk_forward_tsn(chunk, fields),
         _ => return Ok(false),
@@ -127,7 +155,8 @@ fn walk_sack<F: Fields>(chunk: &Item<'_>, fields: &mut F) -> Result<bool, fmt::E
     let captured = (bytes.len() - SackNumbers::SIZE) / SACK_ENTRY_SIZE;
     let blocks = numbers.gap_ack_block_count as usize;
     let blocks_captured = blocks.min(captured);
-    walk_blocks(blocks_captured, numbers.cumulative_tsn_ack.0, chunk, fields)?;
+    let first = Number::at("\n  block ", "start", chunk, SackNumbers::SIZE, 2);
+    walk_blocks("blocks", blocks_captured, first, numbers.cumulative_tsn_ack.0, chunk, fields)?;
     let first_duplicate = Number::at(
         "\n  duplicate tsn ",
         "tsn",
@@ -145,18 +174,51 @@ fn walk_sack<F: Fields>(chunk: &Item<'_>, fields: &mut F) -> Result<bool, fmt::E
     Ok(true)
 }
 
-/// Hands over the gap ack blocks of a SACK.
+/// Hands over an NR-SACK (draft-tuexen-tsvwg-sctp-multipath), as `walk_sack` does.
+fn walk_nr_sack<F: Fields>(chunk: &Item<'_>, fields: &mut F) -> Result<bool, fmt::Error> {
+    let bytes = chunk.value.bytes;
+    if bytes.len() < NR_SACK_SIZE {
+        return Ok(false);
+    }
+    let blocks = read_u16_be(&bytes[8..]) as usize;
+    let nr_blocks = read_u16_be(&bytes[10..]) as usize;
+    let entries = blocks + nr_blocks + read_u16_be(&bytes[12..]) as usize;
+    if chunk.value.size != NR_SACK_SIZE + SACK_ENTRY_SIZE * entries {
+        return Ok(false);
+    }
+    let cumulative = Number::at(": cumulative tsn ", "cumulative_tsn", chunk, 0, 4);
+    let tsn = cumulative.value;
+    fields.number(&cumulative)?;
+    fields.number(&Number::at(", a_rwnd ", "a_rwnd", chunk, 4, 4))?;
+    let captured = (bytes.len() - NR_SACK_SIZE) / SACK_ENTRY_SIZE;
+    let first = Number::at("\n  block ", "start", chunk, NR_SACK_SIZE, 2);
+    walk_blocks("blocks", blocks.min(captured), first, tsn, chunk, fields)?;
+    let captured = captured.saturating_sub(blocks);
+    let place = NR_SACK_SIZE + SACK_ENTRY_SIZE * blocks;
+    let first = Number::at("\n  nr block ", "start", chunk, place, 2);
+    walk_blocks("nr_blocks", nr_blocks.min(captured), first, tsn, chunk, fields)?;
+    let captured = captured.saturating_sub(nr_blocks);
+    let place = place + SACK_ENTRY_SIZE * nr_blocks;
+    let first = Number::at("\n  duplicate tsn ", "tsn", chunk, place, 4);
+    walk_numbers("duplicates", captured, first, chunk, fields)?;
+    Ok(true)
+}
+
+/// Hands over the gap ack blocks of a SACK or an NR-SACK; the start of the first is given.
 fn walk_blocks<F: Fields>(
+    key: &'static str,
     count: usize,
+    first: Number,
     cumulative_tsn: u32,
     chunk: &Item<'_>,
     fields: &mut F,
 ) -> fmt::Result {
-    fields.begin_list("blocks", count == 0)?;
-    let mut start = Number::at("", "start", chunk, SackNumbers::SIZE, 2);
+    fields.begin_list(key, count == 0)?;
+    let mut start = first;
     for _ in 0..count {
         let end = start.next(chunk);
         fields.block(&Block {
+            words: start.words,
             offset: start.offset,
             start: start.value,
             end: end.value,
@@ -165,6 +227,22 @@ fn walk_blocks<F: Fields>(
         start = end.next(chunk);
     }
     fields.end_list()
+}
+
+/// Hands over an AUTH (RFC 4895 section 5.1).
+fn walk_auth<F: Fields>(chunk: &Item<'_>, fields: &mut F) -> fmt::Result {
+    fields.number(&Number::at(": shared key ", "shared_key", chunk, 0, 2))?;
+    let hmac = Number::at(", hmac identifier ", "hmac_identifier", chunk, 2, 2);
+    fields.named(&hmac, hmac_name(hmac.value))?;
+    fields.bytes(&Bytes::after("\n  hmac: ", "hmac", chunk, AUTH_SIZE))
+}
+
+/// Hands over a PKTDROP (draft-stewart-sctp-pktdrprep): what a router or a receiver dropped.
+fn walk_dropped<F: Fields>(chunk: &Item<'_>, fields: &mut F) -> fmt::Result {
+    fields.number(&Number::at(": bandwidth ", "bandwidth", chunk, 0, 4))?;
+    fields.number(&Number::at(", queued ", "queued", chunk, 4, 4))?;
+    fields.number(&Number::at(", truncated length ", "truncated_length", chunk, 8, 2))?;
+    fields.bytes(&Bytes::after("\n  packet: ", "packet", chunk, PKTDROP_SIZE))
 }
 
 /// Hands over a FORWARD-TSN or an I-FORWARD-TSN, as `walk_meaning` does.

@@ -24,6 +24,7 @@ pub enum Form {
     /// With as many digits as its bytes have.
     Hexadecimal,
     Milliseconds,
+    Microseconds,
 }
 
 /// A number.
@@ -106,9 +107,11 @@ pub struct Flag {
     pub is_set: bool,
 }
 
-/// A gap ack block of a SACK (RFC 9260 section 3.3.4).
+/// A gap ack block of a SACK (RFC 9260 section 3.3.4) or an NR-SACK.
 #[derive(Clone, Copy)]
 pub struct Block {
+    /// What a line of text has before it.
+    pub words: &'static str,
     pub offset: usize,
     pub start: u32,
     pub end: u32,
@@ -133,6 +136,34 @@ pub struct Text<'a> {
     pub key: &'static str,
     pub offset: usize,
     pub bytes: &'a [u8],
+}
+
+/// Bytes at the end of a chunk.
+#[derive(Clone, Copy)]
+pub struct Bytes<'a> {
+    /// What a line of text has before them.
+    pub words: &'static str,
+    /// Their name.
+    pub key: &'static str,
+    pub offset: usize,
+    pub part: Part<'a>,
+}
+
+impl<'a> Bytes<'a> {
+    /// Returns all from a place in a chunk's value on.
+    pub fn after(
+        words: &'static str,
+        key: &'static str,
+        chunk: &Item<'a>,
+        place: usize,
+    ) -> Bytes<'a> {
+        Bytes {
+            words,
+            key,
+            offset: place.saturating_add(HEADER_SIZE),
+            part: chunk.value.after(place),
+        }
+    }
 }
 
 /// What takes all that a packet holds, and writes it in some form. A method with a body is of what
@@ -218,6 +249,11 @@ pub trait Fields {
 
     /// Takes that the payload before is no message of the protocol that its identifier names.
     fn no_message(&mut self) -> fmt::Result {
+        Ok(())
+    }
+
+    /// Takes bytes.
+    fn bytes(&mut self, _bytes: &Bytes<'_>) -> fmt::Result {
         Ok(())
     }
 

@@ -1,7 +1,7 @@
 //! A packet as JSON (RFC 8259): numbers, bytes in lower-case hexadecimal, and texts.
 
 use crate::fault::{Fault, Reason};
-use crate::fields::{Block, Fields, Flag, HEADER_SIZE, Number, Text};
+use crate::fields::{Block, Bytes, Fields, Flag, HEADER_SIZE, Number, Text};
 use dcsctp_borrowed::checksum::Checksum;
 use dcsctp_borrowed::part::{Item, Part};
 use dcsctp_wire::packet::sctp_packet::CommonHeader;
@@ -286,6 +286,11 @@ impl<'f, W: fmt::Write> Fields for JsonFields<'f, W> {
         self.put_text("text", HEADER_SIZE, bytes)?;
         self.put_bytes("value", bytes)?;
         self.place("value", HEADER_SIZE, bytes.len())
+    }
+
+    fn bytes(&mut self, bytes: &Bytes<'_>) -> fmt::Result {
+        self.put_bytes(bytes.key, bytes.part.bytes)?;
+        self.place(bytes.key, bytes.offset, bytes.part.size)
     }
 
     fn payload(&mut self, payload: Part<'_>, offset: usize, is_text: bool) -> fmt::Result {

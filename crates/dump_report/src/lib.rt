@@ -13,6 +13,7 @@ mod chunks;
 mod fault;
 mod fields;
 mod json;
+mod lists;
 mod packet;
 mod parameters;
 mod shown;

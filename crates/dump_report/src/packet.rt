@@ -43,10 +43,7 @@ pub struct PacketReport<'a, 'f> {
 impl<'a, 'f> fmt::Display for PacketReport<'a, 'f> {
     fn fmt<W: fmt::Write>(&self, f: &mut fmt::Formatter<W>) -> fmt::Result {
         let packet = Part::packet(self.bytes, self.length.max(self.bytes.len()));
-        let fields = &mut TextFields {
-            f,
-            shows_all: self.shows_all,
-        };
+        let fields = &mut TextFields::new(f, self.shows_all);
         walk_packet(packet, self.word, self.fault, fields)
     }
 }
@@ -182,10 +179,7 @@ impl<'c, 'a> fmt::Display for ChunkReport<'c, 'a> {
             value: Part::packet(bytes, bytes.len()),
             padded: 0,
         };
-        let fields = &mut TextFields {
-            f,
-            shows_all: self.shows_all,
-        };
+        let fields = &mut TextFields::new(f, self.shows_all);
         walk_chunk(&chunk, fields)
     }
 }

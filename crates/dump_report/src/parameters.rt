@@ -1,7 +1,9 @@
 //! What a parameter holds.
 
+use crate::causes::Causes;
 use crate::fields::{Fields, Form, Number, walk_named, walk_numbers};
-use dcsctp_borrowed::part::{Item, Part};
+use crate::lists::{Listed, is_list, walk_list};
+use dcsctp_borrowed::part::Item;
 use dcsctp_borrowed::re_config_ref::ReConfigRef;
 use dcsctp_wire::packet::add_streams_request::AddStreamsNumbers;
 use dcsctp_wire::packet::outgoing_ssn_reset_request_parameter::OutgoingSsnResetRequestNumbers;
@@ -15,26 +17,74 @@ use dump_text::registry::result_name;
 use std::fmt;
 use std::net::{IpAddr, Ipv4Addr, Ipv6Addr};
 
-/// Hands over each parameter of a list, as far as there are parameters.
-pub fn walk_parameters<F: Fields>(list: Part<'_>, fields: &mut F) -> fmt::Result {
-    fields.begin_list("parameters", list.item().is_none())?;
-    for parameter in list.items() {
-        walk_parameter(&parameter, fields)?;
+/// Bytes of the number of a request of ASCONF.
+const CORRELATION_ID_SIZE: usize = 4;
+
+/// The parameters in a chunk.
+pub struct Parameters;
+
+impl Listed for Parameters {
+    const KEY: &'static str = "parameters";
+
+    const LEVEL: Level = Level::Parameter;
+
+    fn walk_meaning<F: Fields>(parameter: &Item<'_>, fields: &mut F) -> Result<bool, fmt::Error> {
+        let value = parameter.value;
+        match parameter.code() {
+            0x0008 if is_list(value) => walk_list::<InnerParameters, F>(value, fields)?,
+            0xc003 if value.size >= CORRELATION_ID_SIZE && is_list(value.after(CORRELATION_ID_SIZE)) => {
+                walk_correlation_id(parameter, fields)?;
+                walk_list::<Causes, F>(value.after(CORRELATION_ID_SIZE), fields)?;
+            }
+            _ => return InnerParameters::walk_meaning(parameter, fields),
+        }
+        Ok(true)
     }
-    fields.end_list()
 }
 
-/// Hands over a parameter.
-fn walk_parameter<F: Fields>(parameter: &Item<'_>, fields: &mut F) -> fmt::Result {
-    fields.begin(Level::Parameter, parameter)?;
-    if !parameter.value.is_whole() || !walk_meaning(parameter, fields)? {
-        fields.value(Level::Parameter, parameter)?;
+/// The parameters in a parameter or a cause.
+pub struct InnerParameters;
+
+impl Listed for InnerParameters {
+    const KEY: &'static str = "parameters";
+
+    const LEVEL: Level = Level::Parameter;
+
+    fn walk_meaning<F: Fields>(parameter: &Item<'_>, fields: &mut F) -> Result<bool, fmt::Error> {
+        let value = parameter.value;
+        match parameter.code() {
+            0x0008 if is_list(value) => walk_list::<InnermostParameters, F>(value, fields)?,
+            0xc001 | 0xc002 | 0xc004
+                if value.size >= CORRELATION_ID_SIZE && is_list(value.after(CORRELATION_ID_SIZE)) =>
+            {
+                walk_correlation_id(parameter, fields)?;
+                walk_list::<InnermostParameters, F>(value.after(CORRELATION_ID_SIZE), fields)?;
+            }
+            _ => return walk_meaning(parameter, fields),
+        }
+        Ok(true)
     }
-    fields.end(Level::Parameter)
 }
 
-/// Hands over what a parameter means; returns false, and hands over nothing, where its value isn't
-/// known to mean anything but its bytes.
+/// The parameters in those, which are opened no further.
+struct InnermostParameters;
+
+impl Listed for InnermostParameters {
+    const KEY: &'static str = "parameters";
+
+    const LEVEL: Level = Level::Parameter;
+
+    fn walk_meaning<F: Fields>(parameter: &Item<'_>, fields: &mut F) -> Result<bool, fmt::Error> {
+        walk_meaning(parameter, fields)
+    }
+}
+
+/// Hands over the number of a request of ASCONF (RFC 5061 section 4.2).
+fn walk_correlation_id<F: Fields>(parameter: &Item<'_>, fields: &mut F) -> fmt::Result {
+    fields.number(&Number::at(": correlation id ", "correlation_id", parameter, 0, 4))
+}
+
+/// Hands over what a parameter without others in it means, as `Listed` says.
 fn walk_meaning<F: Fields>(parameter: &Item<'_>, fields: &mut F) -> Result<bool, fmt::Error> {
     let (typ, value) = (parameter.code(), parameter.value.bytes);
     match typ {
@@ -88,6 +138,7 @@ fn walk_meaning<F: Fields>(parameter: &Item<'_>, fields: &mut F) -> Result<bool,
             )?;
         }
         0x8000 | 0xc000 if value.is_empty() => {}
+        0xc005 if value.len() == CORRELATION_ID_SIZE => walk_correlation_id(parameter, fields)?,
         0xc006 if value.len() == 4 => {
             let indication = Number::read(": ", "indication", parameter, 4, 4);
             fields.number(&indication.in_form(Form::Hexadecimal))?;

@@ -1,7 +1,7 @@
 //! A packet as plain lines, one fact a line, and two blanks deeper what is inside.
 
 use crate::fault::Fault;
-use crate::fields::{Block, Fields, Flag, Form, Number, Text};
+use crate::fields::{Block, Bytes, Fields, Flag, Form, Number, Text};
 use crate::shown::{Rows, Shown, Size};
 use dcsctp_borrowed::checksum::Checksum;
 use dcsctp_borrowed::part::{Item, Part};
@@ -21,9 +21,35 @@ const MOST_OF_TEXT: usize = 64;
 /// Writes lines of text. Each line but a chunk's first one begins with a line break.
 #[derive(Drop)]
 pub struct TextFields<'f, W> {
-    pub f: &'f mut fmt::Formatter<W>,
+    f: &'f mut fmt::Formatter<W>,
     /// Whether all bytes of values are shown, those of payloads in rows.
-    pub shows_all: bool,
+    shows_all: bool,
+    /// How many items began that haven't ended.
+    depth: usize,
+}
+
+impl<'f, W: fmt::Write> TextFields<'f, W> {
+    /// Returns what begins with a packet or a chunk.
+    pub fn new(f: &'f mut fmt::Formatter<W>, shows_all: bool) -> TextFields<'f, W> {
+        TextFields {
+            f,
+            shows_all,
+            depth: 0,
+        }
+    }
+
+    /// Writes words, and after a line break before them two blanks more for each item in an item of
+    /// the chunk.
+    fn put_words(&mut self, words: &'static str) -> fmt::Result {
+        let Some(line) = words.strip_prefix("\n") else {
+            return self.f.write_str(words);
+        };
+        self.f.write_str("\n")?;
+        for _ in 2..self.depth {
+            self.f.write_str("  ")?;
+        }
+        self.f.write_str(line)
+    }
 }
 
 impl<'f, W: fmt::Write> Fields for TextFields<'f, W> {
@@ -55,10 +81,12 @@ impl<'f, W: fmt::Write> Fields for TextFields<'f, W> {
     }
 
     fn begin(&mut self, level: Level, item: &Item<'_>) -> fmt::Result {
+        self.depth = self.depth.saturating_add(1);
         if level != Level::Chunk {
             let code = item.code();
             let name = ItemName { level, code };
-            return write!(self.f, "\n  {name}");
+            self.put_words("\n  ")?;
+            return write!(self.f, "{name}");
         }
         let (name, flags) = (ChunkName(item.first), item.second);
         if name.is_known() {
@@ -68,6 +96,7 @@ impl<'f, W: fmt::Write> Fields for TextFields<'f, W> {
     }
 
     fn end(&mut self, level: Level) -> fmt::Result {
+        self.depth = self.depth.saturating_sub(1);
         if level == Level::Chunk {
             return self.f.write_str("\n");
         }
@@ -80,11 +109,12 @@ impl<'f, W: fmt::Write> Fields for TextFields<'f, W> {
         if number.words.is_empty() {
             return Ok(());
         }
-        self.f.write_str(number.words)?;
+        self.put_words(number.words)?;
         let value = number.value;
         match number.form {
             Form::Decimal => write!(self.f, "{value}"),
             Form::Milliseconds => write!(self.f, "{value} ms"),
+            Form::Microseconds => write!(self.f, "{value} us"),
             Form::Hexadecimal if number.size == 2 => write!(self.f, "{value:#06x}"),
             Form::Hexadecimal => write!(self.f, "{value:#010x}"),
         }
@@ -107,7 +137,8 @@ impl<'f, W: fmt::Write> Fields for TextFields<'f, W> {
         let before = if index == 0 {
             ": "
         } else if index.is_multiple_of(NAMES_A_LINE) {
-            ",\n    "
+            self.f.write_str(",")?;
+            "\n    "
         } else {
             ", "
         };
@@ -115,7 +146,8 @@ impl<'f, W: fmt::Write> Fields for TextFields<'f, W> {
             number: number.value,
             by,
         };
-        write!(self.f, "{before}{named}")
+        self.put_words(before)?;
+        write!(self.f, "{named}")
     }
 
     #[inline(always)]
@@ -125,9 +157,9 @@ impl<'f, W: fmt::Write> Fields for TextFields<'f, W> {
     }
 
     fn block(&mut self, block: &Block) -> fmt::Result {
-        let (start, end) = (block.start, block.end);
+        let (words, start, end) = (block.words, block.start, block.end);
         let (first, last) = block.tsns();
-        write!(self.f, "\n  block {start} to {end}: tsn {first} to {last}")
+        write!(self.f, "{words}{start} to {end}: tsn {first} to {last}")
     }
 
     fn address(&mut self, address: IpAddr, _size: usize) -> fmt::Result {
@@ -142,6 +174,12 @@ impl<'f, W: fmt::Write> Fields for TextFields<'f, W> {
     fn text_value(&mut self, bytes: &[u8]) -> fmt::Result {
         let quoted = Quoted(bytes);
         write!(self.f, ": {quoted}")
+    }
+
+    fn bytes(&mut self, bytes: &Bytes<'_>) -> fmt::Result {
+        let (words, part, shows_all) = (bytes.words, bytes.part, self.shows_all);
+        let shown = Shown { part, shows_all };
+        write!(self.f, "{words}{shown}")
     }
 
     fn payload(&mut self, payload: Part<'_>, _offset: usize, is_text: bool) -> fmt::Result {

@@ -1,0 +1,44 @@
+//! Lists of parameters and error causes, in a chunk and in one another.
+
+use crate::fields::Fields;
+use dcsctp_borrowed::part::{Item, Part};
+use dump_text::names::Level;
+use std::fmt;
+
+/// A list of items, as deep as they are opened: no function calls itself, so each depth has a type.
+pub trait Listed {
+    /// The list's name.
+    const KEY: &'static str;
+
+    /// What an item is.
+    const LEVEL: Level;
+
+    /// Hands over what an item means; returns false, and hands over nothing, where its value isn't
+    /// known to mean anything but its bytes.
+    fn walk_meaning<F: Fields>(item: &Item<'_>, fields: &mut F) -> Result<bool, fmt::Error>;
+}
+
+/// Hands over each item of a list, as far as there are items.
+pub fn walk_list<L: Listed, F: Fields>(list: Part<'_>, fields: &mut F) -> fmt::Result {
+    fields.begin_list(L::KEY, list.item().is_none())?;
+    for item in list.items() {
+        fields.begin(L::LEVEL, &item)?;
+        if !item.value.is_whole() || !L::walk_meaning(&item, fields)? {
+            fields.value(L::LEVEL, &item)?;
+        }
+        fields.end(L::LEVEL)?;
+    }
+    fields.end_list()
+}
+
+/// Returns whether nothing but items lies here, as far as it was captured.
+pub fn is_list(list: Part<'_>) -> bool {
+    if !list.is_whole() {
+        return true;
+    }
+    let mut rest = list;
+    for item in list.items() {
+        rest = rest.after(item.padded);
+    }
+    rest.size == 0
+}
