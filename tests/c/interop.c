@@ -5,12 +5,13 @@
    usage: interop [SCENARIO ..] [--messages N] [--seed N]
 
    Each packet is checked as by a socket, read by every reader and compared with plain_reader.h, written anew from what was read,
-   and refused with a bit changed. Then noise goes into every bit that a receiver ignores, and the other side gets the canonical
-   form of that, sealed: it has to be what was sent. Each message has to arrive once, and in order.
+   and dropped by examples/c/filter.c with a bit changed. Then noise goes into every bit that a receiver ignores, and the other
+   side gets what the filter makes of that: it has to be what was sent. Each message has to arrive once, and in order.
 
    usrsctp asks this program for the time and for random numbers: so a run depends on its seed alone, and waits for no timer.
    That takes the shared libusrsctp, whose calls of gettimeofday and read_random reach the functions here. */
 #define _GNU_SOURCE
+#include "../../examples/c/filter.c"
 #include "../../examples/c/responder.c"
 #include "plain_reader.h"
 #include <dcsctp.h>
@@ -19,6 +20,7 @@
 #include <stdlib.h>
 #include <string.h>
 #include <sys/time.h>
+#include <time.h>
 #include <usrsctp.h>
 
 enum { MOST = 65536, STREAMS = 16, MORE_STREAMS = 64, LARGEST = 20000, STEP = 5 /* of the clock, in milliseconds */ };
@@ -59,6 +61,7 @@ static uint64_t now; /* the clock, in milliseconds */
 /* What passed in the scenario. */
 static struct {
     unsigned packets, chunks, lost, noisy, blocks, kinds[256];
+    double filtering; /* nanoseconds */
 } tally;
 
 /* ---- failing */
@@ -369,10 +372,14 @@ static void write_anew(const uint8_t *bytes, size_t length)
     REQUIRE(size == length && !memcmp(copy, bytes, length));
 }
 
-static size_t canonical_form(const uint8_t *bytes, size_t length, uint8_t *output, size_t room)
+/* Filters a packet, and adds up the time that it takes. */
+static size_t filtered(const uint8_t *bytes, size_t length, uint8_t *output)
 {
-    size_t size = 0;
-    REQUIRE(dcsctp_canonical(bytes, length, dcsctp_word(bytes, length), &as_a_socket, output, room, &size) == ACCEPTED);
+    struct timespec begin, end;
+    clock_gettime(CLOCK_PROCESS_CPUTIME_ID, &begin);
+    size_t size = filter(bytes, length, &as_a_socket, output, MOST);
+    clock_gettime(CLOCK_PROCESS_CPUTIME_ID, &end);
+    tally.filtering += (double)(end.tv_sec - begin.tv_sec) * 1e9 + (double)(end.tv_nsec - begin.tv_nsec);
     return size;
 }
 
@@ -397,6 +404,7 @@ static size_t pass(const uint8_t *sent, size_t length, uint8_t *passed)
     memcpy(changed, sent, length);
     changed[below(length)] ^= (uint8_t)(1 << below(8));
     check(changed, length, WRONG_CHECKSUM, 8);
+    REQUIRE(filtered(changed, length, passed) == 0);
 
     fill(noise, length, &state);
     for (size_t i = 0; i < length; i++)
@@ -405,8 +413,7 @@ static size_t pass(const uint8_t *sent, size_t length, uint8_t *passed)
     tally.noisy += memcmp(changed, sent, length) != 0;
     check(changed, length, ACCEPTED, length);
     compare_readings(changed, length);
-    size_t size = canonical_form(changed, length, passed, MOST);
-    seal(passed, size);
+    size_t size = filtered(changed, length, passed);
     REQUIRE(size == length && !memcmp(passed, sent, length));
     return size;
 }
@@ -831,9 +838,10 @@ static void run_scenario(size_t messages, uint64_t seed)
     }
     end_association();
     check_kinds();
-    printf("interop: %s: %u packets (%u lost) of %u chunks; %u flipped bits caught; %u canonical forms as sent, %u of them of"
-           " noise; %zu and %zu messages of %zu each\n", scenario->name, tally.packets, tally.lost, tally.chunks,
-           tally.packets, tally.packets, tally.noisy, sides[1].received, sides[0].received, sides[0].planned);
+    printf("interop: %s: %u packets (%u lost) of %u chunks; %u with a flipped bit dropped; %u passed as sent, %u of them with"
+           " noise; both in %.0f ns; %zu and %zu messages of %zu each\n", scenario->name, tally.packets, tally.lost, tally.chunks,
+           tally.packets, tally.packets, tally.noisy, tally.filtering / tally.packets, sides[1].received, sides[0].received,
+           sides[0].planned);
     if (scenario->is_answered)
         end_responder();
     if (sides[1].listener)

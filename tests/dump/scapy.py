@@ -44,10 +44,10 @@ except ImportError:
     print("scapy.py: this Python hasn't scapy: apt-get install python3-scapy, for /usr/bin/python3", file=sys.stderr)
     sys.exit(2)
 
-# RFC 9260 section 3.2, RFC 8260 sections 2.1 and 2.3.1, RFC 6525 section 3.1, RFC 3758 section 3.2.
+# RFC 9260 section 3.2 and appendix A, RFC 8260 sections 2.1 and 2.3.1, RFC 6525 section 3.1, RFC 3758 section 3.2.
 CHUNKS = {0: 'DATA', 1: 'INIT', 2: 'INIT ACK', 3: 'SACK', 4: 'HEARTBEAT', 5: 'HEARTBEAT ACK', 6: 'ABORT', 7: 'SHUTDOWN',
-          8: 'SHUTDOWN ACK', 9: 'ERROR', 10: 'COOKIE ECHO', 11: 'COOKIE ACK', 14: 'SHUTDOWN COMPLETE', 15: 'AUTH', 64: 'I-DATA',
-          128: 'ASCONF ACK', 130: 'RE-CONFIG', 192: 'FORWARD-TSN', 193: 'ASCONF', 194: 'I-FORWARD-TSN'}
+          8: 'SHUTDOWN ACK', 9: 'ERROR', 10: 'COOKIE ECHO', 11: 'COOKIE ACK', 12: 'ECNE', 13: 'CWR', 14: 'SHUTDOWN COMPLETE',
+          15: 'AUTH', 64: 'I-DATA', 128: 'ASCONF ACK', 130: 'RE-CONFIG', 192: 'FORWARD-TSN', 193: 'ASCONF', 194: 'I-FORWARD-TSN'}
 # RFC 9260 section 3.3, RFC 6525 section 4, RFC 9653, RFC 4895, RFC 5061, RFC 3758.
 PARAMETERS = {1: 'Heartbeat Info', 5: 'IPv4 Address', 6: 'IPv6 Address', 7: 'State Cookie', 8: 'Unrecognized Parameter',
               9: 'Cookie Preservative', 11: 'Host Name Address', 12: 'Supported Address Types',
@@ -55,16 +55,19 @@ PARAMETERS = {1: 'Heartbeat Info', 5: 'IPv4 Address', 6: 'IPv6 Address', 7: 'Sta
               16: 'Re-configuration Response', 17: 'Add Outgoing Streams Request', 18: 'Add Incoming Streams Request',
               0x8000: 'ECN Capable', 0x8001: 'Zero Checksum Acceptable', 0x8002: 'Random', 0x8003: 'Chunk List',
               0x8004: 'Requested HMAC Algorithm', 0x8008: 'Supported Extensions', 0xC000: 'Forward-TSN-Supported',
-              0xC006: 'Adaptation Layer Indication'}
+              0xC001: 'Add IP Address', 0xC002: 'Delete IP Address', 0xC003: 'Error Cause Indication',
+              0xC004: 'Set Primary Address', 0xC005: 'Success Indication', 0xC006: 'Adaptation Layer Indication'}
 ADDRESSES_NAMED, HMACS = {5: 'IPv4', 6: 'IPv6'}, {1: 'SHA-1', 3: 'SHA-256'}
 # scapy's names of payload protocols that aren't the program's: it takes the short forms of Wireshark's table.
 PROTOCOLS = {46: 'Diameter', 58: 'XwAP'}
-# RFC 9260 section 3.3.10, RFC 4895 section 4.
+# RFC 9260 section 3.3.10, RFC 5061 section 4.3, RFC 4895 section 4.
 CAUSES = {1: 'Invalid Stream Identifier', 2: 'Missing Mandatory Parameter', 3: 'Stale Cookie', 4: 'Out of Resource',
           5: 'Unresolvable Address', 6: 'Unrecognized Chunk Type', 7: 'Invalid Mandatory Parameter',
           8: 'Unrecognized Parameters', 9: 'No User Data', 10: 'Cookie Received While Shutting Down',
           11: 'Restart of an Association with New Addresses', 12: 'User-Initiated Abort', 13: 'Protocol Violation',
-          0x0105: 'Unsupported HMAC Identifier'}
+          0xA0: 'Request to Delete Last Remaining IP Address', 0xA1: 'Operation Refused Due to Resource Shortage',
+          0xA2: 'Request to Delete Source IP Address', 0xA3: 'Association Aborted due to illegal ASCONF-ACK',
+          0xA4: 'Request refused - no authorization', 0x0105: 'Unsupported HMAC Identifier'}
 # RFC 6525 section 4.4.
 RESULTS = ('Success - Nothing to do', 'Success - Performed', 'Denied', 'Error - Wrong SSN',
            'Error - Request already in progress', 'Error - Bad Sequence Number', 'In progress')
@@ -78,7 +81,7 @@ UNSEEN = re.compile('[\0-\x1f"\\\\\x7f-\x9f\u061c\u200b-\u200f\u2028-\u202e\u206
 Line = collections.namedtuple('Line', 'form values source')
 SCAPY, LAYOUT, HAND = "scapy's", 'by the layout', 'by hand'
 # The fields of a form that may be empty.
-OPTIONAL = {'protocol': r'(?: \([^)]*\))?', 'order': ', (?:un)?ordered', 'beginning': '(?:, beginning)?',
+OPTIONAL = {'protocol': r'(?: \([^)]*\))?', 'algorithm': r'(?: \([^)]*\))?', 'order': ', (?:un)?ordered', 'beginning': '(?:, beginning)?',
             'end': '(?:, end)?', 'immediate': '(?:, immediate)?', 'reflected': '(?:, tag reflected)?'}
 # The last fields of the lines of DATA and I-DATA.
 BITS = '{order}{beginning}{end}{immediate}'
@@ -102,6 +105,10 @@ def bits(unordered, beginning, end, immediate):
 def protocol(ppid):
     name = PROTOCOLS.get(ppid) or SCTP_PAYLOAD_PROTOCOL_INDENTIFIERS.get(ppid, 'Reserved')
     return '' if name == 'Reserved' else ' (%s)' % name
+
+
+def algorithm(identifier):
+    return ' (%s)' % HMACS[identifier] if identifier in HMACS else ''
 
 
 def listed(p, name, names):
@@ -161,6 +168,18 @@ def items(value):
         typ, length = struct.unpack('>HH', value[:4])
         yield typ, value[4:length]
         value = value[(length + 3) // 4 * 4:]
+
+
+def are_items(value):
+    """Whether nothing but parameters or causes is here."""
+    while len(value) >= 4 and 4 <= int.from_bytes(value[2:4], 'big') <= len(value):
+        value = value[(int.from_bytes(value[2:4], 'big') + 3) // 4 * 4:]
+    return not value
+
+
+def deeper(lines):
+    """The lines of what is in an item."""
+    return (line._replace(form='  ' + line.form) for line in lines)
 
 
 class Expected:
@@ -250,9 +269,14 @@ class Expected:
             yield scapys('{chunk}: {cookie}', name, c.cookie)
         elif c.type == 14:
             yield scapys('{chunk}{reflected}', name, ', tag reflected' if c.TCB else '')
+        elif c.type == 15:
+            yield scapys('{chunk}: shared key {key}, hmac identifier {identifier}{algorithm}',
+                         name, c.shared_key_id, c.HMAC_function, algorithm(c.HMAC_function))
+            yield scapys('  hmac: {hmac}', bytes(c)[8:c.len])
         else:
-            # AUTH, ASCONF and ASCONF ACK, which are shown as their bytes
-            yield scapys('{chunk}: {value}', name, bytes(c)[4:c.len])
+            # ASCONF and ASCONF ACK
+            yield scapys('{chunk}: sequence number {number}', name, c.seq)
+            yield from self.parameters(c.params)
 
     def unknown_to_scapy(self, typ, flags, value):
         name = CHUNKS.get(typ)
@@ -277,6 +301,8 @@ class Expected:
             yield line('{chunk}: new cumulative tsn {tsn}', name, *struct.unpack('>I', value[:4]))
             for stream, low, mid in struct.iter_unpack('>HHI', value[4:]):
                 yield line('  stream {stream}{order}, mid {mid}', stream, bits(low & 1, 0, 0, 0)[0], mid)
+        elif typ in (12, 13):  # RFC 9260 appendix A
+            yield self.layout(name)('{chunk}: lowest tsn {tsn}', name, *struct.unpack('>I', value))
         elif typ == 130:  # RFC 6525 section 3.1
             yield self.layout('RE-CONFIG')('{chunk}', name)
             for item in items(value):
@@ -298,6 +324,10 @@ class Expected:
             else:
                 yield from self.parameter(p)
 
+    def inner(self, value):
+        """The lines of the parameters in an item."""
+        return deeper(self.parameters(ChunkParamField('', [], length_from=lambda _: len(value)).getfield(Raw(value), value)[1]))
+
     def parameter(self, p):
         name = PARAMETERS.get(p.type)
         if p.type == 1:
@@ -306,6 +336,17 @@ class Expected:
             yield scapys('  parameter {type} {name}: {cookie}', p.type, name, p.cookie)
         elif p.type in (5, 6):
             yield scapys('  parameter {type} {name}: {address}', p.type, name, p.addr)
+        elif p.type == 8:
+            yield scapys('  parameter {type} {name}', p.type, name)
+            yield from self.inner(bytes(p)[4:p.len])
+        elif p.type in (0xC001, 0xC002, 0xC004):
+            yield scapys('  parameter {type} {name}: correlation id {id}', p.type, name, p.correlation_id)
+            yield scapys('    parameter {type} {name}: {address}', p.addr_type, PARAMETERS[p.addr_type], p.addr)
+        elif p.type == 0xC003:
+            yield scapys('  parameter {type} {name}: correlation id {id}', p.type, name, p.correlation_id)
+            yield from deeper(self.causes(bytes(p)[8:p.len]))
+        elif p.type == 0xC005:
+            yield scapys('  parameter {type} {name}: correlation id {id}', p.type, name, p.correlation_id)
         elif p.type == 9:
             yield scapys('  parameter {type} {name}: increment {increment} ms', p.type, name, p.sug_cookie_inc)
         elif p.type == 11:
@@ -373,7 +414,17 @@ class Expected:
                     yield line('    parameter type {type}', typ)
             elif code == 9:
                 yield line('  cause {code} {name}: tsn {tsn}', code, name, *struct.unpack('>I', value))
-            elif code == 10:
+            elif code == 1 and len(value) == 4:
+                yield line('  cause {code} {name}: stream {stream}', code, name, *struct.unpack('>Hxx', value))
+            elif code == 3 and len(value) == 4:
+                yield line('  cause {code} {name}: staleness {microseconds} us', code, name, *struct.unpack('>I', value))
+            elif code == 0x0105 and len(value) == 2:
+                identifier = int.from_bytes(value, 'big')
+                yield line('  cause {code} {name}: hmac identifier {identifier}{algorithm}', code, name, identifier, algorithm(identifier))
+            elif code in (5, 8, 11, 0xA0, 0xA1, 0xA2, 0xA4) and are_items(value):
+                yield line('  cause {code} {name}', code, name)
+                yield from self.inner(value)
+            elif code in (4, 7, 10, 0xA3) and not value:
                 yield line('  cause {code} {name}', code, name)
             elif code in (12, 13):
                 yield line('  cause {code} {name}: {text}', code, name, quoted(value))
@@ -626,8 +677,19 @@ def association():
     yield [chunk(14, 0, b'')]
     yield [chunk(14, 1, b'')]
     yield [chunk(15, 0, u16(1) + u16(3) + bytes(range(32))), chunk(11, 0, b'')]
+    addresses = parameter(5, bytes([192, 0, 2, 1])), parameter(6, bytes(range(16)))
     yield [chunk(193, 0, u32(72) + parameter(5, bytes(4)) + parameter(0xC001, u32(73) + parameter(5, bytes(4))))]
+    yield [chunk(193, 0, u32(74) + b''.join((*addresses[at:at + 1], *(
+        parameter(typ, u32(75 + at) + it) for typ, it in zip((0xC001, 0xC002, 0xC004), addresses[at:] + addresses)),
+        parameter(0xC006, u32(79))))) for at in range(2)]
     yield [chunk(128, 0, u32(72) + parameter(0xC005, u32(73)))]
+    request = parameter(0xC002, u32(76) + addresses[1])
+    for code in (0xA0, 0xA1, 0xA2, 0xA4):
+        yield [chunk(128, 0, u32(77) + parameter(0xC003, u32(78) + parameter(code, request))), chunk(11, 0, b'')]
+    yield [chunk(6, 0, in_list([parameter(0xA3, b''), parameter(4, b''), parameter(7, b''), parameter(11, b''.join(addresses))]))]
+    yield [chunk(9, 0, in_list([parameter(5, parameter(11, b'a.example\0')), parameter(8, in_list([parameter(0x8008, b'\xc1\x80'), request])),
+                                parameter(0x0105, u16(3)), parameter(3, u32(123456))]))]
+    yield [chunk(12, 0, u32(98)), chunk(13, 0, u32(99))]
     yield [chunk(73, 0xA5, b'five.'), chunk(0, 3, u32(80) + u16(81) + u16(82) + u32(53) + payload), chunk(255, 0, b'')]
 
 
