@@ -17,12 +17,20 @@ from dataclasses import replace
 
 import davgyuti
 from compare import READERS, write
+from layer import over_the_package
 from talk import Aiortc, Browser, Chromium, Tap, talk
 
 # Seconds for a talk.
 LIMIT = 60
-# Who offers, and who answers; the first ends it.
-TALKS = [("aiortc", "aiortc"), ("Chromium", "aiortc"), ("aiortc", "Chromium")]
+# Who offers, and who answers; the first ends it. Then whether aiortc reads and writes its packets by the package.
+TALKS = [
+    ("aiortc", "aiortc", False),
+    ("Chromium", "aiortc", False),
+    ("aiortc", "Chromium", False),
+    ("aiortc", "aiortc", True),
+    ("Chromium", "aiortc", True),
+    ("aiortc", "Chromium", True),
+]
 # What has to be found where bytes were changed: without a new checksum, and with one.
 CHANGED = {False: ["sctp_dump", "the package", "tshark", "the association"], True: ["sctp_dump", "the package", "the messages"]}
 
@@ -71,14 +79,16 @@ async def main(program, folder):
     left_out, said = set(lacks()), None
     readers = {name: it for name, it in READERS.items() if name not in left_out}
     async with Browser() if "Chromium" not in left_out else contextlib.nullcontext() as browser:
-        for names in TALKS:
+        for *names, is_over in TALKS:
             if left_out & set(names):
                 continue
-            name, path = " to ".join(names), os.path.join(folder, "-".join(names) + ".pcap")
+            name = " to ".join(names) + (", over the package" if is_over else "")
+            path = os.path.join(folder, "-".join(names) + ("-package" if is_over else "") + ".pcap")
             tap = Tap(names.index("aiortc"))
             ends = [Aiortc(tap) if it == "aiortc" else Chromium(browser) for it in names]
             try:
-                said = await asyncio.wait_for(talk(tap, *ends), LIMIT)
+                with over_the_package() if is_over else contextlib.nullcontext():
+                    said = await asyncio.wait_for(talk(tap, *ends), LIMIT)
             except (asyncio.TimeoutError, RuntimeError) as error:
                 judge(name, [(None, f"the talk doesn't end: {error!r}")])
                 continue

@@ -28,6 +28,8 @@ RELIABLE, PARTIAL = ["ordered", "unordered"], ["once", "brief"]
 # aiortc 1.4 begins no message after one that it delivered, unless its TSN is the next; what came then waits for a further packet.
 pop_message = sctp.InboundStream.pop_messages
 sctp.InboundStream.pop_messages = lambda self: iter(lambda: next(pop_message(self), None), None)
+# aiortc's own, also where the package is in its place (layer.py).
+parse_packet = sctp.parse_packet
 aioice.ice.get_host_addresses = lambda use_ipv4, use_ipv6: ["127.0.0.1"]
 
 
@@ -108,7 +110,7 @@ class Tap:
 
     def take(self, data, sender):
         """Keeps a packet, and says how often it goes on."""
-        *header, chunks = sctp.parse_packet(data)
+        *header, chunks = parse_packet(data)
         copies = 1
         # (aiortc sends neither of these a second time)
         if self.is_lossy and not any(isinstance(it, (sctp.ForwardTsnChunk, sctp.ReconfigChunk)) for it in chunks):

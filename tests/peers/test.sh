@@ -9,7 +9,8 @@ Has aiortc and Chromium open data channels to each other, ordered and unordered,
 way. Some packets are lost, and some come twice. Then each end resets a channel, and one of them aborts. Of each SCTP packet,
 sctp_dump and the Python package have to read what aiortc reads and wrote, and the canonical packet has to be the same bytes;
 sctp_dump has to find no broken rule, one association with what each end sent, and the messages that the peers sent and got;
-tshark has to see the same chunks and TSNs. So too for two peers of aiortc. Then bytes are changed, which has to be found.
+tshark has to see the same chunks and TSNs. So too for two peers of aiortc, and where aiortc reads and writes its packets by the
+Python package. Then bytes are changed, which has to be found.
 The last line is: peers: N passed, M failed. A talk may take 60 s.
 
 PROGRAM is sctp_dump; if none is named, it is built from the text in dist/, as the package is. FOLDER keeps the captures.
