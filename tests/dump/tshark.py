@@ -31,6 +31,7 @@ from decimal import Decimal
 ROOT = os.path.dirname(os.path.dirname(os.path.dirname(os.path.abspath(__file__))))
 sys.dont_write_bytecode = True
 sys.path.append(os.path.join(ROOT, 'bench'))
+import reports
 from associations import crc32c
 from traffic import Draw, FILES, HOSTILE_PACKETS, Peer, chunk, u16
 
@@ -218,9 +219,10 @@ def sealed(packet):
 
 
 def chunks_of_rows():
-    """The chunks of the rows of reports.txt."""
-    with open(os.path.join(ROOT, 'tests', 'dump', 'reports.txt'), encoding='utf-8') as file:
-        for words in re.findall('^report ([^=\n]*)', file.read(), re.MULTILINE):
+    """The chunks of the rows of reports.txt, but for those with a part that is shown as bytes: of some, tshark shows more."""
+    for row, answer in reports.rows():
+        call, _, words = row.partition(' ')
+        if call == 'report' and not any(re.match(r' *(?!payload|hmac|packet)[^:]*[:,] (?:flags \w+, )?\d+ byte', it) for it in answer):
             yield bytes.fromhex(re.sub(r'(\w\w)\*(\d+)', lambda it: it[1] * int(it[2]), words))
 
 
