@@ -3,7 +3,7 @@
 use crate::causes::Causes;
 use crate::channel::walk_channel;
 use crate::fields::{Block, Bytes, Fields, Flag, Form, HEADER_SIZE, Number, walk_numbers};
-use crate::lists::{is_list, walk_list};
+use crate::lists::{list_after, walk_list};
 use crate::parameters::Parameters;
 use dcsctp_borrowed::forward_tsn_ref::ForwardTsnRef;
 use dcsctp_borrowed::part::{Item, Part};
@@ -89,9 +89,12 @@ fn walk_meaning<F: Fields>(chunk: &Item<'_>, fields: &mut F) -> Result<bool, fmt
         15 if size >= AUTH_SIZE => walk_auth(chunk, fields)?,
         16 => return walk_nr_sack(chunk, fields),
         // ASCONF ACK, ASCONF
-        128 | 193 if size >= SEQUENCE_NUMBER_SIZE && is_list(value.after(SEQUENCE_NUMBER_SIZE)) => {
+        128 | 193 => {
+            let Some(parameters) = list_after(value, SEQUENCE_NUMBER_SIZE) else {
+                return Ok(false);
+            };
             fields.number(&Number::at(": sequence number ", "sequence_number", chunk, 0, 4))?;
-            walk_list::<Parameters, F>(value.after(SEQUENCE_NUMBER_SIZE), fields)?;
+            walk_list::<Parameters, F>(parameters, fields)?;
         }
         // PKTDROP
         129 if size >= PKTDROP_SIZE => walk_dropped(chunk, fields)?,
@@ -156,7 +159,8 @@ fn walk_sack<F: Fields>(chunk: &Item<'_>, fields: &mut F) -> Result<bool, fmt::E
     let blocks = numbers.gap_ack_block_count as usize;
     let blocks_captured = blocks.min(captured);
     let first = Number::at("\n  block ", "start", chunk, SackNumbers::SIZE, 2);
-    walk_blocks("blocks", blocks_captured, first, numbers.cumulative_tsn_ack.0, chunk, fields)?;
+    let tsn = numbers.cumulative_tsn_ack.0;
+    walk_blocks("blocks", blocks_captured, first, tsn, chunk, fields)?;
     let first_duplicate = Number::at(
         "\n  duplicate tsn ",
         "tsn",
@@ -196,7 +200,8 @@ fn walk_nr_sack<F: Fields>(chunk: &Item<'_>, fields: &mut F) -> Result<bool, fmt
     let captured = captured.saturating_sub(blocks);
     let place = NR_SACK_SIZE + SACK_ENTRY_SIZE * blocks;
     let first = Number::at("\n  nr block ", "start", chunk, place, 2);
-    walk_blocks("nr_blocks", nr_blocks.min(captured), first, tsn, chunk, fields)?;
+    let count = nr_blocks.min(captured);
+    walk_blocks("nr_blocks", count, first, tsn, chunk, fields)?;
     let captured = captured.saturating_sub(nr_blocks);
     let place = place + SACK_ENTRY_SIZE * nr_blocks;
     let first = Number::at("\n  duplicate tsn ", "tsn", chunk, place, 4);

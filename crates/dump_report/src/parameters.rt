@@ -2,7 +2,7 @@
 
 use crate::causes::Causes;
 use crate::fields::{Fields, Form, Number, walk_named, walk_numbers};
-use crate::lists::{Listed, is_list, walk_list};
+use crate::lists::{Listed, is_list, list_after, walk_list};
 use dcsctp_borrowed::part::Item;
 use dcsctp_borrowed::re_config_ref::ReConfigRef;
 use dcsctp_wire::packet::add_streams_request::AddStreamsNumbers;
@@ -32,9 +32,12 @@ impl Listed for Parameters {
         let value = parameter.value;
         match parameter.code() {
             0x0008 if is_list(value) => walk_list::<InnerParameters, F>(value, fields)?,
-            0xc003 if value.size >= CORRELATION_ID_SIZE && is_list(value.after(CORRELATION_ID_SIZE)) => {
+            0xc003 => {
+                let Some(causes) = list_after(value, CORRELATION_ID_SIZE) else {
+                    return Ok(false);
+                };
                 walk_correlation_id(parameter, fields)?;
-                walk_list::<Causes, F>(value.after(CORRELATION_ID_SIZE), fields)?;
+                walk_list::<Causes, F>(causes, fields)?;
             }
             _ => return InnerParameters::walk_meaning(parameter, fields),
         }
@@ -54,11 +57,12 @@ impl Listed for InnerParameters {
         let value = parameter.value;
         match parameter.code() {
             0x0008 if is_list(value) => walk_list::<InnermostParameters, F>(value, fields)?,
-            0xc001 | 0xc002 | 0xc004
-                if value.size >= CORRELATION_ID_SIZE && is_list(value.after(CORRELATION_ID_SIZE)) =>
-            {
+            0xc001 | 0xc002 | 0xc004 => {
+                let Some(address) = list_after(value, CORRELATION_ID_SIZE) else {
+                    return Ok(false);
+                };
                 walk_correlation_id(parameter, fields)?;
-                walk_list::<InnermostParameters, F>(value.after(CORRELATION_ID_SIZE), fields)?;
+                walk_list::<InnermostParameters, F>(address, fields)?;
             }
             _ => return walk_meaning(parameter, fields),
         }
