@@ -59,7 +59,6 @@ fn parameters_in(cause: RegisteredCause) -> Option<(bool, RawItems)> {
         | RegisteredCause::DeleteLastRemainingIpAddress(parameters)
         | RegisteredCause::OperationRefused(parameters)
         | RegisteredCause::DeleteSourceIpAddress(parameters)
-        | RegisteredCause::IllegalAsconfAck(parameters)
         | RegisteredCause::RequestRefused(parameters) => Some((false, parameters)),
         _ => None,
     }
@@ -103,22 +102,22 @@ fn write_chunk<'a>(
         }
         Some(
             RegisteredChunk::AsconfAck {
-                serial_number,
+                sequence_number,
                 parameters,
             },
         ) => {
-            write!(out, "AsconfAck {serial_number}")?;
+            write!(out, "AsconfAck {sequence_number}")?;
             Ok(Some((false, parameters)))
         }
         Some(
             RegisteredChunk::Asconf {
-                serial_number,
+                sequence_number,
                 address,
                 parameters,
             },
         ) => {
             let ip = address.ip();
-            write!(out, "Asconf {serial_number} {ip}")?;
+            write!(out, "Asconf {sequence_number} {ip}")?;
             Ok(Some((false, parameters)))
         }
         Some(chunk) => {
