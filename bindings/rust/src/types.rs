@@ -148,7 +148,8 @@ named! {
     NR_SACK = 16, "NR-SACK";
     /// User data of messages that can be interleaved (RFC 8260 section 2.1).
     I_DATA = 64, "I-DATA";
-    /// Answers ASCONF (RFC 5061 section 4.1.2). Its value is bytes here: serial u32, parameters.
+    /// Answers ASCONF (RFC 5061 section 4.1.2). Its value is bytes here: sequence number u32,
+    /// parameters.
     ASCONF_ACK = 128, "ASCONF ACK";
     /// Reports a packet that was dropped (draft-stewart-sctp-pktdrprep). Its value is bytes here:
     /// bandwidth u32, queued u32, size u16, u16, a packet.
@@ -160,7 +161,7 @@ named! {
     /// Says which user data isn't sent again (RFC 3758 section 3.2).
     FORWARD_TSN = 192, "FORWARD-TSN";
     /// Changes the addresses of its sender (RFC 5061 section 4.1.1). Its value is bytes here:
-    /// serial u32, an address, parameters.
+    /// sequence number u32, an address, parameters.
     ASCONF = 193, "ASCONF";
     /// Says which messages of I-DATA aren't sent again (RFC 8260 section 2.3.1).
     I_FORWARD_TSN = 194, "I-FORWARD-TSN";
@@ -301,8 +302,7 @@ named! {
     /// The request would delete the address that it came from (RFC 5061 section 4.3.3). Its value
     /// is bytes here: parameters.
     DELETE_SOURCE_IP_ADDRESS = 0xA2, "Request to Delete Source IP Address";
-    /// An ASCONF ACK came that answers nothing (RFC 5061 section 4.3.4). Its value is bytes here:
-    /// parameters.
+    /// An ASCONF ACK came that answers nothing (RFC 5061 section 4.3.4).
     ILLEGAL_ASCONF_ACK = 0xA3, "Association Aborted due to illegal ASCONF-ACK";
     /// The sender may not ask for it (RFC 5061 section 4.3.5). Its value is bytes here: parameters.
     REQUEST_REFUSED = 0xA4, "Request refused - no authorization";

@@ -18,7 +18,7 @@ pub data Tree : Type 0 where
   DeleteLastRemainingIpAddress : List ℕ → Tree
   OperationRefused : List ℕ → Tree
   DeleteSourceIpAddress : List ℕ → Tree
-  IllegalAsconfAck : List ℕ → Tree
+  IllegalAsconfAck : Tree
   RequestRefused : List ℕ → Tree
   UnsupportedHmacIdentifier : ℕ → Tree
 
@@ -33,7 +33,7 @@ view (variant.RestartWithNewAddresses parameters) = RestartWithNewAddresses para
 view (variant.DeleteLastRemainingIpAddress parameters) = DeleteLastRemainingIpAddress parameters
 view (variant.OperationRefused parameters) = OperationRefused parameters
 view (variant.DeleteSourceIpAddress parameters) = DeleteSourceIpAddress parameters
-view (variant.IllegalAsconfAck parameters) = IllegalAsconfAck parameters
+view variant.IllegalAsconfAck = IllegalAsconfAck
 view (variant.RequestRefused parameters) = RequestRefused parameters
 view (variant.UnsupportedHmacIdentifier id) = UnsupportedHmacIdentifier id
 
@@ -51,7 +51,7 @@ read code value =
     if code == 0xa0 then option_map DeleteLastRemainingIpAddress (items value) else
     if code == 0xa1 then option_map OperationRefused (items value) else
     if code == 0xa2 then option_map DeleteSourceIpAddress (items value) else
-    if code == 0xa3 then option_map IllegalAsconfAck (items value) else
+    if code == 0xa3 then empty_of IllegalAsconfAck value else
     if code == 0xa4 then option_map RequestRefused (items value) else
     if code == 0x105 then option_map UnsupportedHmacIdentifier (short_number_of 2 value) else
     None

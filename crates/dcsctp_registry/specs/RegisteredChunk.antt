@@ -1,5 +1,5 @@
 -- Chunks that IANA's registry of SCTP or a draft has and `Chunk` doesn't name, read in their bytes:
--- ECNE and CWR (RFC 9260 appendix A), AUTH (RFC 4895 section 4.1), ASCONF and ASCONF ACK (RFC 5061
+-- ECNE and CWR (RFC 4960 appendix A), AUTH (RFC 4895 section 5.1), ASCONF and ASCONF ACK (RFC 5061
 -- section 4.1), PAD (RFC 4820 section 3), NR-SACK (draft-tuexen-tsvwg-sctp-multipath), PKTDROP
 -- (draft-stewart-sctp-pktdrprep).
 use Rattle.std.specs.Prelude.{◌==◌, ◌+◌, ◌*◌, ℕ, nat_le, List, if◌then◌else◌, Option, Some, None, option_map, length, drop}
@@ -32,9 +32,9 @@ pub record PktDropTree : Type 0 where
   pub size : ℕ
   pub packet : List ℕ
 
--- ASCONF: the serial number, an address parameter, and a list of parameters by its bytes
+-- ASCONF: the sequence number, an address parameter, and a list of parameters by its bytes
 pub record AsconfTree : Type 0 where
-  pub serial : ℕ
+  pub sequence : ℕ
   pub address : address.Tree
   pub parameters : List ℕ
 
@@ -61,7 +61,7 @@ view (variant.NrSack tsn a_rwnd blocks nr_blocks duplicates) = NrSack (record {
   nr_blocks = nr_blocks;
   duplicates = duplicates;
 })
-view (variant.AsconfAck serial parameters) = AsconfAck (serial, parameters)
+view (variant.AsconfAck sequence parameters) = AsconfAck (sequence, parameters)
 view (variant.PktDrop bandwidth queued size packet) = PktDrop (record {
   bandwidth = bandwidth;
   queued = queued;
@@ -69,8 +69,8 @@ view (variant.PktDrop bandwidth queued size packet) = PktDrop (record {
   packet = packet.now;
 })
 view (variant.Pad bytes) = Pad bytes.now
-view (variant.Asconf serial a parameters) =
-    Asconf (record { serial = serial; address = address.view a; parameters = parameters })
+view (variant.Asconf sequence a parameters) =
+    Asconf (record { sequence = sequence; address = address.view a; parameters = parameters })
 
 abbrev pub auth_of : List ℕ → Option AuthTree
 auth_of value =
@@ -111,14 +111,14 @@ pkt_drop_of value =
 
 -- what is known of ASCONF once its address is
 abbrev pub asconf_with : ℕ → Option address.Tree → Option (List ℕ) → Option AsconfTree
-asconf_with serial (Some a) (Some parameters) =
-    Some (record { serial = serial; address = a; parameters = parameters })
-asconf_with serial (Some a) None = None
-asconf_with serial None parameters = None
+asconf_with sequence (Some a) (Some parameters) =
+    Some (record { sequence = sequence; address = a; parameters = parameters })
+asconf_with sequence (Some a) None = None
+asconf_with sequence None parameters = None
 
 abbrev pub asconf_at : ℕ → Option Front → Option AsconfTree
-asconf_at serial (Some f) = asconf_with serial (address.read f.typ f.value) (items f.rest)
-asconf_at serial None = None
+asconf_at sequence (Some f) = asconf_with sequence (address.read f.typ f.value) (items f.rest)
+asconf_at sequence None = None
 
 abbrev pub asconf_of : List ℕ → Option AsconfTree
 asconf_of value =

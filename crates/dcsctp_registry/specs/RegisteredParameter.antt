@@ -1,6 +1,6 @@
--- Parameters that IANA's registry of SCTP has and `Parameter` doesn't name, read in their bytes (RFC
--- 9260 sections 3.3.2.1, 3.3.3.1 and appendix A; RFC 4820 section 4; RFC 4895 section 3; RFC 5061
--- section 4.2).
+-- Parameters that IANA's registry of SCTP has and `Parameter` doesn't name, read in their bytes
+-- (RFC 9260 sections 3.3.2.1 and 3.3.3.1.2; RFC 4820 section 4; RFC 4895 section 3; RFC 4960
+-- appendix A; RFC 5061 section 4.2).
 use Rattle.std.specs.Prelude.{◌==◌, ◌||◌, ℕ, List, if◌then◌else◌, Option, Some, None, option_map}
 use Rattle.dcsctp_tlv.specs.Parameter.{ParameterTree, Unknown}
 use Rattle.dcsctp_registry.specs.Address as address

@@ -25,8 +25,9 @@ pub enum Address {
 }
 
 impl Address {
-    /// Reads IPv4 Address or IPv6 Address (RFC 9260 sections 3.3.2.1.1 and 3.3.2.1.2). `None` if and
-    /// only if the parameter has another type, or a value of other than 4 bytes, or 16.
+    /// Reads IPv4 Address or IPv6 Address (RFC 9260 sections 3.3.2.1.1 and 3.3.2.1.2). `None` if
+    /// and only if the parameter has another type, or a value of another size than its type's: 4
+    /// bytes, or 16.
     pub fn from_raw(raw: &RawParameter<'_>) -> Option<Address>
         ensures { option_map view result ≡ read raw.now.typ raw.now.value.now }
     {

@@ -2,10 +2,10 @@
 //!
 //! An owned packet keeps these chunks, parameters and error causes as bytes, of a type that isn't
 //! named. They are read here where they lie, without memory: addresses (RFC 9260 section 3.3.2.1),
-//! what a peer didn't recognize (sections 3.3.3.1 and 3.3.10), congestion (appendix A), what
-//! authenticates chunks (RFC 4895), changes addresses (RFC 5061) or makes packets longer (RFC 4820),
-//! NR-SACK and PKTDROP. A list of items is checked one level deep: what is in an item, its own
-//! reader reads.
+//! what a peer didn't recognize (sections 3.3.3.1.2 and 3.3.10), congestion (RFC 4960 appendix A,
+//! whose numbers RFC 9260 reserves), what authenticates chunks (RFC 4895), changes addresses (RFC
+//! 5061) or makes packets longer (RFC 4820), NR-SACK and PKTDROP. A list of items is checked one
+//! level deep: what is in an item, its own reader reads.
 #![tactic(auto)]
 
 pub mod address;

@@ -48,16 +48,19 @@ pub const REQUEST_REFUSED: u16 = 0x00a4;
 pub const UNSUPPORTED_HMAC_IDENTIFIER: u16 = 0x0105;
 
 /// An error cause that IANA's registry has and `ErrorCause` doesn't name, whose bytes stay where
-/// they lie in the packet.
+/// they lie in the packet. A list may be empty, or have several parameters, also where the RFC has
+/// one.
 #[derive(Clone, Debug, Drop)]
 pub enum RegisteredCause<'a> {
     /// Invalid Stream Identifier (RFC 9260 section 3.3.10.1), code 1: the stream's.
     InvalidStreamIdentifier(u16),
-    /// Stale Cookie (RFC 9260 section 3.3.10.3), code 3: microseconds since the cookie expired.
+    /// Stale Cookie (RFC 9260 section 3.3.10.3), code 3: microseconds since the cookie expired; 0,
+    /// where the sender doesn't say.
     StaleCookie(u32),
     /// Out of Resource (RFC 9260 section 3.3.10.4), code 4.
     OutOfResource,
-    /// Unresolvable Address (RFC 9260 section 3.3.10.5), code 5: the address parameter.
+    /// Unresolvable Address (RFC 9260 section 3.3.10.5), code 5: the parameter of the address or of
+    /// the host name.
     UnresolvableAddress(RawItems<'a>),
     /// Invalid Mandatory Parameter (RFC 9260 section 3.3.10.7), code 7.
     InvalidMandatoryParameter,
@@ -66,15 +69,15 @@ pub enum RegisteredCause<'a> {
     /// Restart of an Association with New Addresses (RFC 9260 section 3.3.10.11), code 11: the
     /// address parameters.
     RestartWithNewAddresses(RawItems<'a>),
-    /// Request to Delete Last Remaining IP Address (RFC 5061 section 4.3.1), code 0xa0: the request.
+    /// Request to Delete Last Remaining IP Address (RFC 5061 section 4.3.1), code 0xa0: the
+    /// request.
     DeleteLastRemainingIpAddress(RawItems<'a>),
     /// Operation Refused Due to Resource Shortage (RFC 5061 section 4.3.2), code 0xa1: the request.
     OperationRefused(RawItems<'a>),
     /// Request to Delete Source IP Address (RFC 5061 section 4.3.3), code 0xa2: the request.
     DeleteSourceIpAddress(RawItems<'a>),
-    /// Association Aborted due to illegal ASCONF-ACK (RFC 5061 section 4.3.4), code 0xa3: what was
-    /// copied, if anything was.
-    IllegalAsconfAck(RawItems<'a>),
+    /// Association Aborted due to illegal ASCONF-ACK (RFC 5061 section 4.3.4), code 0xa3.
+    IllegalAsconfAck,
     /// Request refused - no authorization (RFC 5061 section 4.3.5), code 0xa4: the request.
     RequestRefused(RawItems<'a>),
     /// Unsupported HMAC Identifier (RFC 4895 section 4.1), code 0x105: the HMAC's.
@@ -83,8 +86,8 @@ pub enum RegisteredCause<'a> {
 
 impl<'a> RegisteredCause<'a> {
     /// Reads the cause, without a copy; reserved bytes are ignored. `None` if and only if it has
-    /// another code, or a value that its code doesn't allow: of another size, or with a list that is
-    /// broken.
+    /// another code, or a value that its code doesn't allow: of another size, or with a list that
+    /// is broken.
     ///
     /// Of a cause of a packet this is what the bytes mean that `SctpPacket::from_bytes` keeps, and
     /// `None` where it names the cause.
@@ -147,8 +150,10 @@ impl<'a> RegisteredCause<'a> {
                 Some(RegisteredCause::DeleteSourceIpAddress(parameters))
             }
             ILLEGAL_ASCONF_ACK => {
-                let parameters = RawItems::from_bytes(value)?;
-                Some(RegisteredCause::IllegalAsconfAck(parameters))
+                if !value.is_empty() {
+                    return None;
+                }
+                Some(RegisteredCause::IllegalAsconfAck)
             }
             REQUEST_REFUSED => {
                 let parameters = RawItems::from_bytes(value)?;

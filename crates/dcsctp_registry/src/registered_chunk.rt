@@ -49,15 +49,15 @@ const PKTDROP_SIZE: usize = 12;
 /// Bytes of ASCONF's value before the address.
 const ASCONF_SIZE: usize = 4;
 
-/// A chunk that IANA's registry or a draft has and `Chunk` doesn't name, whose bytes stay where they
-/// lie in the packet. Its flags are in the raw chunk.
+/// A chunk that IANA's registry or a draft has and `Chunk` doesn't name, whose bytes stay where
+/// they lie in the packet. Its flags are in the raw chunk.
 #[derive(Clone, Debug, Drop)]
 pub enum RegisteredChunk<'a> {
-    /// ECNE (RFC 9260 appendix A), type 12: the lowest TSN of a packet that was marked.
+    /// ECNE (RFC 4960 appendix A), type 12: the lowest TSN of a packet that was marked.
     Ecne(Tsn),
-    /// CWR (RFC 9260 appendix A), type 13: the lowest TSN of the ECNE that it answers.
+    /// CWR (RFC 4960 appendix A), type 13: the lowest TSN of the ECNE that it answers.
     Cwr(Tsn),
-    /// AUTH (RFC 4895 section 4.1), type 15.
+    /// AUTH (RFC 4895 section 5.1), type 15.
     Auth {
         /// Which of the shared keys was used.
         shared_key_id: u16,
@@ -82,7 +82,7 @@ pub enum RegisteredChunk<'a> {
     /// ASCONF ACK (RFC 5061 section 4.1.2), type 128.
     AsconfAck {
         /// Of the ASCONF that it answers.
-        serial_number: u32,
+        sequence_number: u32,
         /// The responses.
         parameters: RawItems<'a>,
     },
@@ -101,9 +101,10 @@ pub enum RegisteredChunk<'a> {
     Pad(&'a [u8]),
     /// ASCONF (RFC 5061 section 4.1.1), type 193.
     Asconf {
-        /// One more than in the last one.
-        serial_number: u32,
-        /// An address of the sender, by which its association is found.
+        /// One more than in the last ASCONF.
+        sequence_number: u32,
+        /// An address of the sender, by which its association can be found; all zeros, where
+        /// something else says which it is.
         address: Address,
         /// The requests.
         parameters: RawItems<'a>,
@@ -112,8 +113,8 @@ pub enum RegisteredChunk<'a> {
 
 impl<'a> RegisteredChunk<'a> {
     /// Reads the chunk, without a copy; reserved bytes are ignored. `None` if and only if it has
-    /// another type, or a value that its type doesn't allow: of another size, or with a list that is
-    /// broken.
+    /// another type, or a value that its type doesn't allow: of another size, or with a list that
+    /// is broken.
     ///
     /// Of a chunk of a packet this is what the bytes mean that `SctpPacket::from_bytes` keeps, and
     /// `None` where it names the chunk.
@@ -142,9 +143,9 @@ impl<'a> RegisteredChunk<'a> {
             AUTH => auth(value),
             NR_SACK => nr_sack(value),
             ASCONF_ACK => {
-                let (serial_number, parameters) = numbered_items(value)?;
+                let (sequence_number, parameters) = numbered_items(value)?;
                 Some(RegisteredChunk::AsconfAck {
-                    serial_number,
+                    sequence_number,
                     parameters,
                 })
             }
@@ -220,7 +221,7 @@ fn asconf(value: &[u8]) -> Option<RegisteredChunk>
     let address = Address::of_value(raw.typ, raw.value)?;
     let parameters = RawItems::from_bytes(rest)?;
     Some(RegisteredChunk::Asconf {
-        serial_number: read_u32_be(value),
+        sequence_number: read_u32_be(value),
         address,
         parameters,
     })

@@ -56,28 +56,30 @@ pub const SUCCESS_INDICATION: u16 = 0xc005;
 pub const ADAPTATION_LAYER_INDICATION: u16 = 0xc006;
 
 /// A parameter that IANA's registry has and `Parameter` doesn't name, whose bytes stay where they
-/// lie in the packet.
+/// lie in the packet. A list may be empty, or have several items, also where the RFC has one.
 #[derive(Clone, Debug, Drop)]
 pub enum RegisteredParameter<'a> {
     /// IPv4 Address or IPv6 Address (RFC 9260 sections 3.3.2.1.1 and 3.3.2.1.2), type 5 or 6.
     Address(Address),
-    /// Unrecognized Parameter (RFC 9260 section 3.3.3.1.2), type 8: the parameter that a peer didn't
-    /// recognize, or several.
+    /// Unrecognized Parameter (RFC 9260 section 3.3.3.1.2), type 8: the parameter of the INIT that
+    /// a peer didn't recognize, or several (RFC 4960).
     UnrecognizedParameter(RawItems<'a>),
-    /// Cookie Preservative (RFC 9260 section 3.3.2.1), type 9: milliseconds that the cookie is to
+    /// Cookie Preservative (RFC 9260 section 3.3.2.1.3), type 9: milliseconds that the cookie is to
     /// live longer.
     CookiePreservative(u32),
-    /// Host Name Address (RFC 9260 section 3.3.2.1), type 11: the name, with the zero that ends it.
+    /// Host Name Address (RFC 9260 section 3.3.2.1.4), type 11: the name; that a zero ends it isn't
+    /// checked.
     HostNameAddress(&'a [u8]),
-    /// Supported Address Types (RFC 9260 section 3.3.2.1), type 12: types of address parameters.
+    /// Supported Address Types (RFC 9260 section 3.3.2.1.5), type 12: types of address parameters.
     SupportedAddressTypes(Numbers<'a>),
-    /// ECN Capable (RFC 9260 appendix A), type 0x8000.
+    /// ECN Capable (RFC 4960 appendix A), type 0x8000.
     EcnCapable,
     /// Random (RFC 4895 section 3.1), type 0x8002: the random number.
     Random(&'a [u8]),
     /// Chunk List (RFC 4895 section 3.2), type 0x8003: types of chunks, a byte each.
     ChunkList(&'a [u8]),
-    /// Requested HMAC Algorithm (RFC 4895 section 3.3), type 0x8004: identifiers of HMACs.
+    /// Requested HMAC Algorithm (RFC 4895 section 3.3), type 0x8004: identifiers of HMACs, the one
+    /// that the sender prefers first.
     RequestedHmacAlgorithm(Numbers<'a>),
     /// Padding (RFC 4820 section 4), type 0x8005.
     Padding(&'a [u8]),

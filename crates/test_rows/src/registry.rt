@@ -1,6 +1,7 @@
 //! Chunks, parameters and error causes that have a name in IANA's registry alone, where they lie.
 
 use crate::bytes::{short_at, write_digits};
+use dcsctp_borrowed::numbers::Numbers;
 use dcsctp_registry::address::Address;
 use dcsctp_registry::raw_items::RawItems;
 use dcsctp_registry::registered_cause::RegisteredCause;
@@ -12,7 +13,7 @@ use dcsctp_wire::packet::sack_chunk::GapAckBlock;
 use dcsctp_wire::types::Tsn;
 use std::alloc::{AllocError, Global};
 
-/// Items in one another are opened so often.
+/// Of items in one another, how many are opened.
 const MOST: usize = 4;
 
 // ---- one item: each writes it, and returns the items in it, and whether these are error causes
@@ -32,36 +33,65 @@ fn write_address(raw: &RawParameter, out: &mut String) -> Result<(), AllocError>
     Ok(())
 }
 
+/// Writes the numbers of a kind after its name.
+fn write_numbers(
+    alloc: Global,
+    name: &str,
+    numbers: &Numbers,
+    out: &mut String,
+) -> Result<(), AllocError> {
+    let mut list = Vec::new(alloc);
+    for i in 0..numbers.count() {
+        list.push(numbers.number(i))?;
+    }
+    write!(out, "{name}({list:?})")
+}
+
 fn write_parameter<'a>(
     alloc: Global,
     raw: &RawParameter<'a>,
     out: &mut String,
 ) -> Result<Option<(bool, RawItems<'a>)>, AllocError> {
-    let Some(parameter) = RegisteredParameter::from_raw(raw) else {
-        write_bytes(alloc, raw.typ, raw.value, out)?;
-        return Ok(None);
-    };
-    write!(out, "{parameter:?}")?;
-    write_address(raw, out)?;
-    match parameter {
-        RegisteredParameter::UnrecognizedParameter(parameters) => Ok(Some((false, parameters))),
-        RegisteredParameter::ErrorCauseIndication { causes, .. } => Ok(Some((true, causes))),
-        _ => Ok(None),
+    match RegisteredParameter::from_raw(raw) {
+        None => write_bytes(alloc, raw.typ, raw.value, out)?,
+        Some(RegisteredParameter::UnrecognizedParameter(parameters)) => {
+            out.push_str("UnrecognizedParameter")?;
+            return Ok(Some((false, parameters)));
+        }
+        Some(
+            RegisteredParameter::ErrorCauseIndication {
+                correlation_id: id,
+                causes,
+            },
+        ) => {
+            write!(out, "ErrorCauseIndication {{ correlation_id: {id} }}")?;
+            return Ok(Some((true, causes)));
+        }
+        Some(RegisteredParameter::SupportedAddressTypes(types)) => {
+            write_numbers(alloc, "SupportedAddressTypes", &types, out)?
+        }
+        Some(RegisteredParameter::RequestedHmacAlgorithm(ids)) => {
+            write_numbers(alloc, "RequestedHmacAlgorithm", &ids, out)?
+        }
+        Some(parameter) => {
+            write!(out, "{parameter:?}")?;
+            write_address(raw, out)?;
+        }
     }
+    Ok(None)
 }
 
-/// Returns the parameters in a cause.
-fn parameters_in(cause: RegisteredCause) -> Option<(bool, RawItems)> {
+/// Returns the parameters in a cause after the name of its kind; or the cause, if it has no list.
+fn parameters_in(cause: RegisteredCause) -> Result<(&'static str, RawItems), RegisteredCause> {
     match cause {
-        RegisteredCause::UnresolvableAddress(parameters)
-        | RegisteredCause::UnrecognizedParameters(parameters)
-        | RegisteredCause::RestartWithNewAddresses(parameters)
-        | RegisteredCause::DeleteLastRemainingIpAddress(parameters)
-        | RegisteredCause::OperationRefused(parameters)
-        | RegisteredCause::DeleteSourceIpAddress(parameters)
-        | RegisteredCause::IllegalAsconfAck(parameters)
-        | RegisteredCause::RequestRefused(parameters) => Some((false, parameters)),
-        _ => None,
+        RegisteredCause::UnresolvableAddress(p) => Ok(("UnresolvableAddress", p)),
+        RegisteredCause::UnrecognizedParameters(p) => Ok(("UnrecognizedParameters", p)),
+        RegisteredCause::RestartWithNewAddresses(p) => Ok(("RestartWithNewAddresses", p)),
+        RegisteredCause::DeleteLastRemainingIpAddress(p) => Ok(("DeleteLastRemainingIpAddress", p)),
+        RegisteredCause::OperationRefused(p) => Ok(("OperationRefused", p)),
+        RegisteredCause::DeleteSourceIpAddress(p) => Ok(("DeleteSourceIpAddress", p)),
+        RegisteredCause::RequestRefused(p) => Ok(("RequestRefused", p)),
+        cause => Err(cause),
     }
 }
 
@@ -74,8 +104,16 @@ fn write_cause<'a>(
         write_bytes(alloc, raw.typ, raw.value, out)?;
         return Ok(None);
     };
-    write!(out, "{cause:?}")?;
-    Ok(parameters_in(cause))
+    match parameters_in(cause) {
+        Ok((name, parameters)) => {
+            out.push_str(name)?;
+            Ok(Some((false, parameters)))
+        }
+        Err(cause) => {
+            write!(out, "{cause:?}")?;
+            Ok(None)
+        }
+    }
 }
 
 fn write_item<'a>(
@@ -97,108 +135,74 @@ fn write_chunk<'a>(
     out: &mut String,
 ) -> Result<Option<(bool, RawItems<'a>)>, AllocError> {
     match RegisteredChunk::from_raw(raw) {
-        None => {
-            write_bytes(alloc, raw.typ as u16, raw.value, out)?;
-            Ok(None)
-        }
+        None => write_bytes(alloc, raw.typ as u16, raw.value, out)?,
         Some(
             RegisteredChunk::AsconfAck {
-                serial_number,
+                sequence_number: number,
                 parameters,
             },
         ) => {
-            write!(out, "AsconfAck {serial_number}")?;
-            Ok(Some((false, parameters)))
+            write!(out, "AsconfAck {{ sequence_number: {number} }}")?;
+            return Ok(Some((false, parameters)));
         }
         Some(
             RegisteredChunk::Asconf {
-                serial_number,
+                sequence_number: number,
                 address,
                 parameters,
             },
         ) => {
             let ip = address.ip();
-            write!(out, "Asconf {serial_number} {ip}")?;
-            Ok(Some((false, parameters)))
+            write!(out, "Asconf {{ sequence_number: {number}, address: {ip} }}")?;
+            return Ok(Some((false, parameters)));
         }
-        Some(chunk) => {
-            write_plain_chunk(alloc, chunk, out)?;
-            Ok(None)
-        }
-    }
-}
-
-/// Writes a chunk that has no items in it.
-fn write_plain_chunk(
-    alloc: Global,
-    chunk: RegisteredChunk,
-    out: &mut String,
-) -> Result<(), AllocError> {
-    match chunk {
-        RegisteredChunk::NrSack {
-            cumulative_tsn_ack,
-            a_rwnd,
-            gap_ack_blocks,
-            nr_gap_ack_blocks,
-            duplicate_tsns,
-        } => {
-            write!(out, "NrSack {cumulative_tsn_ack} {a_rwnd}")?;
+        Some(
+            RegisteredChunk::NrSack {
+                cumulative_tsn_ack: tsn,
+                a_rwnd: room,
+                gap_ack_blocks,
+                nr_gap_ack_blocks,
+                duplicate_tsns,
+            },
+        ) => {
             let blocks: Vec<GapAckBlock> = gap_ack_blocks.collect(alloc)?;
             let nr_blocks: Vec<GapAckBlock> = nr_gap_ack_blocks.collect(alloc)?;
             let duplicates: Vec<Tsn> = duplicate_tsns.collect(alloc)?;
-            write!(out, " {blocks:?} {nr_blocks:?} {duplicates:?}")
+            write!(out, "NrSack {{ cumulative_tsn_ack: {tsn}, a_rwnd: {room}, ")?;
+            write!(out, "gap_ack_blocks: {blocks:?}, nr_gap_ack_blocks: ")?;
+            write!(out, "{nr_blocks:?}, duplicate_tsns: {duplicates:?} }}")?;
         }
-        chunk => write!(out, "{chunk:?}"),
+        Some(chunk) => write!(out, "{chunk:?}")?,
     }
+    Ok(None)
 }
 
-// ---- the items in it, the items in these, and so on; each with its depth
+// ---- the items in it, the items in these, and so on
 
-fn write_fourth(alloc: Global, items: RawItems, out: &mut String) -> Result<(), AllocError> {
-    for raw in items {
-        out.push_str("; 4 ")?;
-        write_bytes(alloc, raw.typ, raw.value, out)?;
-    }
-    Ok(())
-}
-
-fn write_third(
-    alloc: Global,
-    (is_cause, items): (bool, RawItems),
-    out: &mut String,
-) -> Result<(), AllocError> {
-    for raw in items {
-        out.push_str("; 3 ")?;
-        if let Some((_, inner)) = write_item(alloc, is_cause, &raw, out)? {
-            write_fourth(alloc, inner, out)?;
-        }
-    }
-    Ok(())
-}
-
-fn write_second(
-    alloc: Global,
-    (is_cause, items): (bool, RawItems),
-    out: &mut String,
-) -> Result<(), AllocError> {
-    for raw in items {
-        out.push_str("; 2 ")?;
-        if let Some(inner) = write_item(alloc, is_cause, &raw, out)? {
-            write_third(alloc, inner, out)?;
-        }
-    }
-    Ok(())
-}
-
+/// Writes the items of a list in these bytes, the items in these, and so on, each after how deep it
+/// is. A step writes an item or ends a list, so there are fewer steps than bytes.
 fn write_inner(
     alloc: Global,
-    (is_cause, items): (bool, RawItems),
+    bytes: &[u8],
+    list: Option<(bool, RawItems)>,
     out: &mut String,
 ) -> Result<(), AllocError> {
-    for raw in items {
-        out.push_str("; 1 ")?;
-        if let Some(inner) = write_item(alloc, is_cause, &raw, out)? {
-            write_second(alloc, inner, out)?;
+    let mut lists = Vec::new(alloc);
+    if let Some(list) = list {
+        lists.push(list)?;
+    }
+    for _ in 0..bytes.len() {
+        if let Some((is_cause, mut items)) = lists.pop() {
+            if let Some(raw) = items.next() {
+                lists.push((is_cause, items))?;
+                let depth = lists.len();
+                write!(out, "; {depth} ")?;
+                if depth == MOST {
+                    write_bytes(alloc, raw.typ, raw.value, out)?;
+                } else if let Some(inner) = write_item(alloc, is_cause, &raw, out)? {
+                    lists.push(inner)?;
+                }
+            }
         }
     }
     Ok(())
@@ -214,10 +218,8 @@ fn write_item_row(
     let Ok((raw, _)) = RawParameter::from_bytes(bytes) else {
         return out.push_str("no item");
     };
-    match write_item(alloc, is_cause, &raw, out)? {
-        Some(inner) => write_inner(alloc, inner, out),
-        None => Ok(()),
-    }
+    let inner = write_item(alloc, is_cause, &raw, out)?;
+    write_inner(alloc, bytes, inner, out)
 }
 
 /// Writes the chunk at the front, and what is in it.
@@ -225,15 +227,13 @@ fn write_chunk_row(alloc: Global, bytes: &[u8], out: &mut String) -> Result<(), 
     let Ok((raw, _)) = RawChunk::from_bytes(bytes) else {
         return out.push_str("no chunk");
     };
-    match write_chunk(alloc, &raw, out)? {
-        Some(inner) => write_inner(alloc, inner, out),
-        None => Ok(()),
-    }
+    let inner = write_chunk(alloc, &raw, out)?;
+    write_inner(alloc, bytes, inner, out)
 }
 
 // ---- hostile nesting
 
-/// Adds so many Unrecognized Parameters, each in the one before.
+/// Adds this number of Unrecognized Parameters, each in the one before.
 fn add_nested(count: u16, bytes: &mut Vec<u8>) -> Result<(), AllocError> {
     for i in 0..count {
         let [high, low] = (count - i).saturating_mul(4).to_be_bytes();
