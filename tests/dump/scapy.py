@@ -44,7 +44,7 @@ except ImportError:
     print("scapy.py: this Python hasn't scapy: apt-get install python3-scapy, for /usr/bin/python3", file=sys.stderr)
     sys.exit(2)
 
-# RFC 9260 section 3.2 and appendix A, RFC 8260 sections 2.1 and 2.3.1, RFC 6525 section 3.1, RFC 3758 section 3.2.
+# RFC 9260 section 3.2, RFC 4960 appendix A, RFC 8260 sections 2.1 and 2.3.1, RFC 6525 section 3.1, RFC 3758 section 3.2.
 CHUNKS = {0: 'DATA', 1: 'INIT', 2: 'INIT ACK', 3: 'SACK', 4: 'HEARTBEAT', 5: 'HEARTBEAT ACK', 6: 'ABORT', 7: 'SHUTDOWN',
           8: 'SHUTDOWN ACK', 9: 'ERROR', 10: 'COOKIE ECHO', 11: 'COOKIE ACK', 12: 'ECNE', 13: 'CWR', 14: 'SHUTDOWN COMPLETE',
           15: 'AUTH', 64: 'I-DATA', 128: 'ASCONF ACK', 130: 'RE-CONFIG', 192: 'FORWARD-TSN', 193: 'ASCONF', 194: 'I-FORWARD-TSN'}
@@ -301,7 +301,7 @@ class Expected:
             yield line('{chunk}: new cumulative tsn {tsn}', name, *struct.unpack('>I', value[:4]))
             for stream, low, mid in struct.iter_unpack('>HHI', value[4:]):
                 yield line('  stream {stream}{order}, mid {mid}', stream, bits(low & 1, 0, 0, 0)[0], mid)
-        elif typ in (12, 13):  # RFC 9260 appendix A
+        elif typ in (12, 13):  # RFC 4960 appendix A
             yield self.layout(name)('{chunk}: lowest tsn {tsn}', name, *struct.unpack('>I', value))
         elif typ == 130:  # RFC 6525 section 3.1
             yield self.layout('RE-CONFIG')('{chunk}', name)
