@@ -11,3 +11,12 @@ pub mod ListPlaces
 pub mod CheckedRows
 pub mod FrameItems
 pub mod PacketItems
+pub mod Rewritten
+pub mod CausesAgain
+pub mod ParametersAgain
+pub mod Texts
+pub mod PutsAgain
+pub mod PlainAgain
+pub mod ItemsAgain
+pub mod ChunksAgain
+pub mod CanonicalAgain

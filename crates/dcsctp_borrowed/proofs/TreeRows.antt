@@ -1,6 +1,6 @@
--- What holds of each tree that a chunk, a parameter or an error cause can mean. Of the kinds without
--- a list it is said all at once: where computing shows it of each, `assumption` does, however many
--- there are.
+-- What holds of each tree that a chunk, a parameter or an error cause can mean. Of the kinds
+-- without a list it is said all at once: where computing shows it of each, `assumption` does,
+-- however many there are.
 use Rattle.std.proofs.Common.{◌≡◌, ℕ, List, [], ◌∷◌, ◌++◌, Result, Ok, sym, subst}
 use Rattle.dcsctp_tlv.{specs.Fault.{Fault}, specs.Frame.{lenient}, specs.Level.{Row, as_row, map_ok}, specs.Table.{Named, IsUnnamed}, specs.Typed.{typed_row}, specs.UnknownParameter.{Tree as UnnamedTree, read as unnamed_at}, proofs.KindLaws.{of_map_ok}, proofs.Tables.{EachNamed, of_table}, specs.Kinds.{Kind, TreesOf, own_row, rows}, proofs.Satisfies.{down}}
 use Rattle.dcsctp_chunk.specs.{PlainKinds.{plain_kinds}, Unknown.{Tree as UnknownTree, read as unknown_at}}
@@ -47,18 +47,40 @@ module _ {T : Type 0} (Holds : ℕ → List ℕ → T → Type 0) where
       → OfRow Holds typ (as_row tree row)
   of_listed typ tree row h value t m = subst (Holds typ value) (sym m.2) (h value m.0 m.1)
 
-  -- of the kinds of parameters or of error causes, and of all other types
+  -- of the kinds of parameters or of error causes, and of all other types, as they are read
+  pub of_typed_as : (typ : ℕ) (ks : List Kind) (trees : TreesOf ks T) (unnamed : UnnamedTree → T)
+      → OfPlain Holds 0 ks trees
+      → (IsUnnamed (rows lenient 0 ks trees) typ → (value : List ℕ) (u : UnnamedTree)
+      → unnamed_at typ value ≡ Ok u → Holds typ value (unnamed u))
+      → OfRow Holds typ (typed_row (rows lenient 0 ks trees) unnamed typ)
+  of_typed_as typ ks trees unnamed plains others =
+      of_table (OfRow Holds) (rows lenient 0 ks trees) typ _ (of_plain 0 ks trees plains)
+      (λ isnt value. of_read typ value unnamed (unnamed_at typ value) (others isnt value))
+
+  -- the same, where nothing is said of how other types are read
   pub of_typed : (typ : ℕ) (ks : List Kind) (trees : TreesOf ks T) (unnamed : UnnamedTree → T)
       → OfPlain Holds 0 ks trees
       → (IsUnnamed (rows lenient 0 ks trees) typ → (value : List ℕ) (u : UnnamedTree)
       → Holds typ value (unnamed u))
       → OfRow Holds typ (typed_row (rows lenient 0 ks trees) unnamed typ)
   of_typed typ ks trees unnamed plains others =
-      of_table (OfRow Holds) (rows lenient 0 ks trees) typ _ (of_plain 0 ks trees plains)
-      (λ isnt value.
-      of_read typ value unnamed (unnamed_at typ value) (λ u e. others isnt value u))
+      of_typed_as typ ks trees unnamed plains (λ isnt value u e. others isnt value u)
 
--- of the kinds of chunks with a list, of those without, and of all other types
+-- of the kinds of chunks with a list, of those without, and of all other types, as they are read
+pub of_chunk_as : (Holds : ℕ → List ℕ → ChunkTree → Type 0) (typ flags : ℕ)
+    → EachNamed (OfRow Holds) (list_rows lenient flags)
+    → OfPlain Holds flags plain_kinds plain_trees
+    → (IsUnnamed (table lenient flags) typ → (value : List ℕ) (u : UnknownTree)
+    → unknown_at typ flags value ≡ Ok u → Holds typ value (Unknown u))
+    → OfRow Holds typ (chunk_row lenient typ flags)
+of_chunk_as Holds typ flags lists plains others =
+    of_table (OfRow Holds) (table lenient flags) typ _
+    (each_append (OfRow Holds) (list_rows lenient flags)
+    (plain_rows flags) lists (of_plain Holds flags plain_kinds plain_trees plains))
+    (λ unnamed value. of_read Holds typ value Unknown (unknown_at typ flags value)
+    (others unnamed value))
+
+-- the same, where nothing is said of how other types are read
 pub of_chunk : (Holds : ℕ → List ℕ → ChunkTree → Type 0) (typ flags : ℕ)
     → EachNamed (OfRow Holds) (list_rows lenient flags)
     → OfPlain Holds flags plain_kinds plain_trees
@@ -66,8 +88,4 @@ pub of_chunk : (Holds : ℕ → List ℕ → ChunkTree → Type 0) (typ flags : 
     → Holds typ value (Unknown u))
     → OfRow Holds typ (chunk_row lenient typ flags)
 of_chunk Holds typ flags lists plains others =
-    of_table (OfRow Holds) (table lenient flags) typ _
-    (each_append (OfRow Holds) (list_rows lenient flags)
-    (plain_rows flags) lists (of_plain Holds flags plain_kinds plain_trees plains))
-    (λ unnamed value.
-    of_read Holds typ value Unknown (unknown_at typ flags value) (λ u e. others unnamed value u))
+    of_chunk_as Holds typ flags lists plains (λ unnamed value u e. others unnamed value u)

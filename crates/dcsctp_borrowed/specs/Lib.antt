@@ -14,3 +14,4 @@ pub mod MissingParameters
 pub mod ChecksumField
 pub mod Grammar
 pub mod Part
+pub mod Rewritten

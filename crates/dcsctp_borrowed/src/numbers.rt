@@ -29,7 +29,7 @@ impl<'a> Model for Numbers<'a> {
 
 #[tactic(auto, using(crate::proofs::FieldLists::field_count))]
 impl<'a> Numbers<'a> {
-    /// Returns so many numbers at the front of the bytes, which have to be there.
+    /// Returns the first `count` numbers of the bytes, which have to be there.
     #[inline(always)]
     pub fn new(count: usize, bytes: &'a [u8]) -> Numbers<'a>
         requires { 2 * count ≤ length bytes.now }

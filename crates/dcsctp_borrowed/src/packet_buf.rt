@@ -36,8 +36,8 @@ impl PacketBuf {
     /// Checks a packet as `SctpPacketRef::from_bytes` does, and takes its bytes over. Does not
     /// allocate.
     ///
-    /// Returns the fault that `SctpPacketRef::from_bytes` returns, and drops the bytes then: to keep
-    /// them, call `SctpPacket::check` first.
+    /// Returns the fault that `SctpPacketRef::from_bytes` returns, and drops the bytes then: to
+    /// keep them, call `SctpPacket::check` first.
     pub fn of_vec(
         bytes: Vec<u8>,
         checksum: u32,

@@ -37,6 +37,16 @@ impl<'a> RawChunks<'a> {
         RawChunks { rest }
     }
 
+    /// Returns the bytes of these chunks.
+    #[inline(always)]
+    pub(crate) fn bytes(&self) -> &'a [u8]
+        ensures value { result.now ≡ self.now }
+        ensures fits { AreBytes result.now }
+        ensures known { MeansSome (chunks lenient) result.now }
+    {
+        self.rest
+    }
+
     /// Returns these chunks, each of a type that keeps what is known of it.
     #[inline(always)]
     pub fn checked(self) -> CheckedChunks<'a>

@@ -197,7 +197,7 @@ impl<'a> Model for GapAckBlocks<'a> {
 }
 
 impl<'a> GapAckBlocks<'a> {
-    /// Returns so many gap ack blocks at the front of the bytes, which have to be there.
+    /// Returns the first `count` gap ack blocks of the bytes, which have to be there.
     #[inline(always)]
     pub fn new(count: usize, rest: &'a [u8]) -> GapAckBlocks<'a>
         requires { 4 * count ≤ length rest.now }
@@ -243,7 +243,7 @@ impl<'a> Model for DuplicateTsns<'a> {
 }
 
 impl<'a> DuplicateTsns<'a> {
-    /// Returns so many duplicate TSNs at the front of the bytes, which have to be there.
+    /// Returns the first `count` duplicate TSNs of the bytes, which have to be there.
     #[inline(always)]
     pub fn new(count: usize, rest: &'a [u8]) -> DuplicateTsns<'a>
         requires { 4 * count ≤ length rest.now }
