@@ -22,16 +22,19 @@ use dcsctp_wire::packet::{
     init_chunk, protocol_violation_error_cause, re_config_chunk, sack_chunk, shutdown_ack_chunk,
     shutdown_chunk, shutdown_complete_chunk, user_initiated_abort_error_cause,
 };
+use thiserror::Error;
 
 /// The most bytes of a canonical packet, whose size is a multiple of 4.
 const MAX_CANONICAL_SIZE: usize = 65532;
 
 /// Why a canonical packet isn't written. Nothing was changed.
-#[derive(Clone, Copy, Debug, PartialEq, Eq)]
+#[derive(Clone, Copy, Debug, PartialEq, Eq, Error)]
 pub enum CanonicalError {
     /// It would have more than 65,532 bytes.
+    #[error("The canonical packet would be too long")]
     DoesNotFit,
     /// It has more bytes than the output.
+    #[error("The output has no room for the canonical packet")]
     NoRoom,
 }
 
