@@ -1,6 +1,7 @@
 //! Packets and chunks that are read where they lie, beside those that are built.
 
 use crate::packets::{packet_of, write_header};
+use dcsctp_borrowed::canonical::{canonical_size, write_canonical};
 use dcsctp_borrowed::checked_chunks::CheckedChunk;
 use dcsctp_borrowed::cookie_echo::cookie;
 use dcsctp_borrowed::forward_tsn_ref::ForwardTsnRef;
@@ -22,6 +23,19 @@ use dcsctp_wire::packet::{ChunkParseError, SkippedStream};
 use dcsctp_wire::types::Tsn;
 use std::alloc::{AllocError, Global};
 use std::fmt::Debug;
+
+/// Returns the canonical packet of the packet that the bytes are, as it is written where they lie,
+/// over bytes `ee`; nothing if it doesn't fit.
+pub fn canonical_in_place(alloc: Global, bytes: &[u8]) -> Result<Vec<u8>, AllocError> {
+    let Ok(packet) = SctpPacketRef::from_bytes(bytes, 0, &ChecksumPolicy::ANY_CHECKSUM) else {
+        return Ok(Vec::new(alloc));
+    };
+    let mut output = vec![in alloc; 0xee; canonical_size(&packet).unwrap_or(0)]?;
+    match write_canonical(&packet, &mut output) {
+        Ok(_) => Ok(output),
+        Err(_) => Ok(Vec::new(alloc)),
+    }
+}
 
 // ---- the parts of a chunk, where they lie: `fields` are the last ones of the chunk that is built
 // of it, and `more` is what that one doesn't print

@@ -2,7 +2,7 @@
 
 use crate::built::built_of;
 use crate::bytes::{from, word_at, write_change, write_digits};
-use crate::in_place::write_otherwise;
+use crate::in_place::{canonical_in_place, write_otherwise};
 use crate::values::{chunk_of, image_of, write_value};
 use dcsctp_wire::api::ZERO_CHECKSUM_ALTERNATE_ERROR_DETECTION_METHOD_LOWER_LAYER_DTLS as DTLS;
 use dcsctp_wire::packet::chunk::{Chunk, RawChunk};
@@ -251,6 +251,9 @@ fn write_packet_row(
     out.push_str(&answer)?;
     if !is_kept(alloc, &others, &answer)? {
         out.push_str("; the canonical packet is answered otherwise")?;
+    }
+    if written_over(alloc, &others)?.as_slice() != canonical_in_place(alloc, &others)?.as_slice() {
+        out.push_str("; the canonical packet is written otherwise in place")?;
     }
     if !is_one_by_one(alloc, other, &answer)? {
         out.push_str("; the chunks by themselves are answered otherwise")?;
