@@ -39,6 +39,8 @@ FRAGMENTS = [
      'pub fn kept(alloc: Global, bytes: &[u8], word: u32, next: &[u8], word_of_next: u32) -> Result<(Vec<u8>, Vec<u8>), PacketParseError> {\n'
      'let policy = ChecksumPolicy::default();',
      'Ok((types, bytes))\n}'),
+    ('let size = write_canonical(&packet, output)?;',
+     "pub fn normal(packet: SctpPacketRef<'_>, output: &mut [u8]) -> Result<usize, CanonicalError> {", 'Ok(canonical.len())\n}'),
     ('set_verification_tag(packet, tag);', 'pub fn retag(packet: &mut [u8], tag: u32) {', '}'),
     ('let mut parameters = Vec::new(alloc);', 'pub fn parameters(alloc: Global) -> Result<Vec<Parameter>, AllocError> {',
      'Ok(parameters)\n}'),
@@ -46,7 +48,8 @@ FRAGMENTS = [
      "pub fn sent(buffer: &mut [u8], data: BorrowedData<'_>, peer_tag: u32) -> anyhow::Result<()> {",
      'Ok(())\n}\n\nfn send(_packet: &[u8]) -> anyhow::Result<()> {\nOk(())\n}'),
 ]
-FRAGMENTS_USE = '''use dcsctp_borrowed::in_place::{set_checksum_word, set_verification_tag};
+FRAGMENTS_USE = '''use dcsctp_borrowed::canonical::{CanonicalError, write_canonical};
+use dcsctp_borrowed::in_place::{set_checksum_word, set_verification_tag};
 use dcsctp_borrowed::packet_buf::PacketBuf;
 use dcsctp_borrowed::packet_ref::SctpPacketRef;
 use dcsctp_borrowed::user_data::UserData;
