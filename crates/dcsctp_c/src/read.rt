@@ -1,10 +1,11 @@
 //! A packet in one call: checked, and a row written for each of its chunks.
 
-ghost use Rattle.std.specs.Prelude.{◌≡◌, ◌≢◌, ◌≤◌, ◌<◌, ◌+◌, ◌^◌, ℕ, List, Some, length, take, drop, slice_set};
+ghost use Rattle.std.specs.Prelude.{◌≡◌, ◌≢◌, ◌≤◌, ◌<◌, ◌+◌, ◌^◌, ℕ, List, Some, None, false, length, take, drop, slice_set};
 ghost use Rattle.dcsctp_tlv.specs.{Frame.{lenient}, Level.{MeansTrees, MeansSome}};
 ghost use Rattle.dcsctp_wire.specs.{Chunk.{ChunkTree, chunks}, Packet.{body}};
+ghost use Rattle.dcsctp_borrowed.specs.{Sack.{read_sack}, SkippedStreams.{read_forward}, UserData.{read_user_data}};
 ghost use Rattle.dcsctp_c.specs.declared.structs.DcsctpRow.{DcsctpRow};
-ghost use Rattle.dcsctp_c.specs.{Code.{policy_of}, Part.{value_at}, Row.{row_after, data_row, sack_row, init_row, forward_row, shutdown_row, IsRow, IsRowAt, AreRows, MeanChunks, IsReading}};
+ghost use Rattle.dcsctp_c.specs.{Code.{policy_of}, Part.{value_at, read_init, read_shutdown}, Row.{row_after, data_row, sack_row, init_row, forward_row, shutdown_row, IsRow, IsRowAt, AreRows, MeanChunks, IsReading}};
 
 use crate::codes::{OK, code_of};
 use crate::packet::checksum_policy;
@@ -20,9 +21,13 @@ use dcsctp_borrowed::forward_tsn_ref::ForwardTsnRef;
 use dcsctp_borrowed::sack_ref::SackRef;
 use dcsctp_chunk::sack_chunk::SackNumbers;
 use dcsctp_tlv::frame::frame_parts;
-use dcsctp_wire::packet::init_chunk::InitNumbers;
+use dcsctp_wire::packet::init_chunk::{self, InitNumbers};
 use dcsctp_wire::packet::raw_chunk::RawChunk;
 use dcsctp_wire::packet::sctp_packet::{COMMON_HEADER_SIZE, SctpPacket};
+use dcsctp_wire::packet::{
+    data_chunk, forward_tsn_chunk, idata_chunk, iforward_tsn_chunk, init_ack_chunk, sack_chunk,
+    shutdown_chunk,
+};
 
 /// Checks a packet, and writes its header, how many chunks it has, and a row for each chunk to the
 /// front of `rows`: as many as have room. Does not allocate.
@@ -118,6 +123,9 @@ fn put_row(rows: &mut [DcsctpRow], index: usize, chunk: &DcsctpChunk, value: &[u
         → (row : DcsctpRow) × (row.chunk ≡ chunk.now) × IsRow bytes chunk.now row
         × (rows.new ≡ slice_set rows.old index row) }
 {
+    if !has_numbers(chunk.typ) {
+        return put_item(rows, index, row_after(0, chunk));
+    }
     // each kind writes its own row: to join them first takes longer
     if let Some(found) = data_in(chunk, value) {
         return put_item(rows, index, data_row(chunk, &found));
@@ -139,6 +147,29 @@ fn put_row(rows: &mut [DcsctpRow], index: usize, chunk: &DcsctpChunk, value: &[u
     match shutdown_in(chunk.typ, value) {
         Some(tsn) => put_item(rows, index, shutdown_row(chunk, tsn)),
         None => put_item(rows, index, row_after(0, chunk)),
+    }
+}
+
+/// Returns whether a chunk of this type can have numbers in its row.
+#[inline(always)]
+fn has_numbers(typ: u8) -> bool
+    ensures data { result ≡ false → (flags : ℕ) (value : List ℕ)
+        → read_user_data typ flags value ≡ None }
+    ensures sack { result ≡ false → (value : List ℕ) → read_sack typ value ≡ None }
+    ensures init { result ≡ false → (value : List ℕ) → read_init typ value ≡ None }
+    ensures forward { result ≡ false → (value : List ℕ) → read_forward typ value ≡ None }
+    ensures shutdown { result ≡ false → (value : List ℕ) → read_shutdown typ value ≡ None }
+{
+    match typ {
+        data_chunk::CHUNK_TYPE
+        | init_chunk::CHUNK_TYPE
+        | init_ack_chunk::CHUNK_TYPE
+        | sack_chunk::CHUNK_TYPE
+        | shutdown_chunk::CHUNK_TYPE
+        | idata_chunk::CHUNK_TYPE
+        | forward_tsn_chunk::CHUNK_TYPE
+        | iforward_tsn_chunk::CHUNK_TYPE => true,
+        _ => false,
     }
 }
 

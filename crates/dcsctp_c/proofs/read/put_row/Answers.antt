@@ -1,5 +1,5 @@
 use Rattle.std.proofs.Common.{◌≡◌, ◌∙◌, ℕ, List, ap, sym, subst, refl, arith, set}
-use Rattle.dcsctp_c.{specs.Row.{IsRow}, specs.declared.structs.{DcsctpChunk.{DcsctpChunk}, DcsctpRow.{DcsctpRow}}, proofs.Rows.{of_data, of_sack, of_init, of_forward, of_shutdown, of_other}}
+use Rattle.dcsctp_c.{specs.Row.{IsRow}, specs.declared.structs.{DcsctpChunk.{DcsctpChunk}, DcsctpRow.{DcsctpRow}}, proofs.Rows.{of_plain, of_data, of_sack, of_init, of_forward, of_shutdown, of_other}}
 use Rattle.dcsctp_c.proofs.read.put_row.Goals as goal
 
 -- a row that is the kind's was written
@@ -14,6 +14,19 @@ puts bytes c index old new row kinds is chunk holds put = (
   put,
 )
 
+pub row_after-requires : goal.row_after-requires
+row_after-requires c = omega (arith, c.requires.size, c.requires.fits)
+
+pub returns-then-not-has_numbers : goal.returns-then-not-has_numbers
+returns-then-not-has_numbers c bytes there =
+    let chunk = c.args.chunk.now in
+    let value = c.args.value.now in
+    let none = c.has_numbers.ensures in
+    let no = c.if-not-has_numbers.true in
+    puts bytes chunk c.args.index c.args.rows.now _ c.row_after.result _ c.row_after.ensures refl
+    (of_plain bytes chunk value there (none.data no chunk.flags value) (none.sack no value)
+    (none.init no value) (none.forward no value) (none.shutdown no value)) c.put_item.ensures
+
 pub data_in-requires : goal.data_in-requires
 data_in-requires c = c.requires.fits
 
@@ -25,7 +38,7 @@ returns-in-Some c bytes there =
     puts bytes c.args.chunk.now c.args.index c.args.rows.now _ c.data_row.result _
     c.data_row.ensures refl
     (of_data bytes c.args.chunk.now c.args.value.now there c.in-Some.found
-    (c.in-Some.ensures bytes there)) c.put_item.ensures
+    (c.in-Some.ensures bytes there)) c.put_item-in-Some.ensures
 
 pub sack_row-requires : goal.sack_row-requires
 sack_row-requires c = omega (arith, c.requires.size, c.requires.fits)
@@ -67,13 +80,10 @@ returns-in-Some-shutdown_in c bytes there =
     (of_shutdown bytes c.args.chunk.now c.args.value.now there c.in-Some-shutdown_in.tsn
     c.in-Some-shutdown_in.ensures) c.put_item-in-Some-shutdown_in.ensures
 
-pub row_after-requires : goal.row_after-requires
-row_after-requires c = omega (arith, c.requires.size, c.requires.fits)
-
 pub returns-in-None : goal.returns-in-None
 returns-in-None c bytes there =
-    puts bytes c.args.chunk.now c.args.index c.args.rows.now _ c.row_after.result _
-    c.row_after.ensures refl
+    puts bytes c.args.chunk.now c.args.index c.args.rows.now _ c.row_after-in-None.result _
+    c.row_after-in-None.ensures refl
     (of_other bytes c.args.chunk.now c.args.value.now there (c.in_default.ensures bytes there)
     c.in_default-from_raw.ensures.read c.in_default-init_in.ensures
     c.in_default-from_raw-2.ensures.read c.in-None.ensures) c.put_item-in-None.ensures
