@@ -123,12 +123,12 @@ fn put_row(rows: &mut [DcsctpRow], index: usize, chunk: &DcsctpChunk, value: &[u
         → (row : DcsctpRow) × (row.chunk ≡ chunk.now) × IsRow bytes chunk.now row
         × (rows.new ≡ slice_set rows.old index row) }
 {
-    if !has_numbers(chunk.typ) {
-        return put_item(rows, index, row_after(0, chunk));
-    }
     // each kind writes its own row: to join them first takes longer
     if let Some(found) = data_in(chunk, value) {
         return put_item(rows, index, data_row(chunk, &found));
+    }
+    if !has_numbers(chunk.typ) {
+        return put_item(rows, index, row_after(0, chunk));
     }
     let raw = RawChunk {
         typ: chunk.typ,

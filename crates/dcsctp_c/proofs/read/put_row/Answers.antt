@@ -25,7 +25,7 @@ returns-then-not-has_numbers c bytes there =
     let no = c.if-not-has_numbers.true in
     puts bytes chunk c.args.index c.args.rows.now _ c.row_after.result _ c.row_after.ensures refl
     (of_plain bytes chunk value there (none.data no chunk.flags value) (none.sack no value)
-    (none.init no value) (none.forward no value) (none.shutdown no value)) c.put_item.ensures
+    (none.init no value) (none.forward no value) (none.shutdown no value)) c.put_item-then-not-has_numbers.ensures
 
 pub data_in-requires : goal.data_in-requires
 data_in-requires c = c.requires.fits
@@ -38,7 +38,7 @@ returns-in-Some c bytes there =
     puts bytes c.args.chunk.now c.args.index c.args.rows.now _ c.data_row.result _
     c.data_row.ensures refl
     (of_data bytes c.args.chunk.now c.args.value.now there c.in-Some.found
-    (c.in-Some.ensures bytes there)) c.put_item-in-Some.ensures
+    (c.in-Some.ensures bytes there)) c.put_item.ensures
 
 pub sack_row-requires : goal.sack_row-requires
 sack_row-requires c = omega (arith, c.requires.size, c.requires.fits)
