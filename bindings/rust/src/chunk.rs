@@ -513,6 +513,12 @@ impl<'a> Chunk<'a> {
         Causes::of(*self)
     }
 
+    /// Where the value ends.
+    #[inline]
+    pub(crate) const fn value_end(&self) -> usize {
+        self.raw.value_offset + self.raw.value_size
+    }
+
     /// The packet's bytes.
     #[inline]
     pub(crate) const fn bytes(&self) -> &'a [u8] {
@@ -629,8 +635,9 @@ impl<'a> Sack<'a> {
     #[must_use]
     #[inline]
     pub const fn gap_ack_blocks(&self) -> GapAckBlocks<'a> {
-        let Chunk { bytes, raw } = self.chunk;
-        GapAckBlocks::of(bytes, raw.value_offset + SACK_NUMBERS, SACK_ITEM, self.block_count)
+        // (the duplicate TSNs follow)
+        let end = self.chunk.value_end() - SACK_ITEM * self.duplicate_count;
+        GapAckBlocks::before(self.chunk.bytes, end, SACK_ITEM, self.block_count)
     }
 
     /// Returns the TSNs that came more than once (RFC 9260 section 3.3.4).
@@ -643,9 +650,8 @@ impl<'a> Sack<'a> {
     #[must_use]
     #[inline]
     pub const fn duplicate_tsns(&self) -> DuplicateTsns<'a> {
-        let Chunk { bytes, raw } = self.chunk;
-        let offset = raw.value_offset + SACK_NUMBERS + SACK_ITEM * self.block_count;
-        DuplicateTsns::of(bytes, offset, SACK_ITEM, self.duplicate_count)
+        let Chunk { bytes, .. } = self.chunk;
+        DuplicateTsns::before(bytes, self.chunk.value_end(), SACK_ITEM, self.duplicate_count)
     }
 
     /// Returns whether the gap ack blocks are in order, apart, and begin at 2 or later, as RFC 9260
@@ -707,7 +713,7 @@ impl<'a> ForwardTsn<'a> {
     pub const fn skipped_streams(&self) -> SkippedStreams<'a> {
         let Chunk { bytes, raw } = self.chunk;
         let size = if raw.r#type == ChunkType::FORWARD_TSN.0 { 4 } else { 8 };
-        SkippedStreams::of(bytes, raw.value_offset + 4, size, self.stream_count)
+        SkippedStreams::before(bytes, self.chunk.value_end(), size, self.stream_count)
     }
 }
 
@@ -720,13 +726,12 @@ impl PartialEq for ForwardTsn<'_> {
 
 impl Eq for ForwardTsn<'_> {}
 
-// How many bytes the numbers of a SACK have, and each item of its two lists (RFC 9260 section
-// 3.3.4).
-const SACK_NUMBERS: usize = 12;
+/// How many bytes each item of a SACK's two lists has (RFC 9260 section 3.3.4).
 const SACK_ITEM: usize = 4;
 
-/// Defines an iterator over a list whose items have one size: where they are and how many is what
-/// the C API says, and each is read of its bytes here, by the function that is named.
+/// Defines an iterator over a list whose items have one size, and end a value: where that ends and
+/// how many they are is what the C API says, and each is read of its bytes here, by the function
+/// that is named.
 macro_rules! list_of_numbers {
     ($(#[$about:meta])* $name:ident, $item:ty, $read:expr) => {
         $(#[$about])*
@@ -740,15 +745,15 @@ macro_rules! list_of_numbers {
         list_of_items!($name);
 
         impl<'a> $name<'a> {
-            /// So many items of this size from an offset on.
+            /// The last items of this size before an offset, as many as this count.
             #[inline]
-            pub(crate) const fn of(
+            pub(crate) const fn before(
                 bytes: &'a [u8],
-                offset: usize,
+                end: usize,
                 size: usize,
                 count: usize,
             ) -> Self {
-                Self { bytes: bytes.split_at(offset).1, size, indices: 0..count }
+                Self { bytes: bytes.split_at(end - size * count).1, size, indices: 0..count }
             }
 
             #[inline]

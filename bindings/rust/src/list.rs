@@ -48,6 +48,12 @@ impl<'a> Item<'a> {
         part(self.bytes, self.raw.value_offset, self.raw.value_size)
     }
 
+    /// Where the value ends.
+    #[inline]
+    const fn value_end(&self) -> usize {
+        self.raw.value_offset + self.raw.value_size
+    }
+
     #[inline]
     fn number(&self) -> Option<u32> {
         read!(self, dcsctp_number)
@@ -89,9 +95,8 @@ impl<'a> Items<'a> {
 
     #[inline]
     fn next(&mut self) -> Option<Item<'a>> {
-        let chunk = self.chunk.raw();
         // (no item begins where the value ends)
-        if self.next >= chunk.value_offset + chunk.value_size {
+        if self.next >= self.chunk.value_end() {
             return None;
         }
         let raw: ffi::Parameter = read!(self.chunk, dcsctp_parameter_at, self.next)?;
@@ -341,9 +346,7 @@ impl<'a> Parameter<'a> {
     pub fn re_config(&self) -> Option<ReConfig<ResetStreams<'a>>> {
         let it: ffi::ReConfig = read!(self.0, dcsctp_re_config)?;
         let request_number = it.request_number;
-        // (they are the last of the value)
-        let end = self.0.raw.value_offset + self.0.raw.value_size;
-        let streams = ResetStreams::of(self.0.bytes, end - 2 * it.stream_count, 2, it.stream_count);
+        let streams = ResetStreams::before(self.0.bytes, self.0.value_end(), 2, it.stream_count);
         Some(match ParameterType(it.r#type) {
             ParameterType::OUTGOING_SSN_RESET => ReConfig::OutgoingSsnReset {
                 request_number,
@@ -489,13 +492,13 @@ impl<'a> Cause<'a> {
     /// ```
     #[must_use]
     pub fn missing_parameters(&self) -> MissingParameters<'a> {
-        // How many there are; each has two bytes, behind their number.
+        // How many there are; each has two bytes.
         let (Item { bytes, raw }, none) = (self.0, core::ptr::null_mut());
         let (start, length) = (bytes.as_ptr(), bytes.len());
         // SAFETY: `bytes` is a slice, `raw` a value here, and no item is written.
         let count =
             unsafe { ffi::dcsctp_missing_parameters(start, length, &raw const raw, none, 0) };
-        MissingParameters::of(bytes, raw.value_offset + raw.value_size - 2 * count, 2, count)
+        MissingParameters::before(bytes, self.0.value_end(), 2, count)
     }
 }
 

@@ -4,7 +4,7 @@ use Rattle.dcsctp_tlv.specs.{Frame.{lenient, BeginsWithFrame}, Level.{MeansTrees
 use Rattle.dcsctp_chunk.specs.Sack as sack_kind
 use Rattle.dcsctp_chunk.specs.SkippedStreams as skipped_streams
 use Rattle.dcsctp_wire.specs.Chunk.{ChunkTree, chunks}
-use Rattle.dcsctp_borrowed.{specs.Sack.{read_sack}, specs.SkippedStreams.{read_forward}, proofs.Fronts.{front, none_left}}
+use Rattle.dcsctp_borrowed.{specs.Sack.{read_sack}, specs.SkippedStreams.{read_forward}, specs.UserData.{read_user_data}, proofs.Fronts.{front, none_left}}
 use Rattle.dcsctp_c.specs.{Part.{Reads, value_at, IsChunkAt, data_at, HoldsData, HoldsSack, read_init, HoldsInit, read_shutdown, HoldsForward}, Row.{row_after, data_row, sack_row, init_row, forward_row, shutdown_row, IsRow, user_data, sack, init, forward_tsn, shutdown, other}, declared.structs.DcsctpChunk.{DcsctpChunk}, declared.structs.DcsctpData.{DcsctpData}, declared.structs.DcsctpForwardTsn.{DcsctpForwardTsn}, declared.structs.DcsctpInit.{DcsctpInit}, declared.structs.DcsctpSack.{DcsctpSack}}
 
 -- ---- one row
@@ -59,6 +59,17 @@ module _ (bytes : List ℕ) (c : DcsctpChunk) (value : List ℕ)
       ∙ nothing HoldsInit (read_init c.typ value) no_init)
       (ap (option_and_then (read_forward c.typ)) there ∙ sym no_forward)
       (ap (option_and_then (read_shutdown c.typ)) there ∙ sym no_shutdown) refl
+
+  -- where its type has no numbers
+  pub of_plain : read_user_data c.typ c.flags value ≡ None → read_sack c.typ value ≡ None
+      → read_init c.typ value ≡ None → read_forward c.typ value ≡ None
+      → read_shutdown c.typ value ≡ None → IsRow bytes c (row_after 0 c)
+  of_plain no_data no_sack no_init no_forward no_shutdown =
+      other (ap (option_and_then (read_user_data c.typ c.flags)) there ∙ no_data)
+      (ap (option_and_then (read_sack c.typ)) there ∙ no_sack)
+      (ap (option_and_then (read_init c.typ)) there ∙ no_init)
+      (ap (option_and_then (read_forward c.typ)) there ∙ no_forward)
+      (ap (option_and_then (read_shutdown c.typ)) there ∙ no_shutdown) refl
 
 -- ---- the rows of a packet
 

@@ -7,7 +7,7 @@ ghost use Rattle.dcsctp_cause.specs.Cause.{CauseTree};
 ghost use Rattle.dcsctp_wire.specs.Chunk.{ChunkTree};
 ghost use Rattle.dcsctp_c.specs.{Part.{ReadsInto, Holds, value_at, value_from, ChunkMeans, list_bytes, IsListOf}, Parameter.{IsParameterAt, ParameterMeans, CauseMeans, parameter_value, number_at, number_of, cause_number_of}};
 
-use crate::parts::{part_at, read_number, value_of};
+use crate::parts::{part_at, put_found, read_number, value_of};
 use crate::structs::{DcsctpChunk, DcsctpParameter};
 use dcsctp_tlv::frame::split_frame;
 use dcsctp_wire::packet::init_chunk::{self, InitNumbers};
@@ -53,11 +53,7 @@ pub extern "C" fn dcsctp_parameter_at(
     ensures read { IsTrue result → IsParameterAt bytes.now chunk.now offset parameter.new }
     ensures stays { result ≡ false → parameter.new ≡ parameter.old }
 {
-    let Some(found) = parameter_at(bytes, chunk, offset) else {
-        return false;
-    };
-    *parameter = found;
-    true
+    put_found(parameter_at(bytes, chunk, offset), parameter)
 }
 
 /// Reads a value that is one number of four bytes, whatever its type: the method of Zero Checksum
@@ -76,11 +72,7 @@ pub extern "C" fn dcsctp_number(bytes: &[u8], parameter: &DcsctpParameter, numbe
         → CauseMeans bytes.now parameter.now tree → cause_number_of tree ≡ Some n
         → ReadsInto Holds (Some n) number.old number.new result }
 {
-    let Some(found) = number_in(bytes, parameter) else {
-        return false;
-    };
-    *number = found;
-    true
+    put_found(number_in(bytes, parameter), number)
 }
 
 // ---- helpers

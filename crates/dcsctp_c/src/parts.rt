@@ -1,7 +1,7 @@
 //! The parts of a packet: the common header, the chunks, and what those hold that have no list of
 //! parameters or error causes, and INIT before its list.
 
-ghost use Rattle.std.specs.Prelude.{◌≡◌, ◌↔◌, ◌≤◌, ◌<◌, ◌+◌, ◌^◌, ℕ, List, Ok, Some, IsTrue, IfSome, option_map, false, length, take, drop};
+ghost use Rattle.std.specs.{Prelude.{◌≡◌, ◌↔◌, ◌≤◌, ◌<◌, ◌+◌, ◌^◌, ℕ, List, Ok, Some, IsTrue, IfSome, option_map, is_some, false, length, take, drop}, Option.{unwrap_or}};
 ghost use Rattle.dcsctp_tlv.specs.Frame.{BeginsWithFrame, frame_value, frame_rest};
 ghost use Rattle.dcsctp_chunk.specs.{Cover.{IsCleaned, CleanedLaws, AreValid}, SkippedStreams.{skipped_stream_view}};
 ghost use Rattle.dcsctp_wire.specs.{Chunk.{ChunkTree}, Packet.{PacketTree, Answer}, declared.packet.sctp_packet.ChecksumPolicy.{ChecksumPolicy}};
@@ -122,11 +122,7 @@ pub extern "C" fn dcsctp_gap_ack_block(
     ensures means { (tree : ChunkTree) → ChunkMeans bytes.now chunk.now tree
         → ReadsInto Holds (block_at index (sack_of tree)) block.old block.new result }
 {
-    let Some(found) = read_block(bytes, chunk, index) else {
-        return false;
-    };
-    *block = found;
-    true
+    put_found(read_block(bytes, chunk, index), block)
 }
 
 /// Reads a SACK's duplicate TSN at an index, from 0 on.
@@ -145,11 +141,7 @@ pub extern "C" fn dcsctp_duplicate_tsn(
     ensures means { (tree : ChunkTree) → ChunkMeans bytes.now chunk.now tree
         → ReadsInto Holds (duplicate_at index (sack_of tree)) tsn.old tsn.new result }
 {
-    let Some(found) = read_duplicate(bytes, chunk, index) else {
-        return false;
-    };
-    *tsn = found;
-    true
+    put_found(read_duplicate(bytes, chunk, index), tsn)
 }
 
 /// Returns whether the chunk is a SACK whose gap ack blocks are in order, apart, and begin at 2 or
@@ -217,11 +209,7 @@ pub extern "C" fn dcsctp_shutdown(
         → ReadsInto Holds (shutdown_of tree)
         cumulative_tsn_ack.old cumulative_tsn_ack.new result }
 {
-    let Some(found) = read_shutdown(bytes, chunk) else {
-        return false;
-    };
-    *cumulative_tsn_ack = found;
-    true
+    put_found(read_shutdown(bytes, chunk), cumulative_tsn_ack)
 }
 
 /// Reads the numbers of FORWARD-TSN (RFC 3758 section 3.2) or I-FORWARD-TSN (RFC 8260 section
@@ -264,14 +252,25 @@ pub extern "C" fn dcsctp_skipped_stream(
         → ReadsInto HoldsSkipped (skipped_at index (forward_of tree))
         skipped_stream.old skipped_stream.new result }
 {
-    let Some(found) = read_skipped(bytes, chunk, index) else {
-        return false;
-    };
-    *skipped_stream = found;
-    true
+    put_found(read_skipped(bytes, chunk, index), skipped_stream)
 }
 
 // ---- helpers
+
+/// Writes what was read to its output, if something was. Returns whether it was.
+#[inline(always)]
+pub(crate) fn put_found<T: Copy>(found: Option<T>, output: &mut T) -> bool
+    ensures done { result ≡ is_some found }
+    ensures output { output.new ≡ unwrap_or found output.old }
+{
+    match found {
+        Some(it) => {
+            *output = it;
+            true
+        }
+        None => false,
+    }
+}
 
 /// Returns the chunk at an offset, with this value, and this rest after it.
 #[inline(always)]

@@ -7,6 +7,7 @@ ghost use Rattle.dcsctp_borrowed.specs.{MissingParameters.{missing_of}, ReConfig
 ghost use Rattle.dcsctp_c.specs.{Part.{ReadsInto, Holds}, Parameter.{ParameterMeans, CauseMeans}, ReConfig.{re_config_at, HoldsReConfig, only, reset_streams, missing_at, at_index}};
 
 use crate::parameters::parameter_value;
+use crate::parts::put_found;
 use crate::structs::{DcsctpParameter, DcsctpReConfig};
 use dcsctp_borrowed::missing_parameters::missing_parameters;
 use dcsctp_borrowed::numbers::Numbers;
@@ -64,11 +65,7 @@ pub extern "C" fn dcsctp_reset_stream(
     let Some(streams) = reset_streams(bytes, parameter) else {
         return false;
     };
-    let Some(found) = number_at(&streams, index) else {
-        return false;
-    };
-    *stream = found;
-    true
+    put_found(number_at(&streams, index), stream)
 }
 
 /// Reads the type at an index, from 0 on, of the cause Missing Mandatory Parameter (RFC 9260
@@ -91,11 +88,7 @@ pub extern "C" fn dcsctp_missing_parameter(
     let Some(types) = missing(bytes, cause) else {
         return false;
     };
-    let Some(found) = number_at(&types, index) else {
-        return false;
-    };
-    *typ = found;
-    true
+    put_found(number_at(&types, index), typ)
 }
 
 // ---- helpers

@@ -1,9 +1,11 @@
 //! A packet in one call: checked, and a row written for each of its chunks.
 
-ghost use Rattle.std.specs.Prelude.{◌≡◌, ◌≢◌, ◌≤◌, ◌<◌, ◌+◌, ◌^◌, ℕ, List, Some, length, take, drop, slice_set};
+ghost use Rattle.std.specs.Prelude.{◌≡◌, ◌≢◌, ◌≤◌, ◌<◌, ◌+◌, ◌^◌, ℕ, List, Some, None, false, length, take, drop, slice_set};
 ghost use Rattle.dcsctp_tlv.specs.{Frame.{lenient}, Level.{MeansTrees, MeansSome}};
 ghost use Rattle.dcsctp_wire.specs.{Chunk.{ChunkTree, chunks}, Packet.{body}};
-ghost use Rattle.dcsctp_c.specs.{Code.{policy_of}, Part.{value_at, IsChunkAt}, Row.{row_after, data_row, sack_row, init_row, forward_row, shutdown_row, IsRow, AreRows, MeanChunks, IsReading}};
+ghost use Rattle.dcsctp_borrowed.specs.{Sack.{read_sack}, SkippedStreams.{read_forward}, UserData.{read_user_data}};
+ghost use Rattle.dcsctp_c.specs.declared.structs.DcsctpRow.{DcsctpRow};
+ghost use Rattle.dcsctp_c.specs.{Code.{policy_of}, Part.{value_at, read_init, read_shutdown}, Row.{row_after, data_row, sack_row, init_row, forward_row, shutdown_row, IsRow, IsRowAt, AreRows, MeanChunks, IsReading}};
 
 use crate::codes::{OK, code_of};
 use crate::packet::checksum_policy;
@@ -19,9 +21,13 @@ use dcsctp_borrowed::forward_tsn_ref::ForwardTsnRef;
 use dcsctp_borrowed::sack_ref::SackRef;
 use dcsctp_chunk::sack_chunk::SackNumbers;
 use dcsctp_tlv::frame::frame_parts;
-use dcsctp_wire::packet::init_chunk::InitNumbers;
+use dcsctp_wire::packet::init_chunk::{self, InitNumbers};
 use dcsctp_wire::packet::raw_chunk::RawChunk;
 use dcsctp_wire::packet::sctp_packet::{COMMON_HEADER_SIZE, SctpPacket};
+use dcsctp_wire::packet::{
+    data_chunk, forward_tsn_chunk, idata_chunk, iforward_tsn_chunk, init_ack_chunk, sack_chunk,
+    shutdown_chunk,
+};
 
 /// Checks a packet, and writes its header, how many chunks it has, and a row for each chunk to the
 /// front of `rows`: as many as have room. Does not allocate.
@@ -75,9 +81,7 @@ fn write_rows(bytes: &[u8], rows: &mut [DcsctpRow]) -> usize
     let mut offset = COMMON_HEADER_SIZE;
     let mut count = 0;
     while offset < bytes.len() {
-        let row = row_at(bytes, offset);
-        offset = row.chunk.next;
-        put_item(rows, count, row);
+        offset = put_row_at(bytes, offset, rows, count);
         count += 1;
     }
     count
@@ -94,30 +98,37 @@ pub(crate) fn put_item<T: Copy>(items: &mut [T], index: usize, item: T)
     }
 }
 
-/// Returns the row of the chunk at an offset, which is known to be there.
+/// Writes the row of the chunk at an offset, which is known to be there, to its place in an array,
+/// if it has room. Returns the offset of the next chunk.
 #[inline(always)]
-fn row_at(bytes: &[u8], offset: usize) -> DcsctpRow
+fn put_row_at(bytes: &[u8], offset: usize, rows: &mut [DcsctpRow], index: usize) -> usize
     requires within { offset < length bytes.now }
     requires meant { MeansSome (chunks lenient) (drop offset bytes.now) }
-    ensures chunk { IsChunkAt bytes.now offset result.chunk }
-    ensures row { IsRow bytes.now result.chunk result }
+    ensures { (row : DcsctpRow) × IsRowAt bytes.now offset row × (result ≡ row.chunk.next)
+        × (rows.new ≡ slice_set rows.old index row) }
 {
     let (_, from) = bytes.split_at(offset);
     let (value, rest) = frame_parts(from);
-    row_of(&framed_chunk(bytes, offset, value, rest), value)
+    let chunk = framed_chunk(bytes, offset, value, rest);
+    put_row(rows, index, &chunk, value);
+    chunk.next
 }
 
-/// Returns the row of a chunk with this value.
+/// Writes the row of a chunk with this value to its place in an array, if it has room.
 #[inline(always)]
-fn row_of(chunk: &DcsctpChunk, value: &[u8]) -> DcsctpRow
+fn put_row(rows: &mut [DcsctpRow], index: usize, chunk: &DcsctpChunk, value: &[u8])
     requires size { chunk.now.value_size ≡ length value.now }
     requires fits { chunk.now.value_offset + length value.now < 2 ^ 64 }
-    ensures chunk { result.chunk ≡ chunk.now }
-    ensures row { (bytes : List ℕ) → value_at bytes chunk.now ≡ Some value.now
-        → IsRow bytes chunk.now result }
+    ensures { (bytes : List ℕ) → value_at bytes chunk.now ≡ Some value.now
+        → (row : DcsctpRow) × (row.chunk ≡ chunk.now) × IsRow bytes chunk.now row
+        × (rows.new ≡ slice_set rows.old index row) }
 {
+    // each kind writes its own row: to join them first takes longer
     if let Some(found) = data_in(chunk, value) {
-        return data_row(chunk, &found);
+        return put_item(rows, index, data_row(chunk, &found));
+    }
+    if !has_numbers(chunk.typ) {
+        return put_item(rows, index, row_after(0, chunk));
     }
     let raw = RawChunk {
         typ: chunk.typ,
@@ -125,17 +136,40 @@ fn row_of(chunk: &DcsctpChunk, value: &[u8]) -> DcsctpRow
         value,
     };
     if let Some(found) = SackRef::from_raw(&raw) {
-        return sack_row(chunk, &sack_struct(&found));
+        return put_item(rows, index, sack_row(chunk, &sack_struct(&found)));
     }
     if let Some(found) = init_in(chunk.typ, value) {
-        return init_row(chunk, &found);
+        return put_item(rows, index, init_row(chunk, &found));
     }
     if let Some(found) = ForwardTsnRef::from_raw(&raw) {
-        return forward_row(chunk, &forward_struct(&found));
+        return put_item(rows, index, forward_row(chunk, &forward_struct(&found)));
     }
     match shutdown_in(chunk.typ, value) {
-        Some(tsn) => shutdown_row(chunk, tsn),
-        None => row_after(0, chunk),
+        Some(tsn) => put_item(rows, index, shutdown_row(chunk, tsn)),
+        None => put_item(rows, index, row_after(0, chunk)),
+    }
+}
+
+/// Returns whether a chunk of this type can have numbers in its row.
+#[inline(always)]
+fn has_numbers(typ: u8) -> bool
+    ensures data { result ≡ false → (flags : ℕ) (value : List ℕ)
+        → read_user_data typ flags value ≡ None }
+    ensures sack { result ≡ false → (value : List ℕ) → read_sack typ value ≡ None }
+    ensures init { result ≡ false → (value : List ℕ) → read_init typ value ≡ None }
+    ensures forward { result ≡ false → (value : List ℕ) → read_forward typ value ≡ None }
+    ensures shutdown { result ≡ false → (value : List ℕ) → read_shutdown typ value ≡ None }
+{
+    match typ {
+        data_chunk::CHUNK_TYPE
+        | init_chunk::CHUNK_TYPE
+        | init_ack_chunk::CHUNK_TYPE
+        | sack_chunk::CHUNK_TYPE
+        | shutdown_chunk::CHUNK_TYPE
+        | idata_chunk::CHUNK_TYPE
+        | forward_tsn_chunk::CHUNK_TYPE
+        | iforward_tsn_chunk::CHUNK_TYPE => true,
+        _ => false,
     }
 }
 

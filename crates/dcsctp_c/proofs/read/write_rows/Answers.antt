@@ -23,16 +23,16 @@ loop-offset-preserved c =
     let rows = c.loop-offset.rows in
     let count = c.loop-offset.count in
     let offset = c.loop-offset.offset in
-    let row = c.row_at-row.result in
-    let chunk = c.row_at-row.ensures.chunk in
+    let puts = c.put_row_at-offset.ensures in
+    let row = puts.0 in
+    let chunk = puts.1.chunk in
     let before = c.loop-offset.invariant in
-    rw c.put_item.ensures (record {
+    rw (puts.3, puts.2) (record {
       within = chunk.item.within;
       few = omega (arith, before.few, chunk.item.after);
       meant = left_meant bytes offset row.chunk chunk before.meant;
       rows = walk_goes_on (IsRowAt bytes) (λ (r : DcsctpRow). r.chunk.next) 12 (take count rows) _
-          count offset row before.rows (record { chunk = chunk; row = c.row_at-row.ensures.row })
-          (added rows count row);
+          count offset row before.rows puts.1 (added rows count row);
       means = λ trees mean. passed_more (chunks lenient) (λ (n : ℕ). drop n bytes)
           (λ (r : DcsctpRow). ChunkMeans bytes r.chunk)
           (chunk_row lenient row.chunk.typ row.chunk.flags) (value_at bytes row.chunk) trees rows
@@ -49,16 +49,18 @@ returns-clause-means c trees mean =
     (take c.loop-offset.count c.loop-offset.rows) c.loop-offset.count passed.2
     (none_after bytes c.loop-offset.offset passed.0 c.loop-offset-test.false passed.1)
 
-pub row_at-row-requires-clause-meant : goal.row_at-row-requires-clause-meant
-row_at-row-requires-clause-meant c = c.loop-offset.invariant.meant
+pub put_row_at-offset-requires-clause-meant : goal.put_row_at-offset-requires-clause-meant
+put_row_at-offset-requires-clause-meant c = c.loop-offset.invariant.meant
 
 pub loop-offset-smaller : goal.loop-offset-smaller
 loop-offset-smaller c =
+    let puts = c.put_row_at-offset.ensures in
     omega (
       arith,
       c.loop-offset-test.true,
-      c.row_at-row.ensures.chunk.item.after,
-      c.row_at-row.ensures.chunk.item.within,
+      puts.2,
+      puts.1.chunk.item.after,
+      puts.1.chunk.item.within,
     )
 
 pub overflow_add-count : goal.overflow_add-count
