@@ -26,6 +26,7 @@ extern size_t probes_check(const unsigned char *bytes, size_t length);
 extern uint64_t probes_walk(const unsigned char *bytes, size_t length);
 extern size_t probes_read(const unsigned char *bytes, size_t length);
 extern size_t probes_read_and_write(const unsigned char *bytes, size_t length);
+extern size_t probes_write_in_place(const unsigned char *bytes, size_t length, unsigned char *output, size_t room);
 extern size_t probes_write_over(const unsigned char *bytes, size_t length, unsigned char *output, size_t room);
 extern size_t probes_build(const unsigned char *bytes, size_t length);
 extern size_t probes_clean(const unsigned char *bytes, size_t length);

@@ -13,6 +13,8 @@ ghost use Rattle.dcsctp_wire.specs.Account.{node_count};
 ghost use Rattle.dcsctp_wire.specs.Packet.{PacketTree, Answer, IsPacket, IsAccepted, meaning_view};
 ghost use Rattle.bench_probes.specs.Probe.{IsZeroOr, IsChunkCount, IsCanonicalSize, BeginsCanonical, IsRunCount};
 
+use dcsctp_borrowed::canonical::write_canonical;
+use dcsctp_borrowed::packet_ref::SctpPacketRef;
 use dcsctp_wire::api::ZERO_CHECKSUM_ALTERNATE_ERROR_DETECTION_METHOD_NONE;
 use dcsctp_wire::packet::chunk::Chunk;
 use dcsctp_wire::packet::chunk_validators::clean_sack;
@@ -99,6 +101,23 @@ pub extern "C" fn probes_write_over(alloc: Global, bytes: &[u8], output: &mut [u
             packet.write_canonical(front);
             size
         }
+        Err(_) => 0,
+    }
+}
+
+/// Writes the canonical packet over the front of `output`, of the bytes that mean it, with no
+/// memory: the number of its bytes; 0 where there is none, or no room, and then nothing is written.
+/// The bytes after the packet stay.
+#[unsafe(no_mangle)]
+pub extern "C" fn probes_write_in_place(bytes: &[u8], output: &mut [u8]) -> usize
+    ensures written { IsZeroOr (BeginsCanonical output.new) bytes.now result }
+    ensures rest { drop result output.new ≡ drop result output.old }
+{
+    match SctpPacketRef::from_bytes(bytes, 0, &ANY_CHECKSUM) {
+        Ok(packet) => match write_canonical(&packet, output) {
+            Ok(size) => size,
+            Err(_) => 0,
+        },
         Err(_) => 0,
     }
 }

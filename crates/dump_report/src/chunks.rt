@@ -247,6 +247,10 @@ fn walk_dropped<F: Fields>(chunk: &Item<'_>, fields: &mut F) -> fmt::Result {
     fields.number(&Number::at(": bandwidth ", "bandwidth", chunk, 0, 4))?;
     fields.number(&Number::at(", queued ", "queued", chunk, 4, 4))?;
     fields.number(&Number::at(", truncated length ", "truncated_length", chunk, 8, 2))?;
+    let flags = chunk.second;
+    fields.flag(&set_flag(", from a middlebox", "middlebox", flags % 2 == 1))?;
+    fields.flag(&set_flag(", bad checksum", "bad_checksum", flags / 2 % 2 == 1))?;
+    fields.flag(&set_flag(", truncated", "truncated", flags / 4 % 2 == 1))?;
     fields.bytes(&Bytes::after("\n  packet: ", "packet", chunk, PKTDROP_SIZE))
 }
 
@@ -334,13 +338,13 @@ fn walk_ppid<F: Fields>(place: usize, chunk: &Item<'_>, fields: &mut F) -> fmt::
 /// Hands over the bits of a chunk with user data.
 fn walk_bits<F: Fields>(data: &UserData<'_>, fields: &mut F) -> fmt::Result {
     fields.flag(&order_flag(data.stream_key.is_unordered(), 1))?;
-    fields.flag(&data_flag(", beginning", "beginning", data.is_beginning))?;
-    fields.flag(&data_flag(", end", "end", data.is_end))?;
-    fields.flag(&data_flag(", immediate", "immediate", data.immediate_ack))
+    fields.flag(&set_flag(", beginning", "beginning", data.is_beginning))?;
+    fields.flag(&set_flag(", end", "end", data.is_end))?;
+    fields.flag(&set_flag(", immediate", "immediate", data.immediate_ack))
 }
 
-/// Returns a bit of a chunk with user data; of one that isn't set nothing is said.
-fn data_flag(words: &'static str, key: &'static str, is_set: bool) -> Flag {
+/// Returns a bit of a chunk's flags; of one that isn't set nothing is said.
+fn set_flag(words: &'static str, key: &'static str, is_set: bool) -> Flag {
     Flag {
         words: (words, ""),
         key,

@@ -1,9 +1,9 @@
 //! What a packet holds, as it is handed over, in its order, to what writes it in some form.
 //!
-//! The walk over a packet (`packet.rt`, `chunks.rt`, `parameters.rt`, `causes.rt`, `channel.rt`)
-//! says what there is, and `text.rt`, `json.rt` and `brief.rt` how it is written. An offset is
-//! counted from the first byte of the chunk, parameter or error cause that holds the field, as in
-//! the figures of the RFCs.
+//! The walk over a packet (`packet.rt`, `chunks.rt`, `lists.rt`, `parameters.rt`, `causes.rt`,
+//! `channel.rt`) says what there is, and `text.rt`, `json.rt` and `brief.rt` how it is written. An
+//! offset is counted from the first byte of the chunk, parameter or error cause that holds the
+//! field, as in the figures of the RFCs.
 
 use crate::fault::Fault;
 use dcsctp_borrowed::checksum::Checksum;

@@ -1,6 +1,6 @@
 //! Lists of parameters and error causes, in a chunk and in one another.
 
-use crate::fields::Fields;
+use crate::fields::{Fields, HEADER_SIZE};
 use dcsctp_borrowed::part::{Item, Part};
 use dump_text::names::Level;
 use std::fmt;
@@ -33,14 +33,12 @@ pub fn walk_list<L: Listed, F: Fields>(list: Part<'_>, fields: &mut F) -> fmt::R
 
 /// Returns whether nothing but items lies here, as far as it was captured.
 pub fn is_list(list: Part<'_>) -> bool {
-    if !list.is_whole() {
-        return true;
-    }
     let mut rest = list;
     for item in list.items() {
         rest = rest.after(item.padded);
     }
-    rest.size == 0
+    // (an item whose header wasn't captured may be one)
+    rest.size == 0 || rest.size >= HEADER_SIZE && rest.bytes.len() < HEADER_SIZE
 }
 
 /// Returns the list that lies after the first bytes; `None` where these aren't there, or no list is.

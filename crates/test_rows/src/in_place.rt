@@ -24,8 +24,8 @@ use dcsctp_wire::types::Tsn;
 use std::alloc::{AllocError, Global};
 use std::fmt::Debug;
 
-/// Returns the canonical packet of the packet that the bytes are, as it is written where they lie,
-/// over bytes `ee`; nothing if it doesn't fit.
+/// Returns the canonical packet of the packet that the bytes are, written of it in place over bytes
+/// `ee`; nothing if it isn't read or doesn't fit.
 pub fn canonical_in_place(alloc: Global, bytes: &[u8]) -> Result<Vec<u8>, AllocError> {
     let Ok(packet) = SctpPacketRef::from_bytes(bytes, 0, &ChecksumPolicy::ANY_CHECKSUM) else {
         return Ok(Vec::new(alloc));

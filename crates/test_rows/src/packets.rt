@@ -4,6 +4,7 @@ use crate::built::built_of;
 use crate::bytes::{from, word_at, write_change, write_digits};
 use crate::in_place::{canonical_in_place, write_otherwise};
 use crate::values::{chunk_of, image_of, write_value};
+use dcsctp_borrowed::canonical::CanonicalError;
 use dcsctp_wire::api::ZERO_CHECKSUM_ALTERNATE_ERROR_DETECTION_METHOD_LOWER_LAYER_DTLS as DTLS;
 use dcsctp_wire::packet::chunk::{Chunk, RawChunk};
 use dcsctp_wire::packet::sctp_packet::{
@@ -451,6 +452,9 @@ fn write_errors(out: &mut String) -> Result<(), AllocError> {
         write!(out, "{error:?}: {error}; ")?;
     }
     for error in &ERRORS {
+        write!(out, "{error:?}: {error}; ")?;
+    }
+    for error in &[CanonicalError::DoesNotFit, CanonicalError::NoRoom] {
         write!(out, "{error:?}: {error}; ")?;
     }
     Ok(())
