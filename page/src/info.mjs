@@ -78,7 +78,7 @@ function resetInfo({ parameter, name, streams, result_name, new_streams }) {
     @param {Chunk} chunk */
 function controlInfo(chunk) {
   const parts = [], { chunk: type } = chunk, add = (key, text) => isNumber(chunk[key]) && parts.push(text(chunk[key]));
-  const streams = objects(chunk.streams).map(it => it.stream).filter(isNumber), blocks = objects(chunk.blocks);
+  const streams = objects(chunk.streams).map(it => it.stream).filter(isNumber), blocks = [...objects(chunk.blocks), ...objects(chunk.nr_blocks)];
   const duplicates = objects(chunk.duplicates).map(it => it.tsn).filter(isNumber);
   const received = blocks.length ? ` and ${rangeTexts(blocks.map(it => [it.first_tsn, it.last_tsn]))}` : '';
   add('tag', it => `tag ${hex(it, 8)}`);

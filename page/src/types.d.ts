@@ -15,6 +15,7 @@ interface Chunk {
   cumulative_tsn?: number;
   new_cumulative_tsn?: number;
   blocks?: { first_tsn: number; last_tsn: number }[];
+  nr_blocks?: { first_tsn: number; last_tsn: number }[];
   text?: string;
   label?: string;
   message_name?: string;

@@ -259,6 +259,7 @@ each('what a row says', (...chunks) => infoOf({ chunks }), [
   [{ ...SACK, a_rwnd: 1000 }, data(5), 'TSN 5 · stream 0 · acknowledges 4294967295 · a_rwnd 1000'],
   [{ ...SACK, blocks: [[2, 2], [4, 6]].map(([first_tsn, last_tsn]) => ({ first_tsn, last_tsn })), duplicates: [{ tsn: 7 }] },
     'acknowledges 4294967295 and 2, 4–6 · duplicate 7'],
+  [{ ...SACK, chunk: 16, nr_blocks: [{ first_tsn: 4, last_tsn: 6 }] }, 'acknowledges 4294967295 and 4–6'],
   [{ chunk: 1, tag: 10, a_rwnd: 5, outbound_streams: 3, inbound_streams: 4, initial_tsn: 9, parameters: [{ parameter: 7, name: 'x' }] },
     'tag 0x0000000a · initial TSN 9 · streams 3 out, 4 in · a_rwnd 5'],
   [{ chunk: 192, new_cumulative_tsn: 9, streams: [{ stream: 1, ssn: 2 }, { stream: 4, ssn: 2 }] }, 'new TSN 9 · skips in stream 1, 4'],

@@ -9,7 +9,7 @@
    side gets what the filter makes of that: it has to be what was sent. Each message has to arrive once, and in order.
 
    usrsctp asks this program for the time and for random numbers: so a run depends on its seed alone, and waits for no timer.
-   That takes the shared libusrsctp, whose calls of gettimeofday and read_random reach the functions here. */
+   Only the nanoseconds that are printed differ. That takes the shared libusrsctp, whose calls of gettimeofday and read_random reach the functions here. */
 #define _GNU_SOURCE
 #include "../../examples/c/filter.c"
 #include "../../examples/c/responder.c"
@@ -381,6 +381,22 @@ static size_t filtered(const uint8_t *bytes, size_t length, uint8_t *output)
     clock_gettime(CLOCK_PROCESS_CPUTIME_ID, &end);
     tally.filtering += (double)(end.tv_sec - begin.tv_sec) * 1e9 + (double)(end.tv_nsec - begin.tv_nsec);
     return size;
+}
+
+/* A packet with AUTH arrives as it came, with bits that a receiver ignores; where it has room. */
+static void check_authenticated(void)
+{
+    static const uint8_t auth[] = {0, 0, 0, 1, 1, 2, 3, 4}, data[] = {0, 0, 0, 1, 0, 2, 0, 3, 0, 0, 0, 51, 'a', 'b', 'c', 'd'};
+    uint8_t packet[100], passed[100];
+    size_t size;
+    REQUIRE(dcsctp_begin(packet, sizeof packet, &size, 1, 2, 3) == DCSCTP_OK);
+    REQUIRE(dcsctp_add_chunk(packet, sizeof packet, &size, DCSCTP_CHUNK_AUTH, 0, auth, sizeof auth) == DCSCTP_OK);
+    REQUIRE(dcsctp_add_chunk(packet, sizeof packet, &size, DCSCTP_CHUNK_DATA, 0xf3, data, sizeof data) == DCSCTP_OK);
+    seal(packet, size);
+    REQUIRE(filter(packet, size, &as_a_socket, passed, sizeof passed) == size && !memcmp(passed, packet, size));
+    REQUIRE(filter(packet, size, &as_a_socket, passed, size - 1) == 0);
+    packet[8] ^= 1;
+    REQUIRE(filter(packet, size, &as_a_socket, passed, sizeof passed) == 0);
 }
 
 /* ---- between the sides */
@@ -839,7 +855,7 @@ static void run_scenario(size_t messages, uint64_t seed)
     end_association();
     check_kinds();
     printf("interop: %s: %u packets (%u lost) of %u chunks; %u with a flipped bit dropped; %u passed as sent, %u of them with"
-           " noise; both in %.0f ns; %zu and %zu messages of %zu each\n", scenario->name, tally.packets, tally.lost, tally.chunks,
+           " noise; the filter took %.0f ns for both; %zu and %zu messages of %zu each\n", scenario->name, tally.packets, tally.lost, tally.chunks,
            tally.packets, tally.packets, tally.noisy, tally.filtering / tally.packets, sides[1].received, sides[0].received,
            sides[0].planned);
     if (scenario->is_answered)
@@ -882,6 +898,7 @@ int main(int count, char **words)
         else
             return give_up();
     }
+    check_authenticated();
     for (int i = 0; i < SCENARIOS; i++)
         if (chosen ? chosen >> i & 1 : scenarios[i].is_short) {
             scenario = &scenarios[i];

@@ -264,7 +264,7 @@ fi
 try "the processor's CRC32c, on 3,000 packets" processor
 try 'calls on captured packets and at the edges, and each allocation refused' edge
 if has_usrsctp; then
-    try 'two sockets of usrsctp with the library between them, and one that calls the responder' interop
+    try 'two sockets of usrsctp with the filter between them, and one that calls the responder' interop
 else
     left_out usrsctp.h 'associations of a real stack'
 fi

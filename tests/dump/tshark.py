@@ -67,7 +67,8 @@ NUMBERS = {
     'pktdrop_bandwidth': 'bandwidth', 'pktdrop_queuesize': 'queued', 'pktdrop_truncated_length': 'truncated length'}
 ADDRESSES = 'parameter_ipv4_address', 'parameter_ipv6_address'
 WORDS = {'data_u_bit': 'unordered', 'data_b_bit': 'beginning', 'data_e_bit': 'end', 'data_i_bit': 'immediate',
-         'i_forward_tsn_u_bit': 'unordered', 'abort_t_bit': 'tag reflected', 'shutdown_complete_t_bit': 'tag reflected'}
+         'i_forward_tsn_u_bit': 'unordered', 'abort_t_bit': 'tag reflected', 'shutdown_complete_t_bit': 'tag reflected',
+         'pckdrop_m_bit': 'from a middlebox', 'pckdrop_b_bit': 'bad checksum', 'pckdrop_t_bit': 'truncated'}
 NUMBER = re.compile(r'(?<![\w-])(%s) (0x[0-9a-f]+|\d+)' % '|'.join(sorted(set(NUMBERS.values()), key=len, reverse=True)))
 WORD = re.compile(', (%s)(?=,|$)' % '|'.join(set(WORDS.values())))
 HEADERS = (('addresses', r'from (\S+) to (\S+)', ipaddress.ip_address), ('udp', r'udp source (\d+), destination (\d+)', int),

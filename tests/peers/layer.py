@@ -1,6 +1,7 @@
 # SPDX-License-Identifier: Apache-2.0
 """aiortc with the package davgyuti in place of what it reads and writes packets by itself."""
 
+import collections
 import contextlib
 
 import davgyuti
@@ -49,8 +50,13 @@ READ = {
 }
 
 
+# How often aiortc read and wrote by the package.
+counts = collections.Counter()
+
+
 def parse_packet(data):
-    """As aiortc's: raises ValueError for what is no packet, and leaves out chunks that aiortc doesn't know."""
+    """As aiortc's: raises ValueError for what is no packet, and leaves out chunks that aiortc doesn't know, and flags of all but DATA."""
+    counts["read"] += 1
     packet = davgyuti.Packet(data)
     header = packet.header
     chunks = [READ[type(it)](it) for it in packet.chunks() if type(it) in READ]
@@ -91,6 +97,7 @@ WRITTEN = {
 
 
 def serialize_packet(source_port, destination_port, verification_tag, chunk):
+    counts["written"] += 1
     builder = davgyuti.PacketBuilder(source_port, destination_port, verification_tag)
     builder.add(WRITTEN[type(chunk)](chunk))
     return builder.seal()
@@ -100,6 +107,7 @@ def serialize_packet(source_port, destination_port, verification_tag, chunk):
 def over_the_package():
     """Has aiortc read and write by the package."""
     own = sctp.parse_packet, sctp.serialize_packet
+    counts.clear()
     sctp.parse_packet, sctp.serialize_packet = parse_packet, serialize_packet
     try:
         yield

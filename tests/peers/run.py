@@ -17,7 +17,7 @@ from dataclasses import replace
 
 import davgyuti
 from compare import READERS, write
-from layer import over_the_package
+from layer import counts, over_the_package
 from talk import Aiortc, Browser, Chromium, Tap, talk
 
 # Seconds for a talk.
@@ -65,7 +65,7 @@ def lacks():
 
 
 def change(packets, is_sealed):
-    """Changes a byte in each of 40 packets that aiortc wrote, and says which."""
+    """Changes a byte in each of 40 packets that the peer of aiortc sent, and says which."""
     draw, changed = random.Random(1), list(packets)
     numbers = draw.sample([number for number, it in enumerate(packets, 1) if it.written], 40)
     for number in numbers:
@@ -92,6 +92,8 @@ async def main(program, folder):
             except (asyncio.TimeoutError, RuntimeError) as error:
                 judge(name, [(None, f"the talk doesn't end: {error!r}")])
                 continue
+            if is_over:
+                judge(f"{name}: calls", [] if counts["read"] and counts["written"] else [(None, "aiortc doesn't call the package")])
             write(said.packets, path)
             for reader, look in readers.items():
                 judge(f"{name}: {reader}", differences(look, said, program, path))

@@ -513,7 +513,7 @@ impl<'a> Chunk<'a> {
         Causes::of(*self)
     }
 
-    /// Where the value ends.
+    /// Returns where the value ends.
     #[inline]
     pub(crate) const fn value_end(&self) -> usize {
         self.raw.value_offset + self.raw.value_size
@@ -745,7 +745,7 @@ macro_rules! list_of_numbers {
         list_of_items!($name);
 
         impl<'a> $name<'a> {
-            /// The last items of this size before an offset, as many as this count.
+            /// Returns the last `count` items of this size before an offset.
             #[inline]
             pub(crate) const fn before(
                 bytes: &'a [u8],

@@ -48,7 +48,7 @@ impl<'a> Item<'a> {
         part(self.bytes, self.raw.value_offset, self.raw.value_size)
     }
 
-    /// Where the value ends.
+    /// Returns where the value ends.
     #[inline]
     const fn value_end(&self) -> usize {
         self.raw.value_offset + self.raw.value_size
