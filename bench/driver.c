@@ -38,6 +38,11 @@ static size_t write_over(const unsigned char *bytes, size_t length)
     return probes_write_over(bytes, length, output, sizeof output);
 }
 
+static size_t write_in_place(const unsigned char *bytes, size_t length)
+{
+    return probes_write_in_place(bytes, length, output, sizeof output);
+}
+
 /* A check whose policy the compiler doesn't know. */
 static size_t check(const unsigned char *bytes, size_t length, bool strict)
 {
@@ -70,8 +75,9 @@ static const struct {
     {"clean", probes_clean},
     {"check_lenient", check_lenient},
     {"check_strict", check_strict},
+    {"write_in_place", write_in_place},
 };
-enum { CALLS = sizeof calls / sizeof calls[0], TIMED = CALLS - 2 };
+enum { CALLS = sizeof calls / sizeof calls[0], TIMED = CALLS - 3 };
 
 /* The linker sends the library's requests here (--wrap). */
 static unsigned long requests;
