@@ -29,8 +29,10 @@ HEADS = {"chunk", "parameter", "cause", "name", "flags", "length", "payload", "t
 # The words of a block, and the form of a number, where they aren't `key number`.
 WORDS = {
     "tag": "tag {:#010x}", "a_rwnd": "a_rwnd {}", "address": "{}", "indication": "{:#010x}", "increment": "increment {} ms",
-    "sender_next_tsn": "\n    sender's next tsn {}", "receiver_next_tsn": "\n    receiver's next tsn {}",
+    "staleness": "staleness {} us", "sender_next_tsn": "\n    sender's next tsn {}", "receiver_next_tsn": "\n    receiver's next tsn {}",
 }
+# Bytes at the end of a chunk, and what of its length is before them.
+ENDS = {"hmac": 8, "packet": 16}
 
 
 def printed(raw, shown):
@@ -71,7 +73,7 @@ def brief_entry(key, entry):
         code = entry.get("parameter", entry.get("cause"))
         text = ":" + printed(bytes.fromhex(entry["value"]), "") if is_text(entry) else ""
         return entry.get("name", f"{code:#06x}").replace(" ", "_") + text
-    if key == "blocks":
+    if key in ("blocks", "nr_blocks"):
         return str(entry["start"]) + (f"-{entry['end']}" if entry["end"] != entry["start"] else "")
     if "unordered" in entry:
         entry = {**entry, "unordered": "unordered" if entry["unordered"] else "ordered"}
@@ -89,6 +91,8 @@ def brief_chunk(chunk):
             words.append(f"{key}={printed(value, '')}")
         elif key.endswith("_size"):
             words.append(f"size={value}")
+        elif key in ENDS:
+            continue
         elif not is_reliable(chunk, key):
             name = "/" + chunk[key + "_name"] if key + "_name" in chunk else ""
             words.append(f"{key}={value:#010x}" if key == "tag" else f"{key}={value}{name}")
@@ -135,9 +139,9 @@ def block_names(key, entries):
 
 def block_entry(key, entry, is_inside):
     if key in ("parameters", "causes"):
-        return block_item(entry, "cause" if key == "causes" else "parameter")
-    if key == "blocks":
-        return "\n  block {start} to {end}: tsn {first_tsn} to {last_tsn}".format(**entry)
+        return block_item(entry, "cause" if key == "causes" else "parameter").replace("\n", "\n  " if is_inside else "\n")
+    if key in ("blocks", "nr_blocks"):
+        return f"\n  {key[:-1].replace('_', ' ')} " + "{start} to {end}: tsn {first_tsn} to {last_tsn}".format(**entry)
     if key == "types":
         return f"\n    parameter type {entry['parameter']:#06x}"
     if key == "duplicates":
@@ -147,12 +151,16 @@ def block_entry(key, entry, is_inside):
 
 
 def block_field(holder, key, value, before):
+    if key == "middlebox":
+        return ", from a middlebox" if value else ""
     if isinstance(value, bool):
         return f", {key.replace('_', ' ')}" if value else ", ordered" if key == "unordered" else ""
     if key in ("chunk_types", "address_types", "hmacs"):
         return f": {block_names(key, value)}" if value else ""
     if isinstance(value, list):
-        return "".join(block_entry(key, entry, "parameter" in holder) for entry in value)
+        return "".join(block_entry(key, entry, "chunk" not in holder) for entry in value)
+    if key in ENDS:
+        return f"\n  {key}: {size_of(holder['length'] - ENDS[key], value)}"
     if key == "payload_size":
         return f"\n  payload: {size_of(value, holder['payload'])}" + block_text(holder)
     if key == "value_size":

@@ -187,7 +187,7 @@ def differences(mine, theirs, absent):
             a, b = ([it for it in fields if it[0] not in absent] for fields in (a, b))
         elif not whole and at >= min(len(chunks), len(their_chunks)):  # one of them says less of it, or nothing
             a = a[:1] if len(a) == 2 else a
-            a, b = (a if b else b), [it for it in b if it in a]
+            a, b = (a if b else b), [*(collections.Counter(a) & collections.Counter(b)).elements()]
         a, b = collections.Counter(a), collections.Counter(b)
         agreed += (a & b).total()
         if a != b:
