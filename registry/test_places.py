@@ -42,7 +42,7 @@ crates/dcsctp_c/src/parameters.rt = HEARTBEAT = heartbeat_request_chunk::CHUNK_T
 crates/dcsctp_c/specs/Parameter.antt = SSN/TSN Reset Request = number_of (SsnTsnResetRequest number) = Some number
 crates/dcsctp_c/specs/Parameter.antt = No User Data = cause_number_of (NoUserData tsn) = Some tsn
 crates/dump_report/src/chunks.rt = SHUTDOWN COMPLETE = 14 if value.size == 0 =>
-crates/dump_report/src/chunks.rt = SHUTDOWN ACK = 8 |
+crates/dump_report/src/chunks.rt = SHUTDOWN ACK =         8 |
 crates/dump_report/src/parameters.rt = Forward-TSN-Supported = | 0xc000
 crates/dump_report/src/causes.rt = Protocol Violation = | 13
 crates/dump_report/src/fault.rt = RE-CONFIG = | 130
