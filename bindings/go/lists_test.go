@@ -157,14 +157,10 @@ func TestLong(t *testing.T) {
 		equal(t, "info", bytes.Equal(only(t, packet).Parameters().Slice()[0].Value, payload), true)
 	}
 
-	packet := large(t, func(b *davgyuti.Builder) (err error) {
-		err = b.AddChunk(davgyuti.ChunkError, 0, nil)
-		for i := 0; i < 16000 && err == nil; i++ {
-			err = b.AddCause(davgyuti.CauseRestartWithNewAddresses, nil)
-		}
-		return err
-	})
-	equal(t, "longest", len(packet.String()) > 17*len(packet), true)
+	// (the longest text is of causes in a parameter: four bytes each, and a line of 65)
+	value := append(ofHex("00000001 c003 fa08 00000002"), bytes.Repeat(ofHex("00a3 0004"), 16000)...)
+	packet := large(t, func(b *davgyuti.Builder) error { return b.AddChunk(davgyuti.ChunkASCONFAck, 0, value) })
+	equal(t, "longest", len(packet.String()) > 16*len(packet), true)
 
 	reason := strings.Repeat("zu spät, ", 600)
 	packet = large(t,
