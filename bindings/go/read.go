@@ -120,7 +120,7 @@ func (p Packet) Report(policy Policy) (string, error) {
 }
 
 // String returns what Report returns under the zero Policy, and of bytes that are no packet the error's text. (So %x, which is
-// of a string too, has the text in hexadecimal: to have the bytes, format []byte(p).) The text can be more than a megabyte,
+// of a string too, has the text in hexadecimal: to have the bytes, format []byte(p).) The text can be more than a megabyte, almost
 // 16 times the packet.
 func (p Packet) String() string {
 	report, err := p.Report(Policy{})
