@@ -9,7 +9,8 @@
    side gets what the filter makes of that: it has to be what was sent. Each message has to arrive once, and in order.
 
    usrsctp asks this program for the time and for random numbers: so a run depends on its seed alone, and waits for no timer.
-   Only the nanoseconds that are printed differ. That takes the shared libusrsctp, whose calls of gettimeofday and read_random reach the functions here. */
+   Only the nanoseconds that are printed differ. That takes the shared libusrsctp, whose calls of gettimeofday and read_random
+   reach the functions here. */
 #define _GNU_SOURCE
 #include "../../examples/c/filter.c"
 #include "../../examples/c/responder.c"
