@@ -149,6 +149,27 @@ step() {
     report "$name" $?
 }
 
+# Runs a step's command beside what follows. Bash forgets how a process ended once another has its number: so a file says it.
+started=()
+start() {
+    local name=$1
+    shift
+    {
+        "$@" >"$work/$name.log" 2>&1
+        echo $? >"$work/$name.status"
+    } &
+    started+=("$name")
+}
+
+# Waits for the steps that `start` began, and reports them.
+finish() {
+    local name
+    wait
+    for name in "${started[@]}"; do
+        report "$name" "$(cat "$work/$name.status" || echo 1)"
+    done
+}
+
 # Whether these files were built after the last change of a source.
 are_built() {
     local file
@@ -164,20 +185,16 @@ leave_out() {
 }
 
 run_quickly() {
-    local main program programs=() jobs=() i why='what was built is missing, or older than a source'
+    local main program why='what was built is missing, or older than a source'
     for main in crates/*/src/main.rt; do
         program=${main%/src/main.rt} program=${program#crates/}
-        (try_program "$program") >"$work/$program.log" 2>&1 &
-        programs+=("$program") jobs+=($!)
+        start "$program" try_program "$program"
     done
     step comparisons compare
     step 'commands of the pages' tools/commands.py
     step 'code of CALLING.md' tools/examples.py --try
     if command -v node >/dev/null; then step 'scripts of the page' node page/tests/units.mjs; fi
-    for i in "${!jobs[@]}"; do
-        wait "${jobs[i]}"
-        report "${programs[i]}" $?
-    done
+    finish
     if are_built crates/test_rows/out/test_rows crates/sctp_show/out/sctp_show; then
         step 'refused requests' tests/refusals/test.sh
     else
@@ -228,21 +245,18 @@ with() {
 }
 
 run_without_rt() {
-    local cc=${CC:-cc} name texts=
+    local cc=${CC:-cc} name
     mode='without rt'
     with python3 comparisons compare
     # What comes now runs over the texts.
     older=$(changed_crates)
-    if has "$cc x86-64" 'texts of dist'; then
-        dist/test.sh ${library:+--library} >"$work/texts of dist.log" 2>&1 &
-        texts=$!
-    fi
+    if has "$cc x86-64" 'texts of dist'; then start 'texts of dist' dist/test.sh ${library:+--library}; fi
     with "$cc" C tests/c/test.sh 100000
     with "$cc x86-64 python3" 'commands of the pages' tools/commands.py
     for_tool with node 'scripts of the page' node page/tests/units.mjs
     for_tool with 'node python3' page page/test.sh
     for_tool with "$cc x86-64 python3" 'real peers' tests/peers/test.sh
-    [ -z "$texts" ] || { wait $texts; report 'texts of dist' $?; }
+    finish
     for name in 'the proofs, and the rows and tests of the crates' 'refused requests' 'the code of CALLING.md' \
         'whether dist/ and the WebAssembly are what the sources give'; do
         leave_out "$name" 'it takes rt'
