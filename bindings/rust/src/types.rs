@@ -192,13 +192,13 @@ named! {
     /// A parameter of the INIT that its receiver doesn't know, sent back in the INIT ACK (RFC 9260
     /// section 3.3.3.1.2). Its value is bytes here: a parameter.
     UNRECOGNIZED_PARAMETER = 8, "Unrecognized Parameter";
-    /// Asks for a longer life of the State Cookie (RFC 9260 section 3.3.2.1). Its value is bytes
+    /// Asks for a longer life of the State Cookie (RFC 9260 section 3.3.2.1.3). Its value is bytes
     /// here: milliseconds u32.
     COOKIE_PRESERVATIVE = 9, "Cookie Preservative";
-    /// A name in place of addresses, which no sender may use (RFC 9260 section 3.3.2.1). Its value
-    /// is bytes here: a name, and a zero.
+    /// A name in place of addresses, which no sender may use (RFC 9260 section 3.3.2.1.4). Its
+    /// value is bytes here: a name, and a zero.
     HOST_NAME_ADDRESS = 11, "Host Name Address";
-    /// The types of addresses that the sender can use (RFC 9260 section 3.3.2.1). Its value is
+    /// The types of addresses that the sender can use (RFC 9260 section 3.3.2.1.5). Its value is
     /// bytes here: types of parameters u16.
     SUPPORTED_ADDRESS_TYPES = 12, "Supported Address Types";
     /// Resets the SSNs of streams that the sender sends on (RFC 6525 section 4.1).
