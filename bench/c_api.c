@@ -17,14 +17,25 @@
 static const struct dcsctp_policy any = {.any_checksum = true};
 static uint8_t output[1 << 20];
 
-static uint64_t check(const uint8_t *bytes, size_t length)
+/* A packet, and what `write_packet` makes it of. */
+struct packet {
+    uint8_t *bytes;
+    size_t length;
+    struct dcsctp_packet read;
+    struct dcsctp_row *rows;
+    struct dcsctp_data *data; /* of each row that is DATA */
+};
+
+static uint64_t check(const struct packet *p)
 {
-    return dcsctp_check(bytes, length, 0, &any) == DCSCTP_OK;
+    return dcsctp_check(p->bytes, p->length, 0, &any) == DCSCTP_OK;
 }
 
 /* The sum of all numbers of DATA and I-DATA, and of each payload's first byte. */
-static uint64_t walk(const uint8_t *bytes, size_t length)
+static uint64_t walk(const struct packet *p)
 {
+    const uint8_t *bytes = p->bytes;
+    size_t length = p->length;
     struct dcsctp_chunk chunk;
     struct dcsctp_data data;
     uint64_t sum = 1;
@@ -39,23 +50,47 @@ static uint64_t walk(const uint8_t *bytes, size_t length)
     return sum;
 }
 
-static uint64_t canonical(const uint8_t *bytes, size_t length)
+static uint64_t canonical(const struct packet *p)
 {
     size_t size;
-    return dcsctp_canonical(bytes, length, 0, &any, output, sizeof output, &size) == DCSCTP_OK ? size : 0;
+    return dcsctp_canonical(p->bytes, p->length, 0, &any, output, sizeof output, &size) == DCSCTP_OK ? size : 0;
 }
 
-static uint64_t print(const uint8_t *bytes, size_t length)
+/* DATA is written of its fields, any other chunk of its value. */
+static uint64_t write_packet(const struct packet *p)
+{
+    const struct dcsctp_header *header = &p->read.header;
+    size_t size;
+    if (dcsctp_begin(output, sizeof output, &size, header->source_port, header->destination_port, header->verification_tag))
+        return 0;
+    for (size_t i = 0; i < p->read.chunk_count; i++) {
+        const struct dcsctp_chunk *chunk = &p->rows[i].chunk;
+        uint32_t code =
+            chunk->type == DCSCTP_CHUNK_DATA
+                ? dcsctp_add_data(output, sizeof output, &size, &p->data[i], p->bytes + p->data[i].payload_offset,
+                                  p->data[i].payload_size)
+                : dcsctp_add_chunk(output, sizeof output, &size, chunk->type, chunk->flags,
+                                   p->bytes + chunk->value_offset, chunk->value_size);
+        if (code != DCSCTP_OK)
+            return 0;
+    }
+    return size;
+}
+
+static uint64_t print(const struct packet *p)
 {
     size_t size;
-    return dcsctp_print(bytes, length, 0, &any, output, sizeof output, &size) == DCSCTP_OK ? size : 0;
+    return dcsctp_print(p->bytes, p->length, 0, &any, output, sizeof output, &size) == DCSCTP_OK ? size : 0;
 }
 
 static const struct {
     const char *name;
-    uint64_t (*call)(const uint8_t *bytes, size_t length);
-} calls[] = {{"check", check}, {"check and walk", walk}, {"canonical", canonical}, {"print", print}};
-enum { CALLS = sizeof calls / sizeof calls[0] };
+    uint64_t (*call)(const struct packet *p);
+} calls[] = {{"check", check}, {"check and walk", walk}, {"canonical", canonical}, {"write", write_packet}, {"print", print}};
+enum { CALLS = sizeof calls / sizeof calls[0], MOST = 2000 };
+
+static struct packet packets[MOST];
+static size_t count;
 
 static void fail(const char *what, const char *file)
 {
@@ -69,13 +104,6 @@ static double seconds(void)
     clock_gettime(CLOCK_MONOTONIC, &now);
     return (double)now.tv_sec + (double)now.tv_nsec * 1e-9;
 }
-
-enum { MOST = 2000 };
-static struct {
-    uint8_t *bytes;
-    size_t length;
-} packets[MOST];
-static size_t count;
 
 static void load(const char *name)
 {
@@ -92,10 +120,18 @@ static void load(const char *name)
             char digits[] = {line[2 * i], line[2 * i + 1], 0};
             bytes[i] = (uint8_t)strtoul(digits, NULL, 16);
         }
-        packets[count].bytes = bytes;
-        packets[count].length = length;
+        struct packet *packet = &packets[count];
+        *packet = (struct packet){.bytes = bytes, .length = length};
+        dcsctp_read(bytes, length, 0, &any, NULL, 0, &packet->read);
+        packet->rows = calloc(packet->read.chunk_count, sizeof *packet->rows);
+        packet->data = calloc(packet->read.chunk_count, sizeof *packet->data);
+        if (!packet->rows || !packet->data)
+            fail("there is no memory left", name);
+        dcsctp_read(bytes, length, 0, &any, packet->rows, packet->read.chunk_count, &packet->read);
+        for (size_t i = 0; i < packet->read.chunk_count; i++)
+            dcsctp_data(bytes, length, &packet->rows[i].chunk, &packet->data[i]);
         for (int which = 0; which < CALLS; which++)
-            if (calls[which].call(bytes, length) == 0)
+            if (calls[which].call(packet) == 0)
                 fail("a packet is refused", name);
     }
     fclose(file);
@@ -112,7 +148,7 @@ static double rate(int which, double least)
     do {
         uint64_t sum = 0;
         for (size_t i = 0; i < count; i++)
-            sum += calls[which].call(packets[i].bytes, packets[i].length);
+            sum += calls[which].call(&packets[i]);
         sink = sink + sum;
         done += count;
         took = seconds() - begin;
@@ -152,8 +188,11 @@ int main(int words_count, char **words)
             printf(1e9 / best[which] < 99.95 ? " %.1f |" : " %.0f |", 1e9 / best[which]);
         printf("\n");
         fflush(stdout);
-        for (size_t i = 0; i < count; i++)
+        for (size_t i = 0; i < count; i++) {
             free(packets[i].bytes);
+            free(packets[i].rows);
+            free(packets[i].data);
+        }
     }
     return 0;
 }

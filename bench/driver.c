@@ -29,6 +29,7 @@ extern size_t probes_read_and_write(const unsigned char *bytes, size_t length);
 extern size_t probes_write_in_place(const unsigned char *bytes, size_t length, unsigned char *output, size_t room);
 extern size_t probes_write_over(const unsigned char *bytes, size_t length, unsigned char *output, size_t room);
 extern size_t probes_build(const unsigned char *bytes, size_t length);
+extern size_t probes_refill(const unsigned char *block, size_t length, const size_t *sizes, size_t count);
 extern size_t probes_clean(const unsigned char *bytes, size_t length);
 
 static unsigned char output[1 << 16];
@@ -61,23 +62,25 @@ static size_t check_strict(const unsigned char *bytes, size_t length)
     return check(bytes, length, true);
 }
 
-/* Those that are timed, and then those that are only counted. */
+/* Those that are timed, and then those that are only counted. One without a call of its own takes all packets at once. */
+typedef size_t one_packet(const unsigned char *bytes, size_t length);
 static const struct {
     const char *name;
-    size_t (*call)(const unsigned char *bytes, size_t length);
+    one_packet *call;
 } calls[] = {
     {"check", probes_check},
     {"borrowed", probes_walk},
     {"read", probes_read},
+    {"refill", NULL},
     {"read_and_write", probes_read_and_write},
     {"write_over", write_over},
+    {"write_in_place", write_in_place},
     {"build", probes_build},
     {"clean", probes_clean},
     {"check_lenient", check_lenient},
     {"check_strict", check_strict},
-    {"write_in_place", write_in_place},
 };
-enum { CALLS = sizeof calls / sizeof calls[0], TIMED = CALLS - 3 };
+enum { CALLS = sizeof calls / sizeof calls[0], TIMED = CALLS - 2 };
 
 /* The linker sends the library's requests here (--wrap). */
 static unsigned long requests;
@@ -114,9 +117,12 @@ struct packet {
     size_t length;
 };
 
+/* Each has its bytes in the block, where they lie one after the other. */
 struct packets {
     struct packet *list;
     size_t count, bytes;
+    unsigned char *block;
+    size_t *sizes;
 };
 
 static int digit(char c)
@@ -130,7 +136,7 @@ static char line[2 * 65536 + 2], stream_buffer[1 << 16];
 
 static struct packets load(const char *file)
 {
-    struct packets all = {0, 0, 0};
+    struct packets all = {0};
     size_t room = 0;
     FILE *stream = fopen(file, "r");
     if (!stream || setvbuf(stream, stream_buffer, _IOFBF, sizeof stream_buffer))
@@ -160,22 +166,41 @@ static struct packets load(const char *file)
     fclose(stream);
     if (!all.count)
         fail("holds no packet", file);
+    all.block = __real_malloc(all.bytes);
+    all.sizes = __real_malloc(all.count * sizeof *all.sizes);
+    if (!all.block || !all.sizes)
+        fail("memory ran out", file);
+    for (size_t i = 0, at = 0; i < all.count; at += all.sizes[i++]) {
+        all.sizes[i] = all.list[i].length;
+        memcpy(all.block + at, all.list[i].bytes, all.sizes[i]);
+    }
     return all;
+}
+
+static void drop(struct packets *all)
+{
+    for (size_t i = 0; i < all->count; i++)
+        free(all->list[i].bytes);
+    free(all->list);
+    free(all->block);
+    free(all->sizes);
 }
 
 static volatile size_t sink;
 
-static void once(size_t (*call)(const unsigned char *, size_t), const struct packets *all)
+static void once(one_packet *call, const struct packets *all)
 {
     size_t sum = 0;
-    for (size_t i = 0; i < all->count; i++)
-        sum += call(all->list[i].bytes, all->list[i].length);
+    if (call)
+        for (size_t i = 0; i < all->count; i++)
+            sum += call(all->list[i].bytes, all->list[i].length);
+    else
+        sum = probes_refill(all->block, all->bytes, all->sizes, all->count);
     sink += sum;
 }
 
 /* Its own function, whose name bench/instructions.sh gives to callgrind. */
-__attribute__((noinline, noclone)) void counted_round(size_t (*call)(const unsigned char *, size_t),
-                                                      const struct packets *all)
+__attribute__((noinline, noclone)) void counted_round(one_packet *call, const struct packets *all)
 {
     once(call, all);
 }
@@ -214,7 +239,9 @@ int main(int count, char **words)
         for (int k = 0; k < TIMED; k++) {
             unsigned long before = requests;
             zero[k] = 0;
-            for (size_t i = 0; i < all.count; i++)
+            if (!calls[k].call)
+                zero[k] = all.count - probes_refill(all.block, all.bytes, all.sizes, all.count);
+            for (size_t i = 0; i < all.count && calls[k].call; i++)
                 zero[k] += calls[k].call(all.list[i].bytes, all.list[i].length) == 0;
             asked[k] = (double)(requests - before) / (double)all.count;
             best[k] = 1e9;
@@ -237,9 +264,7 @@ int main(int count, char **words)
             printf("%.*s\t%s\t%zu\t%.1f\t%zu\t%.0f\t%.2f\n", size, name, calls[k].name, all.count,
                    (double)all.bytes / (double)all.count, zero[k], 1 / best[k], asked[k]);
         fflush(stdout);
-        for (size_t i = 0; i < all.count; i++)
-            free(all.list[i].bytes);
-        free(all.list);
+        drop(&all);
     }
     return 0;
 }

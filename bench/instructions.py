@@ -14,7 +14,8 @@ import sys
 from report import rows, table
 from traffic import FILES
 
-CALLS = ('check', 'check_lenient', 'check_strict', 'borrowed', 'read', 'read_and_write', 'write_over', 'write_in_place', 'build')
+CALLS = ('check', 'check_lenient', 'check_strict', 'borrowed', 'refill', 'read', 'read_and_write', 'write_over', 'write_in_place',
+         'build')
 # How much of its record a count may be.
 MOST = 1.01
 

@@ -56,7 +56,7 @@ rt version >"$counts/toolchain.txt"
 nm --defined-only $archives | sed -n 's/^[0-9a-f]* [tT] //p' >"$counts/functions.txt"
 
 for file in data_small sack4 init hostile_params hostile_acks; do
-    for call in check check_lenient check_strict borrowed read read_and_write write_over write_in_place build; do
+    for call in check check_lenient check_strict borrowed refill read read_and_write write_over write_in_place build; do
         valgrind --tool=callgrind --toggle-collect=counted_round --demangle=no --compress-strings=no --compress-pos=no \
             --callgrind-out-file="$counts/$file.$call.callgrind" "$out/driver" --count "$call" "$out/traffic/$file.hex" \
             >"$counts/$file.$call.packets" 2>"$out/valgrind.log" || { cat "$out/valgrind.log" >&2; give_up "$call of $file"; }

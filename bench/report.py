@@ -15,12 +15,13 @@ import textwrap
 from traffic import FILES
 
 # Which call of the Rust crate does the same. It has no borrowed reading, and writes by its builder alone.
-COUNTERPARTS = {'borrowed': 'parse', 'read': 'parse', 'read_and_write': 'write', 'build': 'write'}
-CALLS = ('check', 'borrowed', 'read', 'read_and_write', 'write_over', 'build', 'clean')
+COUNTERPARTS = {'borrowed': 'parse', 'refill': 'parse', 'read': 'parse', 'write_in_place': 'write', 'read_and_write': 'write',
+                'build': 'write'}
+CALLS = ('check', 'borrowed', 'refill', 'read', 'write_in_place', 'read_and_write', 'write_over', 'build', 'clean')
 COLUMNS = ('file', 'call', 'packets', 'bytes', 'zero', 'rate', 'requests', 'original_rate', 'original_requests',
            'ratio', 'least_ratio', 'greatest_ratio')
 # What the page shows, and of which files not; the Rust crate's calls come behind `read` and `build`.
-SHOWN, BESIDE = ('check', 'borrowed', 'read', 'read_and_write', 'build'), ('read', 'build')
+SHOWN, BESIDE = ('check', 'borrowed', 'refill', 'read', 'write_in_place', 'read_and_write', 'build'), ('read', 'build')
 CLEANED = {'clean_falling': 'by falling start', 'clean_shuffled': 'in any order', 'clean_overlapping': 'overlapping'}
 LEFT_OUT = ('idata1200', 'sack4', 'init_ack', 'cookie_echo', 'i_forward_tsn', 'abort', 'error', 'handshake')
 

@@ -1,13 +1,19 @@
 -- What the probes return: numbers of the packet that bytes are, whatever its checksum
 -- field holds (RFC 9260 section 3).
-use Rattle.std.specs.Prelude.{◌≡◌, ◌⊎◌, ℕ, List, [], ◌∷◌, ◌++◌, Ok, length, take}
+use Rattle.std.specs.Prelude.{◌≡◌, ◌⊎◌, ℕ, List, [], ◌∷◌, ◌++◌, Ok, length, take, drop}
 use Rattle.dcsctp_chunk.specs.Cover.{Covers, IsRuns}
 use Rattle.dcsctp_chunk.specs.Sack as sack
 use Rattle.dcsctp_chunk.specs.declared.sack_chunk.GapAckBlock.{GapAckBlock}
 use Rattle.dcsctp_wire.specs.Canonical.{canonical}
 use Rattle.dcsctp_wire.specs.Chunk.{ChunkTree, Sack}
-use Rattle.dcsctp_wire.specs.Packet.{Meaning, PacketTree, Answer}
+use Rattle.dcsctp_wire.specs.Packet.{Meaning, PacketTree, Answer, IsPacket}
 use Rattle.bench_probes.specs.declared.TheConstants.{ANY_CHECKSUM}
+
+-- the bytes begin with packets of these sizes, one after the other
+abbrev pub ArePackets : List ℕ → List ℕ → Type 0
+ArePackets bytes [] = Unit {0}
+ArePackets bytes (size ∷ sizes) =
+    IsPacket (take size bytes) 0 ANY_CHECKSUM × ArePackets (drop size bytes) sizes
 
 -- zero, or what a packet gives: the one that the bytes are
 abbrev pub IsZeroOr : (Meaning → ℕ → Type 0) → List ℕ → ℕ → Type 0

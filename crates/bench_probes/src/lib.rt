@@ -6,6 +6,7 @@
 #![tactic(auto)]
 
 mod crc;
+mod kept;
 mod walk;
 
 ghost use Rattle.std.specs.Prelude.{◌≡◌, ◌≢◌, ◌⊎◌, ℕ, [], false, Ok, IfOk, drop};
