@@ -1,10 +1,10 @@
 # SPDX-License-Identifier: Apache-2.0
 """Has peers talk, and compares what each reader says of their packets.
 
-usage: run.py PROGRAM FOLDER
+usage: run.py PROGRAM FOLDER [PION]
 
-PROGRAM is sctp_dump; FOLDER gets a capture of each talk. Used where they are there: chromium, or what CHROMIUM names, with node;
-tshark. Prints what differs, and a last line that counts. Status 0 if nothing does."""
+PROGRAM is sctp_dump; FOLDER gets a capture of each talk; PION is the program of pion/. Used where they are there: chromium, or what
+CHROMIUM names, with node; tshark. Prints what differs, and a last line that counts. Status 0 if nothing does."""
 
 import asyncio
 import contextlib
@@ -18,12 +18,14 @@ from dataclasses import replace
 import davgyuti
 from compare import READERS, write
 from layer import counts, over_the_package
-from talk import Aiortc, Browser, Chromium, Tap, talk
+from talk import Aiortc, Browser, Chromium, Pion, Tap, talk
 
 # Seconds for a talk.
 LIMIT = 60
-# Who offers, and who answers; the first ends it. Then whether aiortc reads and writes its packets by the package.
+# Who offers, and who answers; the first ends it. Then whether aiortc reads and writes its packets by the package; pion does.
 TALKS = [
+    ("pion", "Chromium", True),
+    ("Chromium", "pion", True),
     ("aiortc", "aiortc", False),
     ("Chromium", "aiortc", False),
     ("aiortc", "Chromium", False),
@@ -75,8 +77,19 @@ def change(packets, is_sealed):
     return changed, set(numbers)
 
 
-async def main(program, folder):
+async def called(ends):
+    """How many packets aiortc or pion read and wrote by the package."""
+    for it in ends:
+        if isinstance(it, Pion):
+            return await it.call("counts")
+    return [counts["read"], counts["written"]]
+
+
+async def main(program, folder, pion=None):
     left_out, said = set(lacks()), None
+    if not pion:
+        print("peers: pion: left out, since there is no pion/webrtc, or no go")
+        left_out.add("pion")
     readers = {name: it for name, it in READERS.items() if name not in left_out}
     async with Browser() if "Chromium" not in left_out else contextlib.nullcontext() as browser:
         for *names, is_over in TALKS:
@@ -84,16 +97,22 @@ async def main(program, folder):
                 continue
             name = " to ".join(names) + (", over the package" if is_over else "")
             path = os.path.join(folder, "-".join(names) + ("-package" if is_over else "") + ".pcap")
-            tap = Tap(names.index("aiortc"))
-            ends = [Aiortc(tap) if it == "aiortc" else Chromium(browser) for it in names]
-            try:
-                with over_the_package() if is_over else contextlib.nullcontext():
-                    said = await asyncio.wait_for(talk(tap, *ends), LIMIT)
-            except (asyncio.TimeoutError, RuntimeError) as error:
-                judge(name, [(None, f"the talk doesn't end: {error!r}")])
-                continue
-            if is_over:
-                judge(f"{name}: calls", [] if counts["read"] and counts["written"] else [(None, "aiortc doesn't call the package")])
+            tap = Tap(next(at for at, it in enumerate(names) if it != "Chromium"))
+            made = {"aiortc": lambda: Aiortc(tap), "Chromium": lambda: Chromium(browser), "pion": lambda: Pion(pion, tap)}
+            ends = [made[it]() for it in names]
+            async with contextlib.AsyncExitStack() as programs:
+                for it in ends:
+                    if isinstance(it, Pion):
+                        await programs.enter_async_context(it)
+                try:
+                    with over_the_package() if is_over else contextlib.nullcontext():
+                        said = await asyncio.wait_for(talk(tap, *ends), LIMIT)
+                    said.pion = names.index("pion") if "pion" in names else None
+                except (asyncio.TimeoutError, RuntimeError) as error:
+                    judge(name, [(None, f"the talk doesn't end: {error!r}")])
+                    continue
+                if is_over:
+                    judge(f"{name}: calls", [] if all(await called(ends)) else [(None, "the package isn't called")])
             write(said.packets, path)
             for reader, look in readers.items():
                 judge(f"{name}: {reader}", differences(look, said, program, path))

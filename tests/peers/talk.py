@@ -1,5 +1,5 @@
 # SPDX-License-Identifier: Apache-2.0
-"""Peers of WebRTC, one of them aiortc, that talk over data channels, and a tap that keeps their SCTP packets."""
+"""Peers of WebRTC, one of them aiortc or pion, that talk over data channels, and a tap that keeps their SCTP packets."""
 
 import asyncio
 import collections
@@ -64,10 +64,11 @@ class Talk:
     packets: list
     sent: list  # by peer and channel: the messages
     got: list
+    pion: int | None = None  # the place of pion, if it is a peer
 
 
 class Tap:
-    """Keeps the packets of a peer of aiortc, which offers (0) or answers (1). Where it is lossy, of seven packets with DATA of a
+    """Keeps the packets of a peer of aiortc or pion, which offers (0) or answers (1). Where it is lossy, of seven packets with DATA of a
     channel, or with none, it loses the third, and doubles the sixth. What happens is an event, for those that wait."""
 
     def __init__(self, own):
@@ -83,6 +84,9 @@ class Tap:
         while not holds():
             self.event.clear()
             await self.event.wait()
+
+    async def lose(self, is_lossy):
+        self.is_lossy = is_lossy
 
     def is_settled(self):
         """Whether each end acknowledged all of the other, be it in a SACK that is lost: aiortc may send none after it."""
@@ -109,7 +113,7 @@ class Tap:
         transport._handle_data, transport._send_chunk, transport.transport._send_data = handle_data, send_chunk, send_data
 
     def take(self, data, sender):
-        """Keeps a packet, and says how often it goes on."""
+        """Keeps a packet of aiortc, and says how often it goes on."""
         *header, chunks = parse_packet(data)
         copies = 1
         # (aiortc sends neither of these a second time)
@@ -117,8 +121,13 @@ class Tap:
             kind = sender, next((it.stream_id for it in chunks if isinstance(it, sctp.DataChunk)), None)
             self.counts[kind] += 1
             copies = {3: 0, 6: 2}.get(self.counts[kind] % 7, 1)
-        read, written = (*header, [fields(it) for it in chunks]), (*header, [self.written])
-        packet = Packet(time.time(), sender, data, read, written if sender == self.own else None)
+        self.keep(data, sender, copies, (*header, [self.written]) if sender == self.own else None)
+        return copies
+
+    def keep(self, data, sender, copies, written=None):
+        """Keeps a packet that goes on so often."""
+        *header, chunks = parse_packet(data)
+        packet = Packet(time.time(), sender, data, (*header, [fields(it) for it in chunks]), written)
         self.packets += [packet] * max(copies, 1)
         for it in chunks:
             if isinstance(it, sctp.DataChunk) and (sender not in self.last or uint32_gt(it.tsn, self.last[sender])):
@@ -128,7 +137,6 @@ class Tap:
             elif isinstance(it, sctp.AbortChunk):
                 self.is_aborted = True
         self.look()
-        return copies
 
 
 class Aiortc:
@@ -184,52 +192,58 @@ class Aiortc:
         await self.connection.close()
 
 
-class Browser:
-    """Chromium with the page peer.html."""
+class Program:
+    """A program that is asked by lines of JSON, [number, words..], and answers each by one: [number, value, error]."""
+
+    def __init__(self, *command):
+        self.command = command
 
     async def __aenter__(self):
-        pipe, script = asyncio.subprocess.PIPE, os.path.join(HERE, "chromium.mjs")
-        self.node = await asyncio.create_subprocess_exec("node", script, stdin=pipe, stdout=pipe, limit=1 << 26)
+        pipe = asyncio.subprocess.PIPE
+        self.process = await asyncio.create_subprocess_exec(*self.command, stdin=pipe, stdout=pipe, limit=1 << 26)
         self.numbers, self.answers, self.reader = itertools.count(), {}, asyncio.create_task(self.read())
         return self
 
     async def __aexit__(self, *_):
-        self.node.stdin.close()
+        self.process.stdin.close()
         await self.reader
-        await self.node.wait()
+        await self.process.wait()
 
     async def read(self):
-        while line := await self.node.stdout.readline():
-            number, *answer = json.loads(line)
-            self.answers.pop(number).set_result(answer)
+        while line := await self.process.stdout.readline():
+            said = json.loads(line)
+            if isinstance(said, dict):
+                self.note(**said)
+            else:
+                number, *answer = said
+                self.answers.pop(number).set_result(answer)
 
-    async def ask(self, expression):
+    async def ask(self, *words):
         number, answer = next(self.numbers), asyncio.get_running_loop().create_future()
         self.answers[number] = answer
-        self.node.stdin.write(json.dumps([number, expression]).encode() + b"\n")
+        self.process.stdin.write(json.dumps([number, *words]).encode() + b"\n")
         await asyncio.wait([answer, self.reader], return_when=asyncio.FIRST_COMPLETED)
-        value, *error = answer.result() if answer.done() else [None, "Chromium ended"]
+        value, *error = answer.result() if answer.done() else [None, f"{self.command[0]} ended"]
         if error:
             raise RuntimeError(*error)
         return value
 
 
-class Chromium:
-    """A peer in the page, which does the same."""
+class Browser(Program):
+    """Chromium with the page peer.html."""
 
-    def __init__(self, browser):
-        self.browser, self.name = browser, f"peer{next(browser.numbers)}"
+    def __init__(self):
+        super().__init__("node", os.path.join(HERE, "chromium.mjs"))
 
-    async def call(self, method, *given):
-        return await self.browser.ask(f"{self.name}.{method}({', '.join(map(json.dumps, given))})")
 
-    async def offer(self, channels):
-        await self.browser.ask(f"void ({self.name} = new Peer())")
-        return await self.call("offer", channels)
+class Asked:
+    """A peer that is asked by lines, in a text and bytes in hexadecimal."""
 
     async def answer(self, sdp):
-        await self.browser.ask(f"void ({self.name} = new Peer())")
         return await self.call("answer", sdp)
+
+    async def offer(self, channels):
+        return await self.call("offer", channels)
 
     async def accept(self, sdp):
         await self.call("accept", sdp)
@@ -241,7 +255,7 @@ class Chromium:
         await self.call("send", label, [it if isinstance(it, str) else [it.hex()] for it in messages])
 
     async def received(self):
-        got = await self.browser.ask(f"{self.name}.got")
+        got = await self.call("received")
         return {label: [it if isinstance(it, str) else bytes.fromhex(*it) for it in all] for label, all in got.items()}
 
     async def close(self, label):
@@ -249,6 +263,32 @@ class Chromium:
 
     async def end(self):
         await self.call("end")
+
+
+class Pion(Asked, Program):
+    """pion over the Go package (pion/), whose packets are taken there."""
+
+    def __init__(self, command, tap):
+        super().__init__(command)
+        self.tap, self.call = tap, self.ask
+        tap.lose = lambda is_lossy: self.call("lossy", is_lossy)
+
+    def note(self, packet, is_sent, copies):
+        self.tap.keep(bytes.fromhex(packet), self.tap.own if is_sent else 1 - self.tap.own, copies)
+
+
+class Chromium(Asked):
+    """A peer in the page, which does the same."""
+
+    def __init__(self, browser):
+        self.browser, self.name = browser, f"peer{next(browser.numbers)}"
+        self.is_made = False
+
+    async def call(self, method, *given):
+        if not self.is_made:
+            self.is_made = True
+            await self.browser.ask(f"void ({self.name} = new Peer())")
+        return await self.browser.ask(f"{self.name}.{method}({', '.join(map(json.dumps, given))})")
 
 
 async def talk(tap, one, other):
@@ -276,9 +316,9 @@ async def talk(tap, one, other):
     # (at FORWARD-TSN aiortc 1.4 loses what it has of messages in several chunks, reliable ones too)
     await exchange(RELIABLE, 0, 1, 1200, 60000)
     await exchange(PARTIAL, 0, 1, 1200)
-    tap.is_lossy = True
+    await tap.lose(True)
     await exchange(list(CHANNELS), *[1000] * 14)
-    tap.is_lossy = False
+    await tap.lose(False)
     await asyncio.gather(one.close(RELIABLE[0]), other.close(RELIABLE[1]))
     await all_reach("closed", RELIABLE)
     got = [await it.received() for it in ends]

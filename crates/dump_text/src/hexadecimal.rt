@@ -67,7 +67,7 @@ fn put_digits(text: &mut [u8], place: usize, byte: u8)
 }
 
 /// Writes bytes of ASCII.
-fn write_ascii<W: fmt::Write>(bytes: &[u8], f: &mut fmt::Formatter<W>) -> fmt::Result
+pub(crate) fn write_ascii<W: fmt::Write>(bytes: &[u8], f: &mut fmt::Formatter<W>) -> fmt::Result
     requires { All (λ byte. byte < 128) bytes.now }
     ensures { WritesOnOk W.write_str_gives f.old result bytes.now f.new }
 {

@@ -4,7 +4,7 @@ ghost use Rattle.std.specs.Prelude.{◌≡◌, Some, ◌<◌, ◌≤◌, ◌+◌
 ghost use Rattle.std.specs.Fmt.{WritesOnOk};
 ghost use Rattle.dump_text.specs.Printed.{escape, is_hidden, is_character, is_shown, printed, shown_size, size_from};
 
-use crate::hexadecimal::{digit, write_utf8};
+use crate::hexadecimal::{digit, write_ascii, write_utf8};
 use std::fmt;
 
 /// The most bytes of a character after its first.
@@ -53,7 +53,7 @@ fn write_printed<W: fmt::Write>(
         if size > 0 {
             at += size;
         } else {
-            write_utf8(&bytes[start..at], f)?;
+            write_shown(&bytes[start..at], f)?;
             write_escape(bytes[at], f)?;
             at += 1;
             start = at;
@@ -62,11 +62,21 @@ fn write_printed<W: fmt::Write>(
     write_utf8(&bytes[start..], f)
 }
 
+/// Writes the characters between two escapes, if there are any.
+fn write_shown<W: fmt::Write>(bytes: &[u8], f: &mut fmt::Formatter<W>) -> fmt::Result
+    ensures { WritesOnOk W.write_str_gives f.old result bytes.now f.new }
+{
+    if bytes.is_empty() {
+        return Ok(());
+    }
+    write_utf8(bytes, f)
+}
+
 /// Writes a byte's escape.
 fn write_escape<W: fmt::Write>(byte: u8, f: &mut fmt::Formatter<W>) -> fmt::Result
     ensures { WritesOnOk W.write_str_gives f.old result (escape byte) f.new }
 {
-    write_utf8(&[b'\\', b'x', digit(byte / 16), digit(byte % 16)], f)
+    write_ascii(&[b'\\', b'x', digit(byte / 16), digit(byte % 16)], f)
 }
 
 /// Returns the size of the character at the front, if it is shown, or else 0.

@@ -28,7 +28,7 @@ loop-at-preserved g c =
       within = omega arith;
       so_far = λ plain.
           let now = c.loop-at.invariant.so_far plain in
-          let text = c.write_utf8.ensures now.1.plain (search rules) in
+          let text = c.write_shown.ensures now.1.plain (search rules) in
           let rest = c.write_escape.ensures text.plain (search rules) in (
             (now.0 ++ slice_range c.args.bytes.now c.loop-at.start c.loop-at.at)
                 ++ escape (get_or c.args.bytes.now c.loop-at.at 0),
@@ -41,7 +41,7 @@ pub returns : goal.returns
 returns g c = λ plain ok.
     let now = c.loop-at.invariant.so_far plain in
     let at_end : c.loop-at.at ≡ length c.args.bytes.now = omega arith in
-    let last = c.write_utf8-2.ensures now.1.plain ok in
+    let last = c.write_utf8.ensures now.1.plain ok in
     has_written_of_eq _ _ _ _ _
     (all_printed _ _ now.0 c.loop-at.start (rw at_end at now.2))
     (has_written_append _ _ _ _ _ _ now.1 last)
