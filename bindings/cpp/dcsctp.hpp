@@ -4,7 +4,7 @@
 // What is read is a view: it owns nothing, and the bytes have to outlive it. Whatever the bytes are, reading them is
 // defined: what isn't there is std::nullopt, an empty range or an empty view, never an exception. Only chunk_fault,
 // read_chunk, and functions whose result or argument is a std::string or a std::vector allocate, or throw, and that
-// std::bad_alloc alone; the library itself allocates in packet::canonical and packet::print, and returns
+// std::bad_alloc alone; the library itself allocates in packet::print and packet::print_to, and returns
 // result_code::no_memory.
 //
 //   dcsctp::packet packet(bytes);

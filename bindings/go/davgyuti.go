@@ -61,8 +61,8 @@ import (
 )
 
 // A Code says why a call failed; it is an error, and what errors.Is compares an error of this package with. The faults of
-// bytes are returned in an *Error, by Packet's Check, Print, Report and Canonical. All else is returned as a Code alone: by
-// these ErrNoMemory and ErrTooLong, and each error of Seal, SetTag, Begin and the methods of a Builder.
+// bytes are returned in an *Error, by Packet's Check, Print, Report and Canonical. All else is returned as a Code alone:
+// ErrNoMemory by Print, ErrTooLong by Canonical, and each error of Seal, SetTag, Begin and the methods of a Builder.
 type Code uint32
 
 // The codes: the faults of bytes that are no packet, and why nothing was written.

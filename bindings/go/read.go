@@ -131,7 +131,7 @@ func (p Packet) String() string {
 }
 
 // Canonical returns the canonical packet, in memory of its own: two packets have the same one if and only if they mean the
-// same. Its checksum is 0. The error is that of Check, ErrNoMemory or ErrTooLong.
+// same. Its checksum is 0. The error is that of Check, or ErrTooLong.
 func (p Packet) Canonical(policy Policy) ([]byte, error) {
 	return p.write(policy, func(word C.uint32_t, output []byte) C.struct_go_result {
 		return C.go_canonical(bytesOf(p), C.size_t(len(p)), word, policy.c(p), bytesOf(output), C.size_t(len(output)))

@@ -401,15 +401,15 @@ static void replaced_texts(void)
     }
 }
 
-/* Refuses each request in turn. The last turn is the one in which there is no such request. */
-static void refusals(writer *write)
+/* Refuses each request of dcsctp_print in turn. The last turn is the one in which there is no such request. */
+static void refusals(void)
 {
     unsigned most;
     for (refused_request = 1;; refused_request++) {
         size_t size = 7;
         requests = 0;
         fill_output();
-        uint32_t code = write(packet, LENGTH, 0, &any, output, sizeof output, &size);
+        uint32_t code = dcsctp_print(packet, LENGTH, 0, &any, output, sizeof output, &size);
         most = refused_request;
         if (code == DCSCTP_OK && requests < refused_request)
             break;
@@ -422,7 +422,7 @@ static void refusals(writer *write)
     /* a fault comes before any request */
     size_t size = 7;
     requests = 0;
-    CHECK(write(packet, LENGTH, 1, &exact, output, sizeof output, &size) == DCSCTP_FAULT_CHECKSUM && requests == 0);
+    CHECK(dcsctp_print(packet, LENGTH, 1, &exact, output, sizeof output, &size) == DCSCTP_FAULT_CHECKSUM && requests == 0);
 }
 
 /* ---- reading the parts of a packet */
@@ -1274,16 +1274,15 @@ int main(void)
     largest();
     clean_blocks();
     names();
+    sizes_and_policies();
+    replaced_texts();
+    outputs(dcsctp_canonical);
     outputs(dcsctp_report);
     CHECK(requests == 0); /* none of these functions allocates */
     nothing();
     captured_outputs();
-    sizes_and_policies();
-    replaced_texts();
-    outputs(dcsctp_canonical);
     outputs(dcsctp_print);
-    refusals(dcsctp_canonical);
-    refusals(dcsctp_print);
+    refusals();
     CHECK(held == 0);
     printf("edge: %u passed, %u failed\n", passed, failed);
     return failed > 0;

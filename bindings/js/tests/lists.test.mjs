@@ -144,10 +144,11 @@ test('where memory is full', () => {
       for (let block; (block = call('malloc', size)) !== 0n;)
         taken.push(block);
     }
-    // The package has its blocks, and the library none: a report needs none.
+    // The package has its blocks, and the library none: a report and a canonical packet need none.
     let refusals = 0;
     for (; ;) {
       assert.deepEqual(own.report(packet), known[2][1]);
+      assert.deepEqual(own.canonical(packet), known[0][1]);
       own.check(packet);
       assert.throws(() => own.check(packet.subarray(0, 15)), { code: Result.FAULT_SIZE });
       try {
@@ -160,7 +161,6 @@ test('where memory is full', () => {
       }
     }
     assert.ok(refusals > 0);
-    assert.deepEqual(own.canonical(packet), known[0][1]);
     assert.throws(() => own.word(new Uint8Array(1 << 20)), noMemory);
     assert.throws(() => new own.Builder(PORTS).addCookieEcho(new Uint8Array(1 << 20)), noMemory);
     taken.forEach(block => call('free', block));

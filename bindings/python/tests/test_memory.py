@@ -69,8 +69,8 @@ class Memory(unittest.TestCase):
                 except MemoryError:
                     refusals += 1
             self.assertEqual(found, expected)
-            # (report asks for no memory)
-            self.assertEqual(refusals > 0, name != "report")
+            # (only text asks for memory)
+            self.assertEqual(refusals > 0, name == "text")
             for at in range(refusals):
                 granted.value = at
                 self.assertRaises(MemoryError, getattr(package, name), data)

@@ -322,8 +322,8 @@ impl<'a> Packet<'a> {
 
     /// Writes the canonical packet to the front of `output`, and returns it: a checksum of zero,
     /// padding of zeros, zeros in reserved bits, and else the same. Two packets have the same one
-    /// if and only if they mean the same. [Seal](seal) it before you send it. This calls C's
-    /// `malloc`, `realloc` and `free`, also without the feature `alloc`.
+    /// if and only if they mean the same. [Seal](seal) it before you send it. This allocates
+    /// nothing.
     ///
     /// ```
     /// # let bytes = *b"\x13\x88\x13\x88\x4d\x2d\xf5\x2d\x67\xdb\x78\xb5\x0b\0\0\x04";
@@ -335,7 +335,7 @@ impl<'a> Packet<'a> {
     /// ```
     ///
     /// # Errors
-    /// Any [`OutputError`]; `output` stays as it is.
+    /// [`OutputError::NoRoom`] or [`OutputError::TooLong`]; `output` stays as it is.
     #[doc(alias = "dcsctp_canonical")]
     pub fn write_canonical<'b>(&self, output: &'b mut [u8]) -> Result<&'b mut [u8], OutputError> {
         let size = self.write(ffi::dcsctp_canonical, output)?;
@@ -391,7 +391,7 @@ impl<'a> Packet<'a> {
     }
 
     /// Returns what [`write_canonical`](Self::write_canonical) writes. This needs the feature
-    /// `alloc`, and calls C's `malloc` besides.
+    /// `alloc`, and calls no `malloc` but that of the `Vec`, if the program's allocator does.
     ///
     /// ```
     /// # let bytes = *b"\x13\x88\x13\x88\x4d\x2d\xf5\x2d\x67\xdb\x78\xb5\x0b\0\0\x04";

@@ -71,13 +71,8 @@ fn refusals() {
             result
         });
         assert_eq!((&output[..size], requests > 0), (text.as_bytes(), true));
-        output.fill(0xaa);
-        let (size, requests) = refused(|| {
-            let result = packet.write_canonical(&mut output).map(|it| it.len());
-            assert!(result.is_ok() || output == [0xaa; 8192]);
-            result
-        });
-        assert_eq!((&output[..size], requests > 0), (&canonical[..], true));
+        let written = refused(|| packet.write_canonical(&mut output).map(|it| it.len()));
+        assert_eq!(written, (canonical.len(), 0));
         let written = refused(|| packet.write_report(&mut output).map(str::len));
         assert_eq!(written, (report.len(), 0));
 
@@ -91,7 +86,7 @@ fn refusals() {
 
         // One request more is that of the Vec or the String.
         assert!(refused(|| packet.to_text()).0 == text);
-        assert!(refused(|| packet.to_canonical()).0 == canonical);
+        assert_eq!(refused(|| packet.to_canonical()), (canonical, 1));
         assert_eq!(refused(|| packet.to_report()), (report, 1));
     }
 }

@@ -1,8 +1,8 @@
 -- The canonical packet is what the chunks of a packet are written as again, over zeros.
-use Rattle.std.{proofs.Common.{◌≡◌, ℕ, ◌+◌, ◌-◌, ◌≤◌, Option, List, [], ◌∷◌, ◌++◌, length, replicate, refl, sym, ap, ◌∙◌, append_assoc, arith, append-nil}, specs.List.{AllByRecursion, flat_map}}
+use Rattle.std.{proofs.Common.{◌≡◌, ◌≢◌, ℕ, ◌+◌, ◌-◌, ◌^◌, ◌<◌, ◌≤◌, Option, List, [], ◌∷◌, ◌++◌, length, take, replicate, refl, sym, ap, subst, ◌∙◌, append_assoc, arith, append-nil}, specs.List.{AllByRecursion, flat_map}, proofs.Math.Seq.{take-append_seam}}
 use Rattle.dcsctp_tlv.{specs.Frame.{lenient, round_up_to_4}, specs.Image.{zeroed, gap, holes, written, size_of, image_of, IsEncodable, list_image, list_size}, specs.Level.{MeansSome}, specs.Number.{AreBytes}, proofs.Forms.{list_formed}, proofs.Images.{length-list_image, written-zeros, zeroed-append, zeroed-holes}, proofs.ReadsBack.{each_encodable}}
-use Rattle.dcsctp_wire.{specs.Chunk.{ChunkTree, ForwardTsn, IForwardTsn, chunks, tlv as chunk_tlv, IsPlaced, IsChunkEncodable, IsWellFormed}, specs.Packet.{Meaning, PacketTree}, specs.Canonical.{canonical, padded_chunk, padded_size, Fits}, proofs.Canonicals.{padded_size-is, length-chunk}, proofs.ChunkRows.{chunks_form}}
-use Rattle.dcsctp_borrowed.{specs.declared.packet_ref.SctpPacketRef.{SctpPacketRef}, specs.PacketRef.{RefersTo}, specs.RawChunks.{MeanChunks}, specs.Rewritten.{item_again, items_of, again_size, chunk_again}, proofs.ItemsAgain.{list_again}, proofs.ChunksAgain.{each_chunk}}
+use Rattle.dcsctp_wire.{specs.Chunk.{ChunkTree, ForwardTsn, IForwardTsn, chunks, tlv as chunk_tlv, IsPlaced, IsChunkEncodable, IsWellFormed}, specs.Packet.{Meaning, PacketTree}, specs.Canonical.{canonical, padded_chunk, padded_size, Fits, HasCanonical, IsCanonicalOf}, proofs.Canonicals.{padded_size-is, length-chunk, canonical_of}, proofs.ChunkRows.{chunks_form}}
+use Rattle.dcsctp_borrowed.{specs.declared.packet_ref.SctpPacketRef.{SctpPacketRef}, specs.PacketRef.{RefersTo}, specs.RawChunks.{MeanChunks}, specs.Rewritten.{item_again, items_of, again_size, chunk_again}, proofs.ItemsAgain.{list_again}, proofs.ChunksAgain.{each_chunk}, proofs.Widths.{chunks_fit}}
 
 -- a list's image over zeros is the chunks with their padding
 joined : (ts : List ChunkTree) → zeroed (list_image chunk_tlv ts)
@@ -97,3 +97,31 @@ module _ (bytes : List ℕ) (ts : List ChunkTree) (fits : AreBytes bytes)
   -- and only then
   pub size_fits : (m : Meaning) → m.chunks ≡ ts → Fits m → again_size chunk_again bytes ≤ 65520
   size_fits m e f = omega (arith, f.whole, size_is, ap padded_size e)
+
+-- ---- a packet that fits has a canonical packet
+
+pub has_canonical : (r : SctpPacketRef) (p : PacketTree) → RefersTo r p
+    → r.common_header.source_port < 2 ^ 16 → r.common_header.destination_port < 2 ^ 16
+    → r.common_header.verification_tag < 2 ^ 32 → AreBytes r.chunks → p.meaning.chunks ≢ []
+    → Fits p.meaning → HasCanonical p.meaning
+has_canonical r p ref source destination tag fits some whole = record {
+  width = record {
+    source = rw (← ref.source) source;
+    destination = rw (← ref.destination) destination;
+    tag = rw (← ref.tag) tag;
+    each = chunks_fit r.chunks p.meaning.chunks fits ref.chunks;
+  };
+  formed = record {
+    each = list_formed (chunks lenient) IsWellFormed chunks_form r.chunks p.meaning.chunks ref.chunks;
+    some = some;
+  };
+  fits = whole;
+}
+
+-- and what is written of it is that of no other meaning
+pub written_of : (m : Meaning) (n : ℕ) (output rest : List ℕ) → HasCanonical m
+    → n ≡ length (canonical m) → output ≡ canonical m ++ rest → IsCanonicalOf m (take n output)
+written_of m n output rest has size is =
+    subst (IsCanonicalOf m) (sym (ap (λ (k : ℕ). take k output) size
+    ∙ ap (take (length (canonical m))) is ∙ take-append_seam (canonical m) rest))
+    (canonical_of m has)

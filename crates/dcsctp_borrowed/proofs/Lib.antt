@@ -19,4 +19,5 @@ pub mod PutsAgain
 pub mod PlainAgain
 pub mod ItemsAgain
 pub mod ChunksAgain
+pub mod Widths
 pub mod CanonicalAgain

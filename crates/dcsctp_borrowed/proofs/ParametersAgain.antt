@@ -177,7 +177,7 @@ all_words value n size fits =
     ∙ take_all (4 * n) value (omega (arith, size))
 
 -- the response with these next TSNs
-response_with : List ℕ → Option ℕ → Option ℕ → ReconfigurationResponseResult → response.Tree
+unfoldable pub response_with : List ℕ → Option ℕ → Option ℕ → ReconfigurationResponseResult → response.Tree
 response_with value sender receiver result = record {
   response = number32 value;
   result = result;

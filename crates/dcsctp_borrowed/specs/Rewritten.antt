@@ -1,6 +1,8 @@
 -- What an item of a packet is written as again, of its own bytes (RFC 9260 sections 3.2, 3.2.1 and
--- 3.3.10): as what it means is written in the canonical packet. Only private functions cite it, so
--- nothing here has to be believed.
+-- 3.3.10): as what it means is written in the canonical packet. Zeros replace the reserved bytes of
+-- I-DATA and I-FORWARD-TSN (RFC 8260 sections 2.1 and 2.3.1) and of the requests for more streams
+-- (RFC 6525 sections 4.5 and 4.6). Only private functions cite it, so nothing here has to be
+-- believed.
 use Rattle.std.specs.{Prelude.{◌≡◌, Bool, true, false, ◌<◌, ◌==◌, ◌||◌, ◌%◌, ℕ, zero, suc, List, [], ◌∷◌, ◌++◌, if◌then◌else◌, length, take, drop, slice_index}, List.{flat_map}, Int.{w16, from_be_bytes}}
 use Rattle.dcsctp_tlv.{specs.Fields.{fields}, specs.Frame.{Item, frame_rest}, specs.Image.{Tlv, solid_tlv, listed_tlv, list_size}, specs.Number.{AreBytes}, specs.Length.{length-solid}, proofs.Items.{front_item}, proofs.Lengths.{length-image_of}, proofs.Listed.{listed_sized}}
 use Rattle.dcsctp_chunk.specs.SkippedStreams.{stream_count}

@@ -1,13 +1,14 @@
 //! The canonical packet, written of the bytes that mean it: nothing is built or allocated.
 
-ghost use Rattle.std.specs.{Prelude.{◌≡◌, ◌≤◌, ◌<◌, ◌+◌, ◌*◌, ◌^◌, ◌++◌, ℕ, List, [], IfOk, IfErr, IsErrOf, length, take, drop}, Int.{w16, from_be_bytes}};
+ghost use Rattle.std.specs.{Prelude.{◌≡◌, ◌≢◌, ◌≤◌, ◌<◌, ◌+◌, ◌*◌, ◌^◌, ◌++◌, ℕ, List, [], IfOk, IfErr, IsErrOf, length, take, drop}, Int.{w16, from_be_bytes}};
 ghost use Rattle.dcsctp_tlv.specs.{Frame.{frame_length}, Image.{Tlv, Sizes, size_of, image_of, solid_tlv, put, written, list_image}};
 ghost use Rattle.dcsctp_chunk.specs.SkippedStreams.{stream_count};
 ghost use Rattle.dcsctp_cause.specs.Text.{text_or};
-ghost use Rattle.dcsctp_wire.specs.{Canonical.{canonical, Fits}, Packet.{PacketTree}};
+ghost use Rattle.dcsctp_wire.specs.{Canonical.{canonical, Fits, IsCanonicalOf}, Packet.{PacketTree}};
 ghost use Rattle.dcsctp_borrowed.specs.{PacketRef.{RefersTo}, Rewritten.{Again, IsSized, item_again, items_of, again_size, listed_again, parameter_again, cause_again, chunk_again, parameter_sized, cause_sized, chunk_sized, without_reserved, cause_value, flags_again, value_again, streams_again}};
 ghost use Rattle.dcsctp_borrowed.specs.declared.canonical.CanonicalError.TheVariants.{DoesNotFit, NoRoom};
 
+use crate::laws::has_canonical;
 use crate::packet_ref::SctpPacketRef;
 use dcsctp_tlv::frame::{
     MAX_VALUE_SIZE, TLV_HEADER_SIZE, put_bytes, put_header, put_solid, split_frame,
@@ -57,17 +58,21 @@ pub fn canonical_size(packet: &SctpPacketRef) -> Option<usize>
 /// `canonical_bytes` returns of the packet that `SctpPacket::from_bytes` reads. Does not allocate.
 ///
 /// `DoesNotFit` if and only if it doesn't fit; then `NoRoom` if and only if it has more bytes than
-/// `output`. The bytes after it stay, and an error changes nothing.
+/// `output`. The bytes after it stay, and an error changes nothing. Two packets with a chunk have
+/// the same one if and only if they mean the same.
 pub fn write_canonical(packet: &SctpPacketRef, output: &mut [u8]) -> Result<usize, CanonicalError>
     ensures written { IfOk result (λ n. (p : PacketTree) → RefersTo packet.now p
         → (Fits p.meaning) × (n ≡ length (canonical p.meaning))
         × (output.new ≡ canonical p.meaning ++ drop n output.old)) }
+    ensures one { IfOk result (λ n. (p : PacketTree) → RefersTo packet.now p
+        → p.meaning.chunks ≢ [] → IsCanonicalOf p.meaning (take n output.new)) }
     ensures too_long { IsErrOf result DoesNotFit → (p : PacketTree) → RefersTo packet.now p
         → ¬ Fits p.meaning }
     ensures no_room { IsErrOf result NoRoom → (p : PacketTree) → RefersTo packet.now p
         → (Fits p.meaning) × (length output.old < length (canonical p.meaning)) }
     ensures stays { IfErr result (λ _. output.new ≡ output.old) }
 {
+    has_canonical(packet);
     let chunks = packet.chunks.bytes();
     let Some(size) = canonical_size(packet) else {
         return Err(CanonicalError::DoesNotFit);
@@ -91,7 +96,7 @@ pub fn write_canonical(packet: &SctpPacketRef, output: &mut [u8]) -> Result<usiz
 trait Rewrite {
     ghost again: { Again };
 
-    /// Returns how many bytes the item has; `None` if two bytes can't hold this.
+    /// Returns how many bytes the item has; `None` if and only if two bytes can't hold this.
     fn size(first: u8, second: u8, value: &[u8]) -> Option<usize>
         ensures { Sizes result (size_of (again first second value.now) < 2 ^ 16)
             (size_of (again first second value.now)) };
@@ -106,7 +111,7 @@ trait Rewrite {
 }
 
 /// Returns how many bytes the items have that lie in the bytes, without padding after the last;
-/// `None` if two bytes can't hold this.
+/// `None` if and only if two bytes can't hold this.
 fn items_size<R: Rewrite>(list: &[u8]) -> Option<usize>
     ensures { Sizes result (again_size R.again list.now < 2 ^ 16) (again_size R.again list.now) }
 {
@@ -155,7 +160,8 @@ fn length_field(bytes: &[u8]) -> u16
     read_u16_be(&bytes[2..])
 }
 
-/// Returns the size of an item whose value has this size; `None` if two bytes can't hold it.
+/// Returns the size of an item whose value has this size; `None` if and only if two bytes can't
+/// hold it.
 fn item_size(value_size: usize) -> Option<usize>
     ensures { Sizes result (4 + value_size < 2 ^ 16) (4 + value_size) }
 {
@@ -165,7 +171,8 @@ fn item_size(value_size: usize) -> Option<usize>
     Some(TLV_HEADER_SIZE + value_size)
 }
 
-/// Returns the size of an item with a list after `leading`; `None` if two bytes can't hold it.
+/// Returns the size of an item with a list after `leading`; `None` if and only if two bytes can't
+/// hold it.
 fn listed_size<R: Rewrite>(typ: u8, flags: u8, leading: &[u8], list: &[u8]) -> Option<usize>
     requires { length leading.now ≤ MAX_VALUE_SIZE }
     ensures { Sizes result
@@ -358,7 +365,7 @@ fn kept_flags(typ: u8, flags: u8) -> u8
     }
 }
 
-/// Returns the size of INIT or INIT ACK; `None` if two bytes can't hold it.
+/// Returns the size of INIT or INIT ACK; `None` if and only if two bytes can't hold it.
 fn init_size(typ: u8, flags: u8, value: &[u8]) -> Option<usize>
     ensures { Sizes result
         (size_of (listed_again parameter_again typ flags (take 16 value.now) (drop 16 value.now))

@@ -3,9 +3,10 @@
 //! A packet that was checked is a header and an iterator over its chunks, which can't fail; user
 //! data, a SACK, skipped streams, parameters and those of RE-CONFIG, error causes, the types of
 //! missing parameters, a cookie and a heartbeat's info are read where they lie. What is read here
-//! is what `dcsctp_wire` builds, by the same clauses; and `canonical` writes the canonical packet
-//! that it writes. Of a packet that may have been cut off, `part` reads the items that are there.
-//! `packet_buf` has a packet that owns its bytes, which alone takes memory.
+//! is what `dcsctp_wire` builds, by the same clauses. `canonical` writes the canonical packet of a
+//! packet in place, which is that of what `dcsctp_wire` builds of it, and the same for two packets
+//! if and only if they mean the same. Of a packet that may have been cut off, `part` reads the
+//! items that are there. `packet_buf` has a packet that owns its bytes, which alone takes memory.
 #![tactic(auto)]
 
 pub mod canonical;

@@ -1,7 +1,7 @@
 -- The code is that of the grammar's answer, and what is written is a form of the packet.
-use Rattle.std.proofs.{Common.{◌≡◌, ◌∙◌, ℕ, List, Result, Ok, Err, inl, inr, refl, sym, subst, ap, length, take, drop}, Math.Seq.{take-append_seam}}
+use Rattle.std.proofs.Common.{◌≡◌, ◌≢◌, ◌∙◌, ℕ, List, [], Result, Ok, Err, inl, inr, refl, sym, subst, ap}
 use Rattle.dcsctp_tlv.specs.{Fault.{Length, Value, Padding}, Number.{AreBytes}, Reading.{Answers, Exactly, Counted}, declared.error.ChunkParseError.TheVariants.{OutOfMemory}}
-use Rattle.dcsctp_wire.{specs.Account.{node_count}, specs.Packet.{PacketTree, PacketFault, Size, Checksum, Chunk, Placed, Answer, IsPacket, packet_error_of, packet_checking, packet_reading, packet_view}, specs.Place.{PacketLocated, packet_locating}, specs.declared.packet.first_fault.FirstFault.{FirstFault}, specs.declared.packet.sctp_packet.ChecksumPolicy.{ChecksumPolicy}, specs.declared.packet.sctp_packet.PacketParseError.{PacketParseError}, specs.declared.packet.sctp_packet.PacketParseError.TheVariants.{FailedParseChunk}, proofs.PacketChecks.{packet_single}}
+use Rattle.dcsctp_wire.{specs.Account.{node_count}, specs.Packet.{PacketTree, PacketFault, Size, Checksum, Chunk, Placed, Answer, IsPacket, packet_error_of, packet_checking, packet_reading, packet_view}, specs.Place.{PacketLocated, packet_locating}, specs.declared.packet.first_fault.FirstFault.{FirstFault}, specs.declared.packet.sctp_packet.ChecksumPolicy.{ChecksumPolicy}, specs.declared.packet.sctp_packet.PacketParseError.{PacketParseError}, specs.declared.packet.sctp_packet.PacketParseError.TheVariants.{FailedParseChunk}, proofs.Lenient.{lenient_packet}, proofs.PacketChecks.{packet_single}, proofs.PacketLaws.{packet_formed}}
 use Rattle.dcsctp_c.specs.{Code.{fault_code, answer_code, no_memory_code, IsAnswerCode}, Output.{Output, Writes, written, no_memory, no_room, no_form, WritesPacket, packet, faulty}}
 
 -- ---- codes, where the library was asked with an equal policy
@@ -102,25 +102,19 @@ module _ (bytes : List ℕ) (word : ℕ) (asked policy : ChecksumPolicy) (same :
 
   -- nor has what was refused
   pub refused_code : (error : PacketParseError) (code : ℕ)
-      → Answers packet_reading packet_view (Answer bytes word asked) (Err error)
-      → GivesFaults error code → (error ≡ FailedParseChunk OutOfMemory → code ≡ no_memory_code)
-      → code ≡ 0 → ⊥
-  refused_code error code (inl f) of lack zero = fault_code-some f.0 (sym (of f.0 f.1) ∙ zero)
-  refused_code error code (inr lacks) of lack zero =
-      let none : no_memory_code ≡ 0 = sym (lack lacks) ∙ zero in
-      cc
+      → Answers packet_checking (λ (n : ℕ). n)
+      (Counted (λ p. node_count p.meaning) (Answer bytes word asked)) (Err error)
+      → GivesFaults error code → code ≡ 0 → ⊥
+  refused_code error code (inl f) of zero = fault_code-some f.0 (sym (of f.0 f.1) ∙ zero)
+  refused_code error code (inr none) of zero = none
 
 -- ---- one form
 
--- what was written, where the code is zero
-pub written_form : (IsForm : List ℕ → Type 0) (old new : Output) (code : ℕ) → code ≡ 0
-    → Writes IsForm old new code → IsForm (take new.size new.bytes)
-written_form IsForm old new code zero (written form is ok size bytes) =
-    subst IsForm (sym (ap (λ (n : ℕ). take n new.bytes) size
-    ∙ ap (take (length form)) bytes ∙ take-append_seam form (drop (length form) old.bytes))) is
-written_form IsForm old new code zero (no_memory is same) = absurd cc
-written_form IsForm old new code zero (no_room form is short it same) = absurd cc
-written_form IsForm old new code zero (no_form never is same) = absurd cc
+-- a packet has a chunk
+pub some_chunk : (bytes : List ℕ) (word : ℕ) (policy : ChecksumPolicy) (p : PacketTree)
+    → Answer bytes word policy (Ok p) → p.meaning.chunks ≢ []
+some_chunk bytes word policy p m =
+    (packet_formed bytes p m.0.size (lenient_packet policy.strict_padding bytes p m.1)).some
 
 pub resized : (old : Output) (n m : ℕ) → n ≡ m → record old { size = n } ≡ record old { size = m }
 resized old n m e = ap (λ (k : ℕ). record old { size = k }) e

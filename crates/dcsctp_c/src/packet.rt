@@ -1,15 +1,17 @@
 //! Whole packets: checked, located, canonical, printed, reported.
 
-ghost use Rattle.std.specs.Prelude.{◌≡◌, ◌≢◌, ◌≤◌, ◌<◌, ◌∷◌, ◌↔◌, ⊤, ℕ, List, Ok, Err, length, take, drop};
+ghost use Rattle.std.specs.Prelude.{◌≡◌, ◌≢◌, ◌≤◌, ◌<◌, ◌∷◌, ◌↔◌, ⊤, ℕ, List, [], Ok, Err, length, take, drop};
 ghost use Rattle.dcsctp_crc32c.specs.Checksum.{packet_word};
 ghost use Rattle.dcsctp_wire.specs.{Canonical.{canonical, Fits, IsCanonicalOf}, Packet.{PacketTree, PacketFault, Placed, Answer, IsPacket, packet_view}};
-ghost use Rattle.dcsctp_c.specs.{Code.{policy_of, no_memory_code, IsAnswerCode}, Output.{IsCanonical, IsText, IsAnyText, Writes, WritesPacket}};
+ghost use Rattle.dcsctp_borrowed.specs.PacketRef.{RefersTo};
+ghost use Rattle.dcsctp_c.specs.{Code.{policy_of, no_memory_code, no_room_code, IsAnswerCode}, Output.{IsCanonical, IsText, IsAnyText, Writes, WritesPacket}};
 
 use crate::codes::{NO_MEMORY, NO_ROOM, OK, TOO_LONG, code_of};
 use crate::structs::DcsctpPolicy;
+use dcsctp_borrowed::canonical::{CanonicalError, canonical_size, write_canonical};
+use dcsctp_borrowed::packet_ref::SctpPacketRef;
 use dcsctp_crc32c::packet_word;
 use dcsctp_wire::api::ZeroChecksumAlternateErrorDetectionMethod;
-use dcsctp_wire::laws::has_widths;
 use dcsctp_wire::packet::sctp_packet::{ChecksumPolicy, SctpPacket};
 use dump_report::PacketReport;
 use std::alloc::Global;
@@ -68,21 +70,20 @@ pub extern "C" fn dcsctp_first_fault(
 }
 
 /// Writes the canonical packet to the front of `output`, and its size in bytes to `size`. Two
-/// packets have the same one if and only if they mean the same.
+/// packets have the same one if and only if they mean the same. Does not allocate.
 ///
-/// Returns 0, or the code of the first fault; `NO_MEMORY` where an allocation failed; `NO_ROOM`
-/// where `output` is too small; `TOO_LONG` where the canonical packet would have more than 65,532
-/// bytes. Only 0 changes `output`, and its bytes after the canonical packet stay; `NO_ROOM` writes
-/// the size that is needed.
+/// Returns 0, or the code of the first fault; `NO_ROOM` where `output` is too small; `TOO_LONG`
+/// where the canonical packet would have more than 65,532 bytes. Only 0 changes `output`, and its
+/// bytes after the canonical packet stay; `NO_ROOM` writes the size that is needed.
 #[unsafe(no_mangle)]
 pub extern "C" fn dcsctp_canonical(
-    alloc: Global,
     bytes: &[u8],
     word: u32,
     policy: &DcsctpPolicy,
     output: &mut [u8],
     size: &mut usize,
 ) -> u32
+    ensures memory { result ≢ no_memory_code }
     ensures written { WritesPacket IsCanonical bytes.now word (policy_of policy.now)
         (record { bytes = output.old; size = size.old })
         (record { bytes = output.new; size = size.new }) result }
@@ -90,39 +91,51 @@ pub extern "C" fn dcsctp_canonical(
         → Answer bytes.now word (policy_of policy.now) (Ok p)
         → IsCanonicalOf p.meaning (take size.new output.new) }
 {
-    match SctpPacket::from_bytes(alloc, bytes, word, &checksum_policy(policy)) {
-        Ok(packet) => {
-            has_widths(&packet);
-            write_canonical(&packet, output, size)
-        }
+    match SctpPacketRef::from_bytes(bytes, word, &checksum_policy(policy)) {
+        Ok(packet) => put_canonical(&packet, output, size),
         Err(error) => code_of(error),
     }
 }
 
 /// Writes the canonical packet, where it fits and has room. Does not allocate.
-fn write_canonical(packet: &SctpPacket, output: &mut [u8], size: &mut usize) -> u32
+fn put_canonical(packet: &SctpPacketRef, output: &mut [u8], size: &mut usize) -> u32
     ensures memory { result ≢ no_memory_code }
-    ensures writes { Writes (IsCanonical (packet_view packet.now))
+    ensures writes { (p : PacketTree) → RefersTo packet.now p → Writes (IsCanonical p)
         (record { bytes = output.old; size = size.old })
         (record { bytes = output.new; size = size.new }) result }
+    ensures one { result ≡ 0 → (p : PacketTree) → RefersTo packet.now p
+        → p.meaning.chunks ≢ [] → IsCanonicalOf p.meaning (take size.new output.new) }
 {
-    if !packet.fits() {
-        return TOO_LONG;
+    match write_canonical(packet, output) {
+        Ok(written) => {
+            *size = written;
+            OK
+        }
+        Err(CanonicalError::DoesNotFit) => TOO_LONG,
+        Err(CanonicalError::NoRoom) => needs_room(packet, size),
     }
-    let needed = packet.canonical_size();
-    *size = needed;
-    if needed > output.len() {
-        return NO_ROOM;
+}
+
+/// Writes the size of a canonical packet that has no room.
+fn needs_room(packet: &SctpPacketRef, size: &mut usize) -> u32
+    ensures code { result ≡ no_room_code }
+    ensures size { (p : PacketTree) → RefersTo packet.now p → Fits p.meaning
+        → size.new ≡ length (canonical p.meaning) }
+{
+    match canonical_size(packet) {
+        Some(needed) => {
+            *size = needed;
+            NO_ROOM
+        }
+        None => NO_ROOM,
     }
-    let (front, _) = output.split_at_mut(needed);
-    packet.write_canonical(front);
-    OK
 }
 
 /// Writes the packet's text to the front of `output`, and its size in bytes to `size`: a line for
 /// the header, and one for each chunk, in UTF-8.
 ///
-/// Returns what `dcsctp_canonical` returns, but never `TOO_LONG`, and changes what that changes.
+/// Returns what `dcsctp_canonical` returns, but never `TOO_LONG`, and `NO_MEMORY` where an
+/// allocation failed. Changes what that changes.
 #[unsafe(no_mangle)]
 pub extern "C" fn dcsctp_print(
     alloc: Global,

@@ -52,8 +52,8 @@ func TestRefused(t *testing.T) {
 				t.Error(name, refusals, err)
 			}
 		}
-		// (Report asks for none.)
-		if (refusals > 0) != (name != "report") {
+		// (Only Print asks for any.)
+		if (refusals > 0) != (name == "print") {
 			t.Error(name, refusals)
 		}
 	}

@@ -150,7 +150,7 @@ def canonical(data: Buffer, policy: v.Policy = _DEFAULT, *, word: int | None = N
     """Returns the canonical packet: a checksum of zero, padding of zeros, zeros in reserved bits, and else the same ports,
     tag and chunks. Two packets have the same one if and only if they mean the same. `seal` it before you send it.
 
-    Raises Fault, TooLong where it would have more than 65,532 bytes, MemoryError."""
+    Raises Fault, and TooLong where it would have more than 65,532 bytes."""
     return _write(functions.dcsctp_canonical, data, policy, word, len(data) + 3)
 
 

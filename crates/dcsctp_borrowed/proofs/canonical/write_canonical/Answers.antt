@@ -1,7 +1,7 @@
 use Rattle.std.{proofs.Common.{arith, refl, subst, sym, ap, ap₂, ◌∙◌, ◌≡◌, ◌+◌, ◌-◌, ◌≤◌, ◌++◌, List, ℕ, length, drop, replicate}, specs.List.{flat_map}, proofs.lemmas.List.{drop-replicate}}
 use Rattle.dcsctp_tlv.specs.{Frame.{lenient, round_up_to_4}, Image.{written, list_image}, Level.{MeansSome}, Number.{AreBytes}}
 use Rattle.dcsctp_wire.{specs.Chunk.{chunks}, specs.Packet.{PacketTree}, specs.Canonical.{canonical, padded_size, padded_chunk, Fits}, proofs.Canonicals.{length-canonical}}
-use Rattle.dcsctp_borrowed.{specs.declared.packet_ref.SctpPacketRef.{SctpPacketRef}, specs.PacketRef.{RefersTo}, specs.RawChunks.{MeanChunks}, specs.Rewritten.{item_again, items_of, again_size, chunk_again}, proofs.CanonicalAgain.{referred, canonical_parts, size_is, body_is}}
+use Rattle.dcsctp_borrowed.{specs.declared.packet_ref.SctpPacketRef.{SctpPacketRef}, specs.PacketRef.{RefersTo}, specs.RawChunks.{MeanChunks}, specs.Rewritten.{item_again, items_of, again_size, chunk_again}, proofs.CanonicalAgain.{referred, canonical_parts, size_is, body_is, written_of}}
 use Rattle.dcsctp_borrowed.proofs.canonical.write_canonical.Goals as goal
 
 mean_of : (r : SctpPacketRef) (bytes : List ℕ) (p : PacketTree) → bytes ≡ r.chunks → RefersTo r p
@@ -16,7 +16,7 @@ whole_size : (r : SctpPacketRef) (bytes : List ℕ) (size : ℕ) (p : PacketTree
 whole_size r bytes size p e fits is ref =
     (is ∙ length-canonical p.meaning, size_is bytes p.meaning.chunks fits (mean_of r bytes p e ref))
 
--- so many there are, whatever the packet is
+-- as many as there are, whatever the packet is
 counted : (r : SctpPacketRef) (bytes : List ℕ) (size : ℕ) → bytes ≡ r.chunks → AreBytes bytes
     → MeansSome (chunks lenient) bytes
     → ((p : PacketTree) → RefersTo r p → Fits p.meaning × (size ≡ length (canonical p.meaning)))
@@ -82,3 +82,8 @@ returns-clause-written c = λ p r.
     let whole : c.copy_from_slice.new.self ++ c.put_items.new.output ≡ canonical p.meaning =
     ap₂ (λ (a b : List ℕ). a ++ b) header body ∙ canonical_parts c.args.packet.now p r in
     (s.0, s.1, ap₂ (λ (a b : List ℕ). a ++ b) whole c.split_at_mut-front.ensures.back)
+
+pub returns-clause-one : goal.returns-clause-one
+returns-clause-one c = λ p r some.
+    let w = returns-clause-written c p r in
+    written_of p.meaning c.in-Some.size _ _ (c.has_canonical.ensures p r some w.0) w.1 w.2
