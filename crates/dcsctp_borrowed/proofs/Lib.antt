@@ -20,3 +20,4 @@ pub mod PlainAgain
 pub mod ItemsAgain
 pub mod ChunksAgain
 pub mod CanonicalAgain
+pub mod FieldWidths

@@ -1,4 +1,4 @@
-use Rattle.std.{proofs.Common.{arith, ℕ, ◌+◌, ◌∙◌, refl, length, ap, map-id}, specs.Int.{w16, to_be_bytes}, specs.List.{flat_map}}
+use Rattle.std.{proofs.Common.{arith, ◌+◌, ◌∙◌, refl, length, ap, map-id}, specs.Int.{w16, to_be_bytes}, specs.List.{flat_map}}
 use Rattle.dcsctp_tlv.{specs.Image.{put}, specs.Number.{numbers}}
 use Rattle.dcsctp_buffer.proofs.Extended.{then_put, length-item_value}
 use Rattle.dcsctp_buffer.proofs.item.BytesAndNumbersWritableItem.put_value.Goals as goal
