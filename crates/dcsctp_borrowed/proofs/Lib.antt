@@ -21,3 +21,4 @@ pub mod ItemsAgain
 pub mod ChunksAgain
 pub mod Widths
 pub mod CanonicalAgain
+pub mod FieldWidths

@@ -105,7 +105,7 @@ shutdown_complete_again flags value reflected e =
 
 -- ---- SACK
 
-block_again : (bytes : List ℕ) → 4 ≤ length bytes → AreBytes bytes
+pub block_again : (bytes : List ℕ) → 4 ≤ length bytes → AreBytes bytes
     → sack.block_bytes (sack.block_at bytes) ≡ take 4 bytes
 block_again bytes size fits =
     ap₂ app (half_again bytes (omega (arith, size)) fits)

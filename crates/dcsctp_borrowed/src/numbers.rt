@@ -1,9 +1,10 @@
 //! Numbers of two bytes in a row, in a packet's bytes.
 
-ghost use Rattle.std.specs.Prelude.{◌≡◌, ◌<◌, ◌≤◌, ◌*◌, ℕ, List, Some, length, slice_get};
-ghost use Rattle.dcsctp_tlv.specs.{Fields.{fields}, Number.{number16}};
+ghost use Rattle.std.specs.{Prelude.{◌≡◌, ◌<◌, ◌≤◌, ◌*◌, ◌^◌, ℕ, List, Some, length, slice_get}, Int.{w16}, List.{AllByRecursion}};
+ghost use Rattle.dcsctp_tlv.specs.{Fields.{fields}, Number.{number16, numbers}};
 
 use dcsctp_tlv::number::read_u16_be;
+use dcsctp_tlv::widths::are_bytes;
 use std::marker::Model;
 
 /// Bytes of a number.
@@ -53,5 +54,14 @@ impl<'a> Numbers<'a> {
         ensures { slice_get self.now index ≡ Some result }
     {
         read_u16_be(&self.bytes[NUMBER_SIZE * index..])
+    }
+    /// Returns the bytes of the numbers, as they lie in the packet. Each number is below 2^16.
+    #[inline(always)]
+    pub fn bytes(&self) -> &'a [u8]
+        ensures bytes { result.now ≡ numbers w16 self.now }
+        ensures width { AllByRecursion (λ n. n < 2 ^ 16) self.now }
+    {
+        are_bytes(self.bytes);
+        &self.bytes[..NUMBER_SIZE * self.count]
     }
 }

@@ -1,15 +1,16 @@
 //! A SACK, in a packet's bytes.
 
-ghost use Rattle.std.specs.{Prelude.{◌≡◌, ◌↔◌, ◌<◌, ◌≤◌, ◌+◌, ◌*◌, ◌^◌, ℕ, List, Some, IsOk, IsTrue, length, drop, slice_get}, Iterator.{YieldsFirst, YieldsFirstBy, item_count}, Result.{result_ok}};
+ghost use Rattle.std.specs.{Prelude.{◌≡◌, ◌↔◌, ◌<◌, ◌≤◌, ◌+◌, ◌*◌, ◌^◌, ℕ, List, Some, IsOk, IsTrue, length, drop, slice_get}, Int.{w32}, Iterator.{YieldsFirst, YieldsFirstBy, item_count}, List.{flat_map, AllByRecursion}, Result.{result_ok}};
 ghost use Rattle.dcsctp_types.specs.Serial.{wrapped_sum, IsGreater};
-ghost use Rattle.dcsctp_tlv.specs.{Fields.{fields}, Number.{number32}};
-ghost use Rattle.dcsctp_chunk.specs.{Cover.{Covers, AreValid}, Sack.{Tree, block_at, read}, declared.sack_chunk.GapAckBlock.{GapAckBlock}};
+ghost use Rattle.dcsctp_tlv.specs.{Fields.{fields}, Number.{number32, numbers}};
+ghost use Rattle.dcsctp_chunk.specs.{Cover.{Covers, AreValid}, Sack.{Tree, IsBlockInWidth, block_at, block_bytes, read}, declared.sack_chunk.GapAckBlock.{GapAckBlock}};
 ghost use Rattle.dcsctp_wire.specs.Chunk.{ChunkTree};
 ghost use Rattle.dcsctp_borrowed.specs.{RawChunks.{RawMeans}, Sack.{sack_of, read_sack}};
 
 use dcsctp_chunk::sack_chunk::{self, GapAckBlock, SackNumbers};
 use dcsctp_tlv::fields::Field;
 use dcsctp_tlv::number::read_u32_be;
+use dcsctp_tlv::widths::are_bytes;
 use dcsctp_types::types::Tsn;
 use dcsctp_wire::packet::chunk::RawChunk;
 use std::marker::Model;
@@ -205,6 +206,17 @@ impl<'a> GapAckBlocks<'a> {
     {
         GapAckBlocks { count, rest }
     }
+
+    /// Returns the bytes of the blocks that are left, as they lie in the packet. Each start and each
+    /// end is below 2^16.
+    #[inline(always)]
+    pub fn bytes(&self) -> &'a [u8]
+        ensures bytes { result.now ≡ flat_map block_bytes self.now }
+        ensures width { AllByRecursion IsBlockInWidth self.now }
+    {
+        are_bytes(self.rest);
+        &self.rest[..4 * self.count]
+    }
 }
 
 impl<'a> Iterator for GapAckBlocks<'a> {
@@ -250,6 +262,17 @@ impl<'a> DuplicateTsns<'a> {
         ensures { result ≡ fields number32 4 count rest.now }
     {
         DuplicateTsns { count, rest }
+    }
+
+    /// Returns the bytes of the TSNs that are left, as they lie in the packet. Each TSN is below
+    /// 2^32.
+    #[inline(always)]
+    pub fn bytes(&self) -> &'a [u8]
+        ensures bytes { result.now ≡ numbers w32 self.now }
+        ensures width { AllByRecursion (λ tsn. tsn < 2 ^ 32) self.now }
+    {
+        are_bytes(self.rest);
+        &self.rest[..4 * self.count]
     }
 }
 

@@ -41,11 +41,11 @@ put_both front value rest bytes first second old new start place len is =
 
 -- ---- bytes in width
 
-bytes_after : (front rest : List ℕ) → AreBytes (front ++ rest) → AreBytes rest
+pub bytes_after : (front rest : List ℕ) → AreBytes (front ++ rest) → AreBytes rest
 bytes_after [] rest h = h
 bytes_after (b ∷ front) rest h = bytes_after front rest (λ i. h (suc i))
 
-bytes_before : (front rest : List ℕ) → AreBytes (front ++ rest) → (i : ℕ) → get_or front i 0 < 256
+pub bytes_before : (front rest : List ℕ) → AreBytes (front ++ rest) → (i : ℕ) → get_or front i 0 < 256
 bytes_before [] rest h i = omega arith
 bytes_before (b ∷ front) rest h zero = h 0
 bytes_before (b ∷ front) rest h (suc i) = bytes_before front rest (λ j. h (suc j)) i
@@ -229,31 +229,27 @@ extends old new size start end typ value m t room width e at before now =
 -- ---- bytes one after the other
 
 -- bytes at a place, and more where they end
-then_put : (old out next : List ℕ) (place end : ℕ) (a b : List ℕ) → place ≤ length old
+pub then_put : (old out next : List ℕ) (place end : ℕ) (a b : List ℕ) → place ≤ length old
     → out ≡ put old place a → next ≡ put out end b → end ≡ place + length a
     → next ≡ put old place (a ++ b)
 then_put old out next place end a b le is e at =
     e ∙ ap (λ (xs : List ℕ). put xs end b) is ∙ put-put old place end a b le at
 
--- padding, a header, a value in two parts, and padding
-pub five_put : (old zeroed headed led numbered out : List ℕ) (place second third fourth fifth : ℕ)
-    (a b c d e : List ℕ) → place ≤ length old → zeroed ≡ put old place a
-    → headed ≡ put zeroed second b → led ≡ put headed third c → numbered ≡ put led fourth d
-    → out ≡ put numbered fifth e → second ≡ place + length a → third ≡ second + length b
-    → fourth ≡ third + length c → fifth ≡ fourth + length d
-    → out ≡ put old place (a ++ (b ++ ((c ++ d) ++ e)))
-five_put old zeroed headed led numbered out place second third fourth fifth a b c d e le is is2 is3
-    is4 is5 at2 at3 at4 at5 =
+-- padding, a header, a value, and padding
+pub four_put : (old zeroed headed valued out : List ℕ) (place second third fourth : ℕ)
+    (a b c d : List ℕ) → place ≤ length old → zeroed ≡ put old place a
+    → headed ≡ put zeroed second b → valued ≡ put headed third c → out ≡ put valued fourth d
+    → second ≡ place + length a → third ≡ second + length b → fourth ≡ third + length c
+    → out ≡ put old place (a ++ (b ++ (c ++ d)))
+four_put old zeroed headed valued out place second third fourth a b c d le is is2 is3 is4 at2 at3
+    at4 =
     let ab : List ℕ = a ++ b in
-    let abc : List ℕ = ab ++ c in
     let two = length-append a b in
     let three = length-append ab c in
-    let four = length-append abc d in
-    then_put old numbered out place fifth (abc ++ d) e le
-    (then_put old led numbered place fourth abc d le
-    (then_put old headed led place third ab c le
+    then_put old valued out place fourth (ab ++ c) d le
+    (then_put old headed valued place third ab c le
     (then_put old zeroed headed place second a b le is is2 at2) is3 (omega (arith, two))) is4
-    (omega (arith, two, three))) is5 (omega (arith, two, three, four))
+    (omega (arith, two, three))
     ∙ ap (put old place) (simp append_assoc)
 
 pub length-item_value : (leading words : List ℕ) → length (item_value leading words)

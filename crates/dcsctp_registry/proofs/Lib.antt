@@ -1,3 +1,5 @@
 pub mod Kept
 pub mod NrSacks
 pub mod Walks
+pub mod Written
+pub mod WrittenChunks

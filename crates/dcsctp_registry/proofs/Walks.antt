@@ -1,13 +1,16 @@
 -- A walk over bytes that are items, or aren't: what is known of what is left.
-use Rattle.std.proofs.Common.{◌≡◌, ◌≢◌, ◌≤◌, ◌&&◌, ℕ, zero, suc, Bool, true, false, List, [], ◌∷◌, ◌++◌, length, refl, ◌∙◌, arith}
+use Rattle.std.proofs.Common.{◌≡◌, ◌≢◌, ◌≤◌, ◌&&◌, ℕ, zero, suc, Bool, true, false, List, [], ◌∷◌, ◌++◌, length, refl, ◌∙◌, arith, Some}
 use Rattle.dcsctp_tlv.{specs.Number.{AreBytes}, specs.Frame.{lenient, BeginsWithFrame, frame_value, frame_rest}, specs.Level.{MeansSome, front_row}, specs.UnknownParameter.{Tree, read}, proofs.Lists.{Progress, begin, step, finish}, proofs.Checks.{frame_shrinks}}
 use Rattle.dcsctp_borrowed.proofs.Fronts.{front}
-use Rattle.dcsctp_registry.specs.RawItems.{raw_items, has_frame, are_items_of}
+use Rattle.dcsctp_registry.specs.RawItems.{raw_items, has_frame, are_items_of, items}
 
 -- ---- frames
 
 pub is_frame : (bytes : List ℕ) → has_frame bytes ≡ true → BeginsWithFrame bytes
 is_frame bytes has = search (arith, has)
+
+pub is_framed : (bytes : List ℕ) → BeginsWithFrame bytes → has_frame bytes ≡ true
+is_framed bytes frame = search (arith, frame)
 
 pub has_no_frame : (bytes : List ℕ) → ¬ BeginsWithFrame bytes → has_frame bytes ≡ false
 has_no_frame bytes none = search (arith, none)
@@ -56,6 +59,25 @@ of_none (b ∷ bs) frame some = rw (has_no_frame (b ∷ bs) frame) refl
 pub of_nil : (bytes : List ℕ) → bytes ≡ [] → are_items_of (length bytes) bytes ≡ true
 unfolding are_items_of
 of_nil bytes none = rw none refl
+
+-- ---- all of them
+
+-- bytes that mean items are items
+pub all_items : (n : ℕ) (bytes : List ℕ) → length bytes ≤ n
+    → MeansSome (raw_items lenient) bytes × AreBytes bytes → are_items_of n bytes ≡ true
+unfolding are_items_of
+all_items n [] few known = refl
+all_items zero (b ∷ bs) few known = absurd (omega (arith, few))
+all_items (suc n) (b ∷ bs) few known =
+    let f = front (raw_items lenient) (b ∷ bs) known (λ e. absurd (cc)) in
+    let shrinks = frame_shrinks (b ∷ bs) f.frame in
+    let low = f.frame.low in
+    rw (is_framed (b ∷ bs) f.frame) (all_items n (frame_rest (b ∷ bs)) (omega (arith, shrinks, low, few)) f.left)
+
+pub items_again : (bytes : List ℕ) → MeansSome (raw_items lenient) bytes × AreBytes bytes
+    → items bytes ≡ Some bytes
+unfolding items
+items_again bytes known = rw (all_items (length bytes) bytes (omega arith) known) refl
 
 -- ---- what was passed, and what is left
 

@@ -1,9 +1,9 @@
 -- IPv4 Address and IPv6 Address (RFC 9260 sections 3.3.2.1.1 and 3.3.2.1.2).
-use Rattle.std.specs.Prelude.{◌≡◌, ◌==◌, ℕ, nat_le, List, if◌then◌else◌, Option, Some, None, length, drop}
+use Rattle.std.specs.Prelude.{◌≡◌, ◌==◌, ℕ, nat_le, List, ◌++◌, if◌then◌else◌, Option, Some, None, length, drop}
 use Rattle.std.specs.Net.Addr.{ipv4_octets, ipv6_segments, segments_of}
 use Rattle.std.specs.declared.net.ip_addr.IpAddr.{IpAddr}
 use Rattle.std.specs.declared.net.ip_addr.IpAddr.TheVariants as ip
-use Rattle.dcsctp_tlv.specs.{Frame.{frame_length}, Number.{number16}}
+use Rattle.dcsctp_tlv.specs.{Frame.{frame_length, typed_header}, Number.{number16}}
 use Rattle.dcsctp_registry.specs.declared.address.Address.{Address}
 use Rattle.dcsctp_registry.specs.declared.address.Address.TheVariants as variant
 
@@ -30,6 +30,28 @@ read_whole bytes =
     if nat_le 4 (length bytes) then
     (if frame_length bytes == length bytes then read (number16 bytes) (drop 4 bytes) else None) else
     None
+
+-- ---- as it is written
+
+-- the type of its parameter, and the value
+abbrev pub type_of : Tree → ℕ
+type_of (V4 octets) = 5
+type_of (V6 octets) = 6
+
+abbrev pub octets_of : Tree → List ℕ
+octets_of (V4 octets) = octets
+octets_of (V6 octets) = octets
+
+-- how many octets there are
+abbrev pub size_of : Tree → ℕ
+size_of (V4 octets) = 4
+size_of (V6 octets) = 16
+
+-- the parameter with its header
+abbrev pub whole : Tree → List ℕ
+whole a = typed_header (type_of a) (length (octets_of a)) ++ octets_of a
+
+-- ---- as the standard library has it
 
 -- it is the address of the standard library
 abbrev pub IsAddress : Tree → IpAddr → Type 0

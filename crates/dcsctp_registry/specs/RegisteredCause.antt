@@ -1,8 +1,9 @@
--- Error causes that IANA's registry of SCTP has and `ErrorCause` doesn't name, read in their bytes
--- (RFC 9260 section 3.3.10, RFC 4895 section 4.1, RFC 5061 section 4.3).
-use Rattle.std.specs.Prelude.{◌==◌, ℕ, List, if◌then◌else◌, Option, None, option_map}
+-- Error causes that IANA's registry of SCTP has and `ErrorCause` doesn't name, as they are read in
+-- their bytes, and as they are written (RFC 9260 section 3.3.10, RFC 4895 section 4.1, RFC 5061
+-- section 4.3).
+use Rattle.std.specs.{Prelude.{◌==◌, ℕ, List, [], if◌then◌else◌, Option, None, option_map}, Int.{w16, w32, to_be_bytes}}
 use Rattle.dcsctp_cause.specs.Cause.{CauseTree, Unknown}
-use Rattle.dcsctp_registry.specs.{RawItems.{items}, Shapes.{empty_of, number_of, short_number_of}}
+use Rattle.dcsctp_registry.specs.{RawItems.{items}, Shapes.{empty_of, number_of, short_number_of, padded_short}}
 use Rattle.dcsctp_registry.specs.declared.registered_cause.RegisteredCause.{RegisteredCause}
 use Rattle.dcsctp_registry.specs.declared.registered_cause.RegisteredCause.TheVariants as variant
 
@@ -60,3 +61,35 @@ read code value =
 abbrev pub registered_of : CauseTree → Option Tree
 registered_of (Unknown u) = read u.typ u.value
 registered_of t = None
+
+-- ---- as it is written
+
+abbrev pub code_of : Tree → ℕ
+code_of (InvalidStreamIdentifier stream) = 1
+code_of (StaleCookie staleness) = 3
+code_of OutOfResource = 4
+code_of (UnresolvableAddress parameters) = 5
+code_of InvalidMandatoryParameter = 7
+code_of (UnrecognizedParameters parameters) = 8
+code_of (RestartWithNewAddresses parameters) = 11
+code_of (DeleteLastRemainingIpAddress parameters) = 0xa0
+code_of (OperationRefused parameters) = 0xa1
+code_of (DeleteSourceIpAddress parameters) = 0xa2
+code_of IllegalAsconfAck = 0xa3
+code_of (RequestRefused parameters) = 0xa4
+code_of (UnsupportedHmacIdentifier id) = 0x105
+
+abbrev pub value_of : Tree → List ℕ
+value_of (InvalidStreamIdentifier stream) = padded_short stream
+value_of (StaleCookie staleness) = to_be_bytes w32 staleness
+value_of OutOfResource = []
+value_of (UnresolvableAddress parameters) = parameters
+value_of InvalidMandatoryParameter = []
+value_of (UnrecognizedParameters parameters) = parameters
+value_of (RestartWithNewAddresses parameters) = parameters
+value_of (DeleteLastRemainingIpAddress parameters) = parameters
+value_of (OperationRefused parameters) = parameters
+value_of (DeleteSourceIpAddress parameters) = parameters
+value_of IllegalAsconfAck = []
+value_of (RequestRefused parameters) = parameters
+value_of (UnsupportedHmacIdentifier id) = to_be_bytes w16 id

@@ -1,13 +1,13 @@
--- Chunks that IANA's registry of SCTP or a draft has and `Chunk` doesn't name, read in their bytes:
--- ECNE and CWR (RFC 4960 appendix A), AUTH (RFC 4895 section 5.1), ASCONF and ASCONF ACK (RFC 5061
--- section 4.1), PAD (RFC 4820 section 3), NR-SACK (draft-tuexen-tsvwg-sctp-multipath), PKTDROP
--- (draft-stewart-sctp-pktdrprep).
-use Rattle.std.specs.Prelude.{◌==◌, ◌+◌, ◌*◌, ℕ, nat_le, List, if◌then◌else◌, Option, Some, None, option_map, length, drop}
-use Rattle.dcsctp_tlv.specs.{Fields.{fields}, Number.{number16, number32}}
-use Rattle.dcsctp_chunk.specs.{Sack.{block_at}, declared.sack_chunk.GapAckBlock.{GapAckBlock}}
+-- Chunks that IANA's registry of SCTP or a draft has and `Chunk` doesn't name, as they are read in
+-- their bytes, and as they are written: ECNE and CWR (RFC 4960 appendix A), AUTH (RFC 4895 section
+-- 5.1), ASCONF and ASCONF ACK (RFC 5061 section 4.1), PAD (RFC 4820 section 3), NR-SACK
+-- (draft-tuexen-tsvwg-sctp-multipath), PKTDROP (draft-stewart-sctp-pktdrprep).
+use Rattle.std.specs.{Prelude.{◌==◌, ◌+◌, ◌*◌, ℕ, nat_le, List, [], ◌∷◌, ◌++◌, if◌then◌else◌, Option, Some, None, option_map, length, drop}, Int.{w16, w32, to_be_bytes}, List.{flat_map}}
+use Rattle.dcsctp_tlv.specs.{Fields.{fields}, Number.{number16, number32, numbers}}
+use Rattle.dcsctp_chunk.specs.{Sack.{block_at, block_bytes}, declared.sack_chunk.GapAckBlock.{GapAckBlock}}
 use Rattle.dcsctp_wire.specs.Chunk.{ChunkTree, Unknown}
 use Rattle.dcsctp_registry.specs.Address as address
-use Rattle.dcsctp_registry.specs.{RawItems.{Front, front, items}, Shapes.{number_of, numbered_items}}
+use Rattle.dcsctp_registry.specs.{RawItems.{Front, front, items}, Shapes.{number_of, numbered_items, numbered}}
 use Rattle.dcsctp_registry.specs.declared.registered_chunk.RegisteredChunk.{RegisteredChunk}
 use Rattle.dcsctp_registry.specs.declared.registered_chunk.RegisteredChunk.TheVariants as variant
 
@@ -142,3 +142,47 @@ read typ value =
 abbrev pub registered_of : ChunkTree → Option Tree
 registered_of (Unknown u) = read u.typ u.value
 registered_of t = None
+
+-- ---- as it is written
+
+abbrev pub auth_bytes : AuthTree → List ℕ
+auth_bytes a = numbers w16 (a.shared_key_id ∷ a.hmac_id ∷ []) ++ a.hmac
+
+-- reserved bytes are zero
+abbrev pub nr_sack_bytes : NrSackTree → List ℕ
+nr_sack_bytes s =
+    numbers w32 (s.tsn ∷ s.a_rwnd ∷ [])
+    ++ (numbers w16 (length s.blocks ∷ length s.nr_blocks ∷ length s.duplicates ∷ 0 ∷ [])
+    ++ (flat_map block_bytes s.blocks
+    ++ (flat_map block_bytes s.nr_blocks ++ numbers w32 s.duplicates)))
+
+abbrev pub pkt_drop_bytes : PktDropTree → List ℕ
+pkt_drop_bytes d =
+    numbers w32 (d.bandwidth ∷ d.queued ∷ []) ++ (numbers w16 (d.size ∷ 0 ∷ []) ++ d.packet)
+
+abbrev pub asconf_bytes : AsconfTree → List ℕ
+asconf_bytes a = numbered a.sequence (address.whole a.address ++ a.parameters)
+
+abbrev pub type_of : Tree → ℕ
+type_of (Ecne lowest_tsn) = 12
+type_of (Cwr lowest_tsn) = 13
+type_of (Auth a) = 15
+type_of (NrSack s) = 16
+type_of (AsconfAck response) = 128
+type_of (PktDrop d) = 129
+type_of (Pad bytes) = 132
+type_of (Asconf a) = 193
+
+abbrev pub value_of : Tree → List ℕ
+value_of (Ecne lowest_tsn) = to_be_bytes w32 lowest_tsn
+value_of (Cwr lowest_tsn) = to_be_bytes w32 lowest_tsn
+value_of (Auth a) = auth_bytes a
+value_of (NrSack s) = nr_sack_bytes s
+value_of (AsconfAck response) = numbered response.0 response.1
+value_of (PktDrop d) = pkt_drop_bytes d
+value_of (Pad bytes) = bytes
+value_of (Asconf a) = asconf_bytes a
+
+-- the chunk by its type and its value; its flags are zero
+abbrev pub written : Tree → ChunkTree
+written t = Unknown (record { typ = type_of t; flags = 0; value = value_of t })

@@ -1,10 +1,10 @@
--- Parameters that IANA's registry of SCTP has and `Parameter` doesn't name, read in their bytes
--- (RFC 9260 sections 3.3.2.1 and 3.3.3.1.2; RFC 4820 section 4; RFC 4895 section 3; RFC 4960
--- appendix A; RFC 5061 section 4.2).
-use Rattle.std.specs.Prelude.{◌==◌, ◌||◌, ℕ, List, if◌then◌else◌, Option, Some, None, option_map}
-use Rattle.dcsctp_tlv.specs.Parameter.{ParameterTree, Unknown}
+-- Parameters that IANA's registry of SCTP has and `Parameter` doesn't name, as they are read in
+-- their bytes, and as they are written (RFC 9260 sections 3.3.2.1 and 3.3.3.1.2; RFC 4820 section
+-- 4; RFC 4895 section 3; RFC 4960 appendix A; RFC 5061 section 4.2).
+use Rattle.std.specs.{Prelude.{◌==◌, ◌||◌, ℕ, List, [], if◌then◌else◌, Option, Some, None, option_map}, Int.{w16, w32, to_be_bytes}}
+use Rattle.dcsctp_tlv.specs.{Number.{numbers}, Parameter.{ParameterTree, Unknown}}
 use Rattle.dcsctp_registry.specs.Address as address
-use Rattle.dcsctp_registry.specs.{RawItems.{items}, Shapes.{empty_of, number_of, short_numbers_of, numbered_items, numbered_address}}
+use Rattle.dcsctp_registry.specs.{RawItems.{items}, Shapes.{empty_of, number_of, short_numbers_of, numbered_items, numbered_address, numbered}}
 use Rattle.dcsctp_registry.specs.declared.registered_parameter.RegisteredParameter.{RegisteredParameter}
 use Rattle.dcsctp_registry.specs.declared.registered_parameter.RegisteredParameter.TheVariants as variant
 
@@ -71,3 +71,41 @@ read typ value =
 abbrev pub registered_of : ParameterTree → Option Tree
 registered_of (Unknown u) = read u.typ u.value
 registered_of t = None
+
+-- ---- as it is written
+
+abbrev pub type_of : Tree → ℕ
+type_of (Address a) = address.type_of a
+type_of (UnrecognizedParameter parameters) = 8
+type_of (CookiePreservative increment) = 9
+type_of (HostNameAddress name) = 11
+type_of (SupportedAddressTypes types) = 12
+type_of EcnCapable = 0x8000
+type_of (Random number) = 0x8002
+type_of (ChunkList types) = 0x8003
+type_of (RequestedHmacAlgorithm ids) = 0x8004
+type_of (Padding bytes) = 0x8005
+type_of (AddIpAddress request) = 0xc001
+type_of (DeleteIpAddress request) = 0xc002
+type_of (ErrorCauseIndication response) = 0xc003
+type_of (SetPrimaryAddress request) = 0xc004
+type_of (SuccessIndication id) = 0xc005
+type_of (AdaptationLayerIndication code) = 0xc006
+
+abbrev pub value_of : Tree → List ℕ
+value_of (Address a) = address.octets_of a
+value_of (UnrecognizedParameter parameters) = parameters
+value_of (CookiePreservative increment) = to_be_bytes w32 increment
+value_of (HostNameAddress name) = name
+value_of (SupportedAddressTypes types) = numbers w16 types
+value_of EcnCapable = []
+value_of (Random number) = number
+value_of (ChunkList types) = types
+value_of (RequestedHmacAlgorithm ids) = numbers w16 ids
+value_of (Padding bytes) = bytes
+value_of (AddIpAddress request) = numbered request.0 (address.whole request.1)
+value_of (DeleteIpAddress request) = numbered request.0 (address.whole request.1)
+value_of (ErrorCauseIndication response) = numbered response.0 response.1
+value_of (SetPrimaryAddress request) = numbered request.0 (address.whole request.1)
+value_of (SuccessIndication id) = to_be_bytes w32 id
+value_of (AdaptationLayerIndication code) = to_be_bytes w32 code

@@ -1,7 +1,7 @@
 -- What values of registered types hold: nothing; a number of four bytes or of two; numbers of two
 -- bytes; a list of items; and after a number of four bytes an address, or a list (RFC 9260 sections
 -- 3.3.2.1 and 3.3.10, RFC 5061 section 4.2).
-use Rattle.std.specs.Prelude.{◌==◌, ◌*◌, ◌/◌, ℕ, nat_le, List, if◌then◌else◌, Option, Some, None, option_map, length, drop}
+use Rattle.std.specs.{Prelude.{◌==◌, ◌*◌, ◌/◌, ℕ, nat_le, List, [], ◌∷◌, ◌++◌, if◌then◌else◌, Option, Some, None, option_map, length, drop}, Int.{w16, w32, to_be_bytes}}
 use Rattle.dcsctp_tlv.specs.{Fields.{fields}, Number.{number16, number32}}
 use Rattle.dcsctp_registry.specs.Address as address
 use Rattle.dcsctp_registry.specs.RawItems.{items}
@@ -41,3 +41,13 @@ numbered_address value =
 -- a number and an address of the code
 abbrev pub address_view : ℕ × Address → ℕ × address.Tree
 address_view p = (p.0, address.view p.1)
+
+-- ---- as they are written
+
+-- a number of four bytes, and what is after it
+abbrev pub numbered : ℕ → List ℕ → List ℕ
+numbered number after = to_be_bytes w32 number ++ after
+
+-- one of two bytes, and after it two that are reserved
+abbrev pub padded_short : ℕ → List ℕ
+padded_short number = to_be_bytes w16 number ++ (0 ∷ 0 ∷ [])

@@ -1,7 +1,7 @@
 //! The addresses of IPv4 Address and IPv6 Address.
 
-ghost use Rattle.std.specs.Prelude.{◌≡◌, option_map};
-ghost use Rattle.dcsctp_registry.specs.Address.{view, read, read_whole, IsAddress};
+ghost use Rattle.std.specs.Prelude.{◌≡◌, Some, option_map, length};
+ghost use Rattle.dcsctp_registry.specs.Address.{view, read, read_whole, IsAddress, type_of, octets_of, size_of};
 
 use dcsctp_tlv::frame::TLV_HEADER_SIZE;
 use dcsctp_tlv::number::read_u16_be;
@@ -62,6 +62,38 @@ impl Address {
             return None;
         }
         Address::of_value(read_u16_be(bytes), &bytes[TLV_HEADER_SIZE..])
+    }
+
+    /// Returns the type of its parameter, 5 or 6. Under this type the octets read as the address.
+    pub fn typ(&self) -> u16
+        ensures typ { result ≡ type_of (view self.now) }
+        ensures reads { read (type_of (view self.now)) (octets_of (view self.now))
+            ≡ Some (view self.now) }
+    {
+        self.is_read();
+        match self {
+            Address::V4(_) => IPV4_ADDRESS,
+            Address::V6(_) => IPV6_ADDRESS,
+        }
+    }
+
+    /// Proves that the octets read as the address under its type.
+    fn is_read(&self)
+        ensures { read (type_of (view self.now)) (octets_of (view self.now))
+            ≡ Some (view self.now) }
+    {
+        let _octets = self.octets();
+    }
+
+    /// Returns its octets, the value of its parameter: 4 or 16.
+    pub fn octets(&self) -> &[u8]
+        ensures octets { result.now ≡ octets_of (view self.now) }
+        ensures size { length result.now ≡ size_of (view self.now) }
+    {
+        match self {
+            Address::V4(octets) => octets,
+            Address::V6(octets) => octets,
+        }
     }
 
     /// Returns the address of the standard library.

@@ -42,6 +42,14 @@ impl<'a> RawItems<'a> {
         Some(RawItems::new(bytes))
     }
 
+    /// Returns the bytes of the items that are left. They read as the same items.
+    pub fn bytes(&self) -> &'a [u8]
+        ensures bytes { result.now ≡ self.now }
+        ensures reads { items result.now ≡ Some self.now }
+    {
+        self.rest
+    }
+
     /// Returns the items that these bytes are.
     fn new(rest: &'a [u8]) -> RawItems<'a>
         requires { MeansSome (raw_items lenient) rest.now }

@@ -1,11 +1,15 @@
 //! Error causes that the owned packet keeps as bytes.
 
-ghost use Rattle.std.specs.Prelude.{◌≡◌, option_map};
+ghost use Rattle.std.specs.Prelude.{◌≡◌, ◌↔◌, Some, IsOk, IfErr, option_map};
 ghost use Rattle.dcsctp_cause.specs.Cause.{CauseTree, row};
-ghost use Rattle.dcsctp_registry.specs.RegisteredCause.{view, read, registered_of};
+ghost use Rattle.dcsctp_buffer.specs.{Buffer.{Declines}, Item.{IsLastChunk, IsExtensible, HasItemRoom, IsItemAdded, ExtendsCauses, MakesError}};
+ghost use Rattle.dcsctp_registry.specs.Shape.{bytes_of};
+ghost use Rattle.dcsctp_registry.specs.RegisteredCause.{view, read, registered_of, code_of, value_of};
 
 use crate::raw_items::RawItems;
-use crate::shapes::{number, padded_number, short_number};
+use crate::shapes::{Shape, number, number_back, padded_number, short_number, short_number_back};
+use dcsctp_buffer::error::WriteError;
+use dcsctp_buffer::item::{WritableItem, add_written};
 use dcsctp_tlv::parameter::RawParameter;
 
 /// The code of Invalid Stream Identifier.
@@ -166,4 +170,125 @@ impl<'a> RegisteredCause<'a> {
             _ => None,
         }
     }
+
+    /// Returns the code of the cause. Under this code what is written reads as the same cause.
+    pub fn code(&self) -> u16
+        ensures code { result ≡ code_of (view self.now) }
+        ensures reads { read (code_of (view self.now)) (value_of (view self.now))
+            ≡ Some (view self.now) }
+    {
+        match self {
+            RegisteredCause::InvalidStreamIdentifier(stream) => {
+                short_number_back(*stream);
+                INVALID_STREAM_IDENTIFIER
+            }
+            RegisteredCause::StaleCookie(staleness) => {
+                number_back(*staleness);
+                STALE_COOKIE
+            }
+            RegisteredCause::OutOfResource => OUT_OF_RESOURCE,
+            RegisteredCause::UnresolvableAddress(parameters) => {
+                let _bytes = parameters.bytes();
+                UNRESOLVABLE_ADDRESS
+            }
+            RegisteredCause::InvalidMandatoryParameter => INVALID_MANDATORY_PARAMETER,
+            RegisteredCause::UnrecognizedParameters(parameters) => {
+                let _bytes = parameters.bytes();
+                UNRECOGNIZED_PARAMETERS
+            }
+            RegisteredCause::RestartWithNewAddresses(parameters) => {
+                let _bytes = parameters.bytes();
+                RESTART_WITH_NEW_ADDRESSES
+            }
+            RegisteredCause::DeleteLastRemainingIpAddress(parameters) => {
+                let _bytes = parameters.bytes();
+                DELETE_LAST_REMAINING_IP_ADDRESS
+            }
+            RegisteredCause::OperationRefused(parameters) => {
+                let _bytes = parameters.bytes();
+                OPERATION_REFUSED
+            }
+            RegisteredCause::DeleteSourceIpAddress(parameters) => {
+                let _bytes = parameters.bytes();
+                DELETE_SOURCE_IP_ADDRESS
+            }
+            RegisteredCause::IllegalAsconfAck => ILLEGAL_ASCONF_ACK,
+            RegisteredCause::RequestRefused(parameters) => {
+                let _bytes = parameters.bytes();
+                REQUEST_REFUSED
+            }
+            RegisteredCause::UnsupportedHmacIdentifier(id) => {
+                short_number_back(*id);
+                UNSUPPORTED_HMAC_IDENTIFIER
+            }
+        }
+    }
+
+    /// Returns what the value holds.
+    fn shape(&self) -> Shape<'_>
+        ensures { bytes_of result ≡ value_of (view self.now) }
+    {
+        match self {
+            RegisteredCause::InvalidStreamIdentifier(stream) => Shape::PaddedShort(*stream),
+            RegisteredCause::StaleCookie(staleness) => Shape::Number(*staleness),
+            RegisteredCause::OutOfResource
+            | RegisteredCause::InvalidMandatoryParameter
+            | RegisteredCause::IllegalAsconfAck => Shape::Bytes(&[]),
+            RegisteredCause::UnresolvableAddress(parameters)
+            | RegisteredCause::UnrecognizedParameters(parameters)
+            | RegisteredCause::RestartWithNewAddresses(parameters)
+            | RegisteredCause::DeleteLastRemainingIpAddress(parameters)
+            | RegisteredCause::OperationRefused(parameters)
+            | RegisteredCause::DeleteSourceIpAddress(parameters)
+            | RegisteredCause::RequestRefused(parameters) => Shape::Bytes(parameters.bytes()),
+            RegisteredCause::UnsupportedHmacIdentifier(id) => Shape::ShortNumber(*id),
+        }
+    }
+}
+
+/// The value without the header and the padding; reserved bytes are zero.
+impl WritableItem for RegisteredCause<'_> {
+    ghost value = { λ c. value_of (view c) };
+
+    fn value_size(&self) -> usize {
+        self.shape().size()
+    }
+
+    fn put_value(&self, output: &mut [u8], place: usize) {
+        self.shape().put(output, place);
+    }
+}
+
+/// Adds the error cause to the packet's last chunk, which begins at `start`: after zeros up to a
+/// multiple of 4 its header with its code, its value, and zeros up to a multiple of 4, which the
+/// chunk's length doesn't count (RFC 9260 sections 3.2 and 3.3.10). What is written reads as the
+/// same cause. Which kind of chunk it is, isn't looked at.
+///
+/// Returns the first of these errors that is so, and then changes nothing: `BadPlace` where the
+/// size isn't that of a packet that was begun, or no chunk begins at `start` and ends the packet
+/// with its padding; `BadValue` where two bytes can't hold the chunk's new length; `NoRoom` where
+/// the packet has no room for the error cause and its padding, in the buffer or in the 65,532
+/// bytes that a packet can have.
+pub fn add_cause(
+    buffer: &mut [u8],
+    size: &mut usize,
+    start: usize,
+    cause: &RegisteredCause,
+) -> Result<(), WriteError>
+    ensures room { IsOk result
+        ↔ HasItemRoom buffer.old size.old start (value_of (view cause.now)) }
+    ensures added { IsOk result → IsItemAdded (code_of (view cause.now)) (value_of (view cause.now))
+        buffer.old size.old start buffer.new size.new }
+    ensures reads { read (code_of (view cause.now)) (value_of (view cause.now))
+        ≡ Some (view cause.now) }
+    ensures causes { IsOk result
+        → ExtendsCauses (code_of (view cause.now)) (value_of (view cause.now)) }
+    ensures error { IsOk result
+        → MakesError (code_of (view cause.now)) (value_of (view cause.now)) }
+    ensures declined { IfErr result (Declines (IsLastChunk buffer.old size.old start)
+        (IsExtensible buffer.old start (value_of (view cause.now)))
+        (HasItemRoom buffer.old size.old start (value_of (view cause.now)))) }
+    ensures unchanged { IfErr result (λ e. (buffer.new ≡ buffer.old) × (size.new ≡ size.old)) }
+{
+    add_written(buffer, size, start, cause.code(), cause)
 }

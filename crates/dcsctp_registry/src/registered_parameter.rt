@@ -1,13 +1,20 @@
 //! Parameters that the owned packet keeps as bytes.
 
-ghost use Rattle.std.specs.Prelude.{◌≡◌, option_map};
+ghost use Rattle.std.specs.Prelude.{◌≡◌, ◌↔◌, Some, IsOk, IfErr, option_map};
 ghost use Rattle.dcsctp_tlv.specs.Parameter.{ParameterTree, row};
-ghost use Rattle.dcsctp_registry.specs.RegisteredParameter.{view, read, registered_of};
+ghost use Rattle.dcsctp_buffer.specs.{Buffer.{Declines}, Item.{IsLastChunk, IsExtensible, HasItemRoom, IsItemAdded, ExtendsParameters}};
+ghost use Rattle.dcsctp_registry.specs.Shape.{bytes_of};
+ghost use Rattle.dcsctp_registry.specs.RegisteredParameter.{view, read, registered_of, type_of, value_of};
 
 use crate::address::{Address, IPV4_ADDRESS, IPV6_ADDRESS};
 use crate::raw_items::RawItems;
-use crate::shapes::{number, numbered_address, numbered_items, short_numbers};
+use crate::shapes::{
+    Shape, number, number_back, numbered_address, numbered_address_back, numbered_items,
+    numbered_items_back, short_numbers, short_numbers_back,
+};
 use dcsctp_borrowed::numbers::Numbers;
+use dcsctp_buffer::error::WriteError;
+use dcsctp_buffer::item::{WritableItem, add_written};
 use dcsctp_tlv::parameter::RawParameter;
 
 /// The type of Unrecognized Parameter.
@@ -207,4 +214,158 @@ impl<'a> RegisteredParameter<'a> {
             _ => None,
         }
     }
+
+    /// Returns the type of the parameter; of `Address` it is 5 or 6. Under this type what is
+    /// written reads as the same parameter.
+    pub fn typ(&self) -> u16
+        ensures typ { result ≡ type_of (view self.now) }
+        ensures reads { read (type_of (view self.now)) (value_of (view self.now))
+            ≡ Some (view self.now) }
+    {
+        match self {
+            RegisteredParameter::Address(address) => address.typ(),
+            RegisteredParameter::UnrecognizedParameter(parameters) => {
+                let _bytes = parameters.bytes();
+                UNRECOGNIZED_PARAMETER
+            }
+            RegisteredParameter::CookiePreservative(increment) => {
+                number_back(*increment);
+                COOKIE_PRESERVATIVE
+            }
+            RegisteredParameter::HostNameAddress(_) => HOST_NAME_ADDRESS,
+            RegisteredParameter::SupportedAddressTypes(types) => {
+                short_numbers_back(types);
+                SUPPORTED_ADDRESS_TYPES
+            }
+            RegisteredParameter::EcnCapable => ECN_CAPABLE,
+            RegisteredParameter::Random(_) => RANDOM,
+            RegisteredParameter::ChunkList(_) => CHUNK_LIST,
+            RegisteredParameter::RequestedHmacAlgorithm(ids) => {
+                short_numbers_back(ids);
+                REQUESTED_HMAC_ALGORITHM
+            }
+            RegisteredParameter::Padding(_) => PADDING,
+            RegisteredParameter::AddIpAddress {
+                correlation_id,
+                address,
+            } => {
+                numbered_address_back(*correlation_id, address);
+                ADD_IP_ADDRESS
+            }
+            RegisteredParameter::DeleteIpAddress {
+                correlation_id,
+                address,
+            } => {
+                numbered_address_back(*correlation_id, address);
+                DELETE_IP_ADDRESS
+            }
+            RegisteredParameter::ErrorCauseIndication {
+                correlation_id,
+                causes,
+            } => {
+                numbered_items_back(*correlation_id, causes);
+                ERROR_CAUSE_INDICATION
+            }
+            RegisteredParameter::SetPrimaryAddress {
+                correlation_id,
+                address,
+            } => {
+                numbered_address_back(*correlation_id, address);
+                SET_PRIMARY_ADDRESS
+            }
+            RegisteredParameter::SuccessIndication(correlation_id) => {
+                number_back(*correlation_id);
+                SUCCESS_INDICATION
+            }
+            RegisteredParameter::AdaptationLayerIndication(code) => {
+                number_back(*code);
+                ADAPTATION_LAYER_INDICATION
+            }
+        }
+    }
+
+    /// Returns what the value holds.
+    fn shape(&self) -> Shape<'_>
+        ensures { bytes_of result ≡ value_of (view self.now) }
+    {
+        match self {
+            RegisteredParameter::Address(address) => Shape::Octets(address),
+            RegisteredParameter::UnrecognizedParameter(parameters) => {
+                Shape::Bytes(parameters.bytes())
+            }
+            RegisteredParameter::CookiePreservative(increment) => Shape::Number(*increment),
+            RegisteredParameter::HostNameAddress(name) => Shape::Bytes(name),
+            RegisteredParameter::SupportedAddressTypes(types) => Shape::Bytes(types.bytes()),
+            RegisteredParameter::EcnCapable => Shape::Bytes(&[]),
+            RegisteredParameter::Random(number) => Shape::Bytes(number),
+            RegisteredParameter::ChunkList(types) => Shape::Bytes(types),
+            RegisteredParameter::RequestedHmacAlgorithm(ids) => Shape::Bytes(ids.bytes()),
+            RegisteredParameter::Padding(bytes) => Shape::Bytes(bytes),
+            RegisteredParameter::AddIpAddress {
+                correlation_id,
+                address,
+            } => Shape::NumberAndAddress(*correlation_id, address),
+            RegisteredParameter::DeleteIpAddress {
+                correlation_id,
+                address,
+            } => Shape::NumberAndAddress(*correlation_id, address),
+            RegisteredParameter::ErrorCauseIndication {
+                correlation_id,
+                causes,
+            } => Shape::NumberAndBytes(*correlation_id, causes.bytes()),
+            RegisteredParameter::SetPrimaryAddress {
+                correlation_id,
+                address,
+            } => Shape::NumberAndAddress(*correlation_id, address),
+            RegisteredParameter::SuccessIndication(correlation_id) => {
+                Shape::Number(*correlation_id)
+            }
+            RegisteredParameter::AdaptationLayerIndication(code) => Shape::Number(*code),
+        }
+    }
+}
+
+/// The value without the header and the padding.
+impl WritableItem for RegisteredParameter<'_> {
+    ghost value = { λ p. value_of (view p) };
+
+    fn value_size(&self) -> usize {
+        self.shape().size()
+    }
+
+    fn put_value(&self, output: &mut [u8], place: usize) {
+        self.shape().put(output, place);
+    }
+}
+
+/// Adds the parameter to the packet's last chunk, which begins at `start`: after zeros up to a
+/// multiple of 4 its header with its type, its value, and zeros up to a multiple of 4, which the
+/// chunk's length doesn't count (RFC 9260 sections 3.2 and 3.2.1). What is written reads as the same
+/// parameter. Which kind of chunk it is, isn't looked at.
+///
+/// Returns the first of these errors that is so, and then changes nothing: `BadPlace` where the
+/// size isn't that of a packet that was begun, or no chunk begins at `start` and ends the packet
+/// with its padding; `BadValue` where two bytes can't hold the chunk's new length; `NoRoom` where
+/// the packet has no room for the parameter and its padding, in the buffer or in the 65,532
+/// bytes that a packet can have.
+pub fn add_parameter(
+    buffer: &mut [u8],
+    size: &mut usize,
+    start: usize,
+    parameter: &RegisteredParameter,
+) -> Result<(), WriteError>
+    ensures room { IsOk result
+        ↔ HasItemRoom buffer.old size.old start (value_of (view parameter.now)) }
+    ensures added { IsOk result → IsItemAdded (type_of (view parameter.now))
+        (value_of (view parameter.now)) buffer.old size.old start buffer.new size.new }
+    ensures reads { read (type_of (view parameter.now)) (value_of (view parameter.now))
+        ≡ Some (view parameter.now) }
+    ensures parameters { IsOk result
+        → ExtendsParameters (type_of (view parameter.now)) (value_of (view parameter.now)) }
+    ensures declined { IfErr result (Declines (IsLastChunk buffer.old size.old start)
+        (IsExtensible buffer.old start (value_of (view parameter.now)))
+        (HasItemRoom buffer.old size.old start (value_of (view parameter.now)))) }
+    ensures unchanged { IfErr result (λ e. (buffer.new ≡ buffer.old) × (size.new ≡ size.old)) }
+{
+    add_written(buffer, size, start, parameter.typ(), parameter)
 }

@@ -2,11 +2,12 @@
 
 use crate::bytes::{short_at, write_digits};
 use dcsctp_borrowed::numbers::Numbers;
+use dcsctp_buffer::{add, begin};
 use dcsctp_registry::address::Address;
 use dcsctp_registry::raw_items::RawItems;
-use dcsctp_registry::registered_cause::RegisteredCause;
+use dcsctp_registry::registered_cause::{RegisteredCause, add_cause};
 use dcsctp_registry::registered_chunk::RegisteredChunk;
-use dcsctp_registry::registered_parameter::RegisteredParameter;
+use dcsctp_registry::registered_parameter::{RegisteredParameter, add_parameter};
 use dcsctp_wire::packet::chunk::RawChunk;
 use dcsctp_wire::packet::parameter::RawParameter;
 use dcsctp_wire::packet::sack_chunk::GapAckBlock;
@@ -177,6 +178,63 @@ fn write_chunk<'a>(
     Ok(None)
 }
 
+// ---- how it is written
+
+/// Where the chunk begins after the packet's header, and the item in it.
+const CHUNK_PLACE: usize = 12;
+
+const ITEM_PLACE: usize = 16;
+
+/// Adds the item to an ERROR in a buffer. `None` if it isn't read, or not added.
+fn put_item(is_cause: bool, raw: &RawParameter, buffer: &mut [u8]) -> Option<()> {
+    let mut size = 0;
+    begin(buffer, &mut size, 1, 1, 1).ok()?;
+    let error = RawChunk {
+        typ: 9,
+        flags: 0,
+        value: &[],
+    };
+    add(buffer, &mut size, &error).ok()?;
+    if is_cause {
+        let cause = RegisteredCause::from_raw(raw)?;
+        add_cause(buffer, &mut size, CHUNK_PLACE, &cause).ok()
+    } else {
+        let parameter = RegisteredParameter::from_raw(raw)?;
+        add_parameter(buffer, &mut size, CHUNK_PLACE, &parameter).ok()
+    }
+}
+
+/// Adds the chunk to a packet in a buffer. `None` if it isn't read, or not added.
+fn put_chunk(raw: &RawChunk, buffer: &mut [u8]) -> Option<()> {
+    let mut size = 0;
+    begin(buffer, &mut size, 1, 1, 1).ok()?;
+    let chunk = RegisteredChunk::from_raw(raw)?;
+    add(buffer, &mut size, &chunk).ok()
+}
+
+/// Returns the item or the chunk at the front, without its padding.
+fn front_of(bytes: &[u8]) -> &[u8] {
+    bytes.get(..short_at(bytes, 2) as usize).unwrap_or(&[])
+}
+
+/// Writes what the buffer has from a place up to the end of the chunk, without its padding, after
+/// an arrow; nothing, where it is what was read.
+fn write_again(
+    alloc: Global,
+    place: usize,
+    read: &[u8],
+    buffer: &[u8],
+    out: &mut String,
+) -> Result<(), AllocError> {
+    let end = CHUNK_PLACE.saturating_add(short_at(buffer, CHUNK_PLACE + 2) as usize);
+    let written = buffer.get(place..end).unwrap_or(&[]);
+    if written != read {
+        out.push_str(" -> ")?;
+        write_digits(alloc, written, out)?;
+    }
+    Ok(())
+}
+
 // ---- the items in it, the items in these, and so on
 
 /// Writes the items of a list in these bytes, the items in these, and so on, each after how deep it
@@ -219,6 +277,10 @@ fn write_item_row(
         return out.push_str("no item");
     };
     let inner = write_item(alloc, is_cause, &raw, out)?;
+    let mut buffer = vec![in alloc; 0xee; 65532]?;
+    if put_item(is_cause, &raw, &mut buffer).is_some() {
+        write_again(alloc, ITEM_PLACE, front_of(bytes), &buffer, out)?;
+    }
     write_inner(alloc, bytes, inner, out)
 }
 
@@ -228,6 +290,10 @@ fn write_chunk_row(alloc: Global, bytes: &[u8], out: &mut String) -> Result<(), 
         return out.push_str("no chunk");
     };
     let inner = write_chunk(alloc, &raw, out)?;
+    let mut buffer = vec![in alloc; 0xee; 65532]?;
+    if put_chunk(&raw, &mut buffer).is_some() {
+        write_again(alloc, CHUNK_PLACE, front_of(bytes), &buffer, out)?;
+    }
     write_inner(alloc, bytes, inner, out)
 }
 

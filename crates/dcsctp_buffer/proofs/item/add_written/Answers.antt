@@ -1,13 +1,13 @@
 use Rattle.std.proofs.Common.{rules, arith, ℕ, ◌≡◌, ◌-◌, ◌+◌, ◌∙◌, ap, List, length, drop}
 use Rattle.std.specs.Int.{w16, to_be_bytes}
 use Rattle.dcsctp_tlv.specs.{Frame.{round_up_to_4, frame_length}, Image.{put}}
-use Rattle.dcsctp_buffer.{specs.Item.{item_value, IsLastChunk, HasItemRoom, extended_length, padded_item}, proofs.Extended.{extends}, proofs.Longer.{extends_parameters, extends_causes, makes_error}}
-use Rattle.dcsctp_buffer.proofs.item.add_item.Goals as goal
+use Rattle.dcsctp_buffer.{specs.Item.{IsLastChunk, HasItemRoom, extended_length, padded_item}, proofs.Extended.{extends}, proofs.Longer.{extends_parameters, extends_causes, makes_error}}
+use Rattle.dcsctp_buffer.proofs.item.add_written.Goals as goal
 
 pub put_padded_item-requires-clause-room : goal.put_padded_item-requires-clause-room
-put_padded_item-requires-clause-room c =
+put_padded_item-requires-clause-room g c =
     let last : IsLastChunk c.args.buffer.now c.args.size.now c.args.start = search rules in
-    let len = c.item_value_size-value_size.ensures in
+    let len = c.value_size-value_size.ensures in
     omega (
       arith,
       last.ends,
@@ -20,16 +20,16 @@ put_padded_item-requires-clause-room c =
     )
 
 pub returns-clause-added : goal.returns-clause-added
-returns-clause-added c added =
+returns-clause-added g c added =
     let buffer = c.args.buffer.now in
     let start = c.args.start in
-    let value = item_value c.args.leading.now c.args.numbers.now in
+    let value = g.I.WritableItem.value c.args.item.now in
     let last : IsLastChunk buffer c.args.size.now start = search rules in
-    let len = c.item_value_size-value_size.ensures in
+    let len = c.value_size-value_size.ensures in
     let is = c.chunk_length-old_length.ensures.result in
     let padded : c.round_up_to_4-padded_size.result ≡ round_up_to_4 (4 + length value) =
     c.round_up_to_4-padded_size.ensures ∙ ap (λ (n : ℕ). round_up_to_4 (4 + n)) len in
-    let longer : c.args.size.now - start + 4 + c.item_value_size-value_size.result
+    let longer : c.args.size.now - start + 4 + c.value_size-value_size.result
     ≡ extended_length buffer start value = omega (arith, last.ends, len) in
     let room : HasItemRoom buffer c.args.size.now start value = record {
       place = last;
@@ -57,19 +57,19 @@ returns-clause-added c added =
     }
 
 pub returns-clause-parameters : goal.returns-clause-parameters
-returns-clause-parameters c added =
-    let value = item_value c.args.leading.now c.args.numbers.now in
-    let len = c.item_value_size-value_size.ensures in
+returns-clause-parameters g c added =
+    let value = g.I.WritableItem.value c.args.item.now in
+    let len = c.value_size-value_size.ensures in
     extends_parameters c.args.typ value (omega (arith, len))
 
 pub returns-clause-causes : goal.returns-clause-causes
-returns-clause-causes c added =
-    let value = item_value c.args.leading.now c.args.numbers.now in
-    let len = c.item_value_size-value_size.ensures in
+returns-clause-causes g c added =
+    let value = g.I.WritableItem.value c.args.item.now in
+    let len = c.value_size-value_size.ensures in
     extends_causes c.args.typ value (omega (arith, len))
 
 pub returns-clause-error : goal.returns-clause-error
-returns-clause-error c added =
-    let value = item_value c.args.leading.now c.args.numbers.now in
-    let len = c.item_value_size-value_size.ensures in
+returns-clause-error g c added =
+    let value = g.I.WritableItem.value c.args.item.now in
+    let len = c.value_size-value_size.ensures in
     makes_error c.args.typ value (omega (arith, len))
