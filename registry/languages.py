@@ -197,7 +197,8 @@ def c_names(level, rows):
 
 
 C_BYTES = '''\
-/* Where a constant is marked as bytes to this library, it has a name here and no more: its value is read and written as bytes. */
+/* Where a constant is marked as bytes to this library, dcsctp_registered_chunk, .._parameter or .._cause reads its value; to
+   all other functions that is bytes. */
 
 '''
 
@@ -364,11 +365,31 @@ def readme(table):
     return ['\n'.join([f'| | with their fields (RFC {", ".join(standards)}) |', '|---|---|', *rows, ''])]
 
 
+# The fields of C's struct dcsctp_registered, for numbers of each size in their order; and what isn't one number but a list.
+C_NUMBERS = {'u32': ('number', 'second_number'), 'u16': ('short_number', 'second_short_number', 'third_short_number')}
+C_LISTS = ('types of parameters u16', 'HMACs u16')
+C_ADDRESSES = ('an address', '4 bytes', '16 bytes')
+
+
+def c_registered(value):
+    """The fields of struct dcsctp_registered that a value of bytes has: numbers with a name, an address, and the rest."""
+    left = {size: list(names) for size, names in C_NUMBERS.items()}
+    fields = []
+    for part in value.split(', ') if value != '-' else []:
+        name, sizes = re.fullmatch(r'(.*?)((?: ?\bu(?:16|32)\b)*)', part).groups()
+        if part in C_ADDRESSES:
+            fields.append('address')
+        elif part in C_LISTS or not sizes:
+            return [*fields, 'rest']
+        elif name:
+            fields += [left[size].pop(0) for size in sizes.split()]
+    return fields
+
+
 def c_page(table):
     rows = []
-    for level in LISTS:
-        for row in table[level]:
-            value = '' if row.value == '-' else f' {row.value}'
-            if row.read != 'kind':
-                rows.append(f'| `{level.upper()}_{row.identifier}` {digits(row)} | {reference(row)} |{value} |')
-    return ['\n'.join(['| `DCSCTP_` | standard | value |', '|---|---|---|', *rows, ''])]
+    for row in (row for level in LISTS for row in table[level] if row.read != 'kind'):
+        cells = [f'`{row.level.upper()}_{row.identifier}` {digits(row)}', reference(row), '' if row.value == '-' else row.value,
+                 ', '.join(f'`{field}`' for field in c_registered(row.value))]
+        rows.append(''.join(f'| {cell} ' if cell else '| ' for cell in cells) + '|')
+    return ['\n'.join(['| `DCSCTP_` | standard | value | `dcsctp_registered` |', '|---|---|---|---|', *rows, ''])]

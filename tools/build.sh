@@ -15,7 +15,7 @@ Proves and builds the C library, and puts it into the folder PREFIX:
                                since until 1.0.0 a minor version may change the interface
   lib/pkgconfig/dcsctp.pc
 
-The first run proves everything below it, and prints a line as each of ten crates is done: that takes 8 to 20 minutes on
+The first run proves everything below it, and prints a line as each of twelve crates is done: that takes 8 to 20 minutes on
 four processors, and 4 GB of disk for what is kept. Later runs take half a minute. Needed are the toolchain and a C compiler
 with binutils; the variables CC, LD, OBJCOPY and AR name others than cc, ld, objcopy and ar.
 
@@ -61,9 +61,9 @@ else
     archive=crates/dcsctp_c/out/libdcsctp_c.a
     first=
     [ -f "$archive" ] || first='; the first run takes 8 to 20 minutes'
-    echo "tools/build.sh: proving and building ten crates$first" >&2
+    echo "tools/build.sh: proving and building twelve crates$first" >&2
     (cd crates/dcsctp_c && rt lib) 2>&1 | tee "$work/log" |
-        sed -n -u -E 's/^crate (dcsctp_[a-z0-9_]*|dump_report): .*/  \1/p; s/^rt: (.*waiting.*)/  \1/p' >&2 || {
+        sed -n -u -E 's/^crate (dcsctp_[a-z0-9_]*|dump_text|dump_report): .*/  \1/p; s/^rt: (.*waiting.*)/  \1/p' >&2 || {
         { grep -E 'error|not proved|^rt:' "$work/log" || cat "$work/log"; } | tail -n 10 | cut -c1-300 >&2
         give_up 'crates/dcsctp_c was not built'
     }

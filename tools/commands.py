@@ -44,7 +44,7 @@ GIVEN = '''#include <dcsctp.h>
 #include <stdlib.h>
 #define TO packet, sizeof packet, &size
 void receive(uint16_t, uint32_t, const uint8_t *, size_t), acknowledge(uint32_t, uint32_t), transmit(const uint8_t *, size_t);
-void receive_chunk(const uint8_t *, const struct dcsctp_row *);
+void receive_chunk(const uint8_t *, const struct dcsctp_row *), add_address(uint32_t, const uint8_t *, size_t);
 extern uint8_t bytes[1500], packet[1500], block[64 * 2048];
 extern const uint8_t payload[8], text[8];
 extern size_t length, size, payload_size, block_count, text_size, count, sizes[64];

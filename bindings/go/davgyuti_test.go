@@ -594,8 +594,9 @@ func TestAllFunctions(t *testing.T) {
 		t.Errorf("dcsctp.h has %d functions", len(names))
 	}
 	for _, name := range names {
-		// (a list is read in one call, without those that read one item; packets one by one; and hash/crc32 computes the word)
-		if regexp.MustCompile(`^(gap_ack_block|duplicate_tsn|skipped_stream|parameter_at|reset_stream|missing_parameter|list_offset|read_many|word)$`).MatchString(name[1]) {
+		// (a list is read in one call, without those that read one item; packets one by one; hash/crc32
+		// computes the word; and what reads the rest of the registry is left out)
+		if regexp.MustCompile(`^(gap_ack_block|duplicate_tsn|skipped_stream|parameter_at|reset_stream|missing_parameter|list_offset|read_many|word|item_at|items|short_numbers|registered_chunk|registered_parameter|registered_cause)$`).MatchString(name[1]) {
 			continue
 		}
 		if !regexp.MustCompile(`\bC\.(dcsctp|go)_` + name[1] + `\(`).MatchString(code) {

@@ -450,6 +450,19 @@ static void try_skipped_streams(const uint8_t *bytes, size_t length, const struc
         REQUIRE(!dcsctp_skipped_stream(bytes, length, chunk, beyond[i], &stream) && stream.stream == 77);
 }
 
+/* What was read of a value: its parts lie in it; or it wasn't, and the struct is as it was, with 77 everywhere. */
+static void require_registered(bool is_read, const struct dcsctp_registered *found, size_t offset, size_t size)
+{
+    if (is_read) {
+        REQUIRE(!found->address_size || (found->address_offset >= offset && found->address_offset + found->address_size <= offset + size));
+        REQUIRE(!found->rest_offset || found->rest_offset >= offset);
+        REQUIRE(!found->rest_offset || found->rest_offset + found->rest_size == offset + size);
+    } else {
+        REQUIRE(found->number == 77 && found->second_number == 77 && found->short_number == 77 && found->third_short_number == 77);
+        REQUIRE(found->address_offset == 77 && found->address_size == 77 && found->rest_offset == 77 && found->rest_size == 77);
+    }
+}
+
 /* A parameter or an error cause as a call or a caller gave it: what its offsets say, read here. */
 static void try_item(const uint8_t *bytes, size_t length, const struct dcsctp_parameter *item)
 {
@@ -459,6 +472,19 @@ static void try_item(const uint8_t *bytes, size_t length, const struct dcsctp_pa
     uint32_t number = 77;
     REQUIRE(dcsctp_number(bytes, length, item, &number) == (is_there && size == 4));
     REQUIRE(number == (is_there && size == 4 ? u32(value) : 77));
+
+    uint16_t shorts[] = {77, 77};
+    size_t short_count = size % 2 == 0 ? size / 2 : 0;
+    REQUIRE(dcsctp_short_numbers(bytes, length, item, shorts, 2) == short_count);
+    REQUIRE(shorts[0] == (short_count > 0 ? u16(value) : 77) && shorts[1] == (short_count > 1 ? u16(value + 2) : 77));
+
+    struct dcsctp_registered as_parameter = {77, 77, 77, 77, 77, 77, 77, 77, 77}, as_cause = as_parameter;
+    bool is_read = dcsctp_registered_parameter(bytes, length, item, &as_parameter);
+    REQUIRE(is_there || !is_read);
+    require_registered(is_read, &as_parameter, item->value_offset, size);
+    is_read = dcsctp_registered_cause(bytes, length, item, &as_cause);
+    REQUIRE(is_there || !is_read);
+    require_registered(is_read, &as_cause, item->value_offset, size);
 
     bool is_re_config = is_there && type >= 13 && type <= 18 && parameter_fault((uint32_t)type, value, size) == DCSCTP_OK;
     struct dcsctp_re_config found = {.type = 77, .result = 77, .has_next_tsns = true, .new_streams = 77, .stream_count = 77};
@@ -506,6 +532,11 @@ static bool try_item_at(const uint8_t *bytes, size_t length, const struct dcsctp
                 && item->next == (padded(size) < left ? at + padded(size) : end));
     else
         REQUIRE(item->type == 77 && item->value_offset == 77 && item->value_size == 77 && item->next == 77);
+
+    /* the same in bytes that end where the value does */
+    struct dcsctp_parameter other = {77, 77, 77, 77};
+    if (is_there && at >= chunk->value_offset)
+        REQUIRE(dcsctp_item_at(bytes, end, at, &other) == is_item && is_parameter(item, &other));
     return is_item;
 }
 
@@ -578,6 +609,11 @@ static void try_parts(const uint8_t *bytes, size_t length, const struct dcsctp_c
         init_wanted = (struct dcsctp_init){u32(value), u32(value + 4), (uint16_t)u16(value + 8),
                                            (uint16_t)u16(value + 10), u32(value + 12)};
     REQUIRE(dcsctp_init(bytes, length, chunk, &init) == is_init && !memcmp(&init, &init_wanted, sizeof init));
+
+    struct dcsctp_registered registered = {77, 77, 77, 77, 77, 77, 77, 77, 77};
+    bool is_registered = dcsctp_registered_chunk(bytes, length, chunk, &registered);
+    REQUIRE(is_there || !is_registered);
+    require_registered(is_registered, &registered, offset, size);
 
     struct dcsctp_sack sack = {77, 77, 77, 77};
     struct dcsctp_gap_ack_block block = {77, 77};

@@ -200,6 +200,10 @@ edge() {
         "$work/edge"
 }
 
+registered() {
+    compile_sanitized -pedantic -Werror -o "$work/registered" tests/c/registered.c "$prefix/lib/libdcsctp.a" && "$work/registered"
+}
+
 has_usrsctp() {
     echo '#include <usrsctp.h>' | "$cc" -fsyntax-only -x c - 2>"$work/log"
 }
@@ -263,6 +267,7 @@ else
 fi
 try "the processor's CRC32c, on 3,000 packets" processor
 try 'calls on captured packets and at the edges, and each allocation refused' edge
+try "what IANA's registry has beyond the kinds, field by field" registered
 if has_usrsctp; then
     try 'two sockets of usrsctp with the filter between them, and one that calls the responder' interop
 else

@@ -38,10 +38,12 @@ def header() -> str:
     raise FileNotFoundError("there is no dcsctp.h")
 
 
-# (the package reads a list in one call, without those that read one item, and packets one by one)
+# (the package reads a list in one call, without those that read one item, and packets one by one; it leaves out what reads the
+# rest of the registry)
 HEADER = re.sub(
-    r"^\w+ dcsctp_(?:gap_ack_block|duplicate_tsn|skipped_stream|parameter_at|reset_stream|missing_parameter|list_offset|read_many)\([^)]*\);"
-    r"|^struct dcsctp_placed_packet \{.*?^\};",
+    r"^\w+ dcsctp_(?:gap_ack_block|duplicate_tsn|skipped_stream|parameter_at|reset_stream|missing_parameter|list_offset|read_many"
+    r"|item_at|items|short_numbers|registered_chunk|registered_parameter|registered_cause)\([^)]*\);"
+    r"|^struct dcsctp_(?:placed_packet|registered) \{.*?^\};",
     "", header(), flags=re.MULTILINE | re.DOTALL)
 
 

@@ -7,8 +7,8 @@ const FFI: &str = include_str!("../src/ffi.rs");
 const VALUES: &str = include_str!("../src/values.rs");
 
 /// Text without C's comments; without `dcsctp_read`, `dcsctp_read_many` and their structs, as the
-/// crate reads chunk by chunk; and without what reads the numbers of lists, which it reads where
-/// they lie.
+/// crate reads chunk by chunk; without what reads the numbers of lists, which it reads where they
+/// lie; and without what reads the rest of the registry, which it leaves out.
 fn without_comments(text: &str) -> String {
     let mut text: String =
         text.split("/*").map(|it| it.split_once("*/").map_or(it, |(_, rest)| rest)).collect();
@@ -28,6 +28,13 @@ fn without_comments(text: &str) -> String {
         ("size_t dcsctp_reset_streams(", ");"),
         ("bool dcsctp_missing_parameter(", ");"),
         ("size_t dcsctp_parameters(", ");"),
+        ("struct dcsctp_registered {", "};"),
+        ("bool dcsctp_registered_chunk(", ");"),
+        ("bool dcsctp_registered_parameter(", ");"),
+        ("bool dcsctp_registered_cause(", ");"),
+        ("bool dcsctp_item_at(", ");"),
+        ("size_t dcsctp_items(", ");"),
+        ("size_t dcsctp_short_numbers(", ");"),
     ] {
         let at = text.find(begin).unwrap();
         let size = text[at..].find(end).unwrap() + end.len();

@@ -2,7 +2,7 @@
 use Rattle.std.{proofs.Common.{◌≡◌, ◌∙◌, ◌+◌, ◌-◌, ◌≤◌, ◌<◌, ℕ, Bool, true, false, nat_le, if◌then◌else◌, List, [], ◌∷◌, ◌++◌, Option, Some, None, length, take, drop, set, get_or, refl, sym, ap, subst, inl, inr, arith, length-append, length-drop, take_all, get_or-drop}, specs.List.{slice_get}, specs.Option.{unwrap_or}, proofs.lemmas.Bool.{cases_lt}, proofs.lemmas.List.{drop_all, take-append-drop, take_more, get_or_past}, proofs.lemmas.Option.{get_or_from_slice_get, slice_get_within}}
 use Rattle.dcsctp_tlv.specs.{Frame.{BeginsWithFrame}, Level.{Row, Level, MeansTrees}, Number.{AreBytes}}
 use Rattle.dcsctp_borrowed.proofs.Fronts.{front, none_left}
-use Rattle.dcsctp_c.{specs.Part.{Holds, value_at, value_from, ValueMeans, MeansFirst}, specs.Parameter.{IsParameterAt, parameter_value}, specs.Walk.{AreFrom, end_of, MeanEach}, specs.Fill.{Fills, AreParameters}, proofs.Places.{value_bytes}, proofs.Walks.{Adds, has_room, no_room, added, others_stay, end_last, last_at, more_trees, last_means}}
+use Rattle.dcsctp_c.{specs.Part.{Holds, bytes_to, value_at, value_from, ValueMeans, MeansFirst}, specs.Parameter.{IsListedAt, IsListedIn, parameter_value}, specs.Walk.{AreFrom, end_of, MeanEach}, specs.Fill.{Fills, AreListed, AreListedIn, AreParameters, WritesItems}, proofs.Places.{value_bytes, from_to, in_chunk}, proofs.Walks.{Adds, has_room, no_room, added, others_stay, end_last, last_at, more_trees, last_means}}
 use Rattle.dcsctp_c.specs.declared.structs.{DcsctpChunk.{DcsctpChunk}, DcsctpParameter.{DcsctpParameter}}
 
 module _ {T S : Type 0} (Keeps : T → S → Type 0) (old : List S) where
@@ -88,7 +88,7 @@ fills_means Means all ts old new count f m = record {
 -- ---- parameters and error causes
 
 -- the bytes of a value are bytes
-from_bytes : (bytes : List ℕ) (c : DcsctpChunk) (offset : ℕ) → AreBytes bytes
+pub from_bytes : (bytes : List ℕ) (c : DcsctpChunk) (offset : ℕ) → AreBytes bytes
     → AreBytes (value_from bytes c offset)
 from_bytes bytes c offset fits =
     in_value (nat_le c.value_offset offset) (offset - c.value_offset) (value_at bytes c)
@@ -114,50 +114,67 @@ none_meant level [] fits begins ts m = none_left level [] refl ts m
 none_meant level (b ∷ bs) fits begins ts m =
     absurd (begins (front level (b ∷ bs) ((ts, m), fits) (λ e. cc)).frame)
 
--- The trees of the bytes from an offset on are those of the items.
+-- The trees of a list's bytes from an offset on are those of the items.
 pub all_mean : {T : Type 0} (level : Level T) (row : DcsctpParameter → Row T) (bytes : List ℕ)
-    (c : DcsctpChunk) → AreBytes bytes
-    → ((offset : ℕ) (p : DcsctpParameter) → IsParameterAt bytes c offset p
-    → MeansFirst level (row p) (value_from bytes c offset) (parameter_value bytes p)
-    (value_from bytes c p.next))
-    → (start : ℕ) (all : List DcsctpParameter) → AreParameters bytes c start all
-    → (ts : List T) → MeansTrees level (value_from bytes c start) ts
+    (from : ℕ → List ℕ) (end : ℕ) → ((offset : ℕ) → AreBytes (from offset))
+    → ((offset : ℕ) (p : DcsctpParameter) → IsListedAt bytes from end offset p
+    → MeansFirst level (row p) (from offset) (parameter_value bytes p) (from p.next))
+    → (start : ℕ) (all : List DcsctpParameter) → AreListed bytes from end start all
+    → (ts : List T) → MeansTrees level (from start) ts
     → (length all ≡ length ts)
     × MeanEach (λ (q : DcsctpParameter). ValueMeans (row q) (parameter_value bytes q)) all ts
-all_mean {T} level row bytes c fits first start [] a ts m =
-    let none = none_meant level (value_from bytes c start) (from_bytes bytes c start fits) a.end ts
-    m in
+all_mean {T} level row bytes from end fits first start [] a ts m =
+    let none = none_meant level (from start) (fits start) a.ends ts m in
     (sym (ap length none), tt)
-all_mean {T} level row bytes c fits first start (p ∷ ps) a ts m =
+all_mean {T} level row bytes from end fits first start (p ∷ ps) a ts m =
     let f = first start p a.are.0 ts m in
-    let others = all_mean level row bytes c fits first p.next ps
-    (record { are = a.are.1; end = a.end }) f.1 f.4 in
+    let others = all_mean level row bytes from end fits first p.next ps
+    (record { are = a.are.1; ends = a.ends }) f.1 f.4 in
     subst (λ (us : List T). (length (p ∷ ps) ≡ length us)
     × MeanEach (λ (q : DcsctpParameter). ValueMeans (row q) (parameter_value bytes q)) (p ∷ ps) us)
     (sym f.2) (omega (arith, others.0), (f.3, others.1))
 
 -- the loop over them: those that were passed, and the next one's offset
-pub record Written (bytes : List ℕ) (c : DcsctpChunk) (start : ℕ) (old now : List DcsctpParameter)
+pub record Written (bytes : List ℕ) (start : ℕ) (old now : List DcsctpParameter)
     (count offset : ℕ) : Type 0 where
   pub done : List DcsctpParameter
-  pub are : AreFrom (IsParameterAt bytes c) (λ (q : DcsctpParameter). q.next) start done
+  pub are : AreFrom (IsListedIn bytes) (λ (q : DcsctpParameter). q.next) start done
   pub ends : end_of (λ (q : DcsctpParameter). q.next) start done ≡ offset
   pub fills : Fills Holds done old now count
 
-pub none_passed : (bytes : List ℕ) (c : DcsctpChunk) (start : ℕ) (old : List DcsctpParameter)
-    → Written bytes c start old old 0 start
-none_passed bytes c start old =
-    record { done = []; are = tt; ends = refl; fills = fills_none Holds old }
-
-pub one_more : (bytes : List ℕ) (c : DcsctpChunk) (start : ℕ) (old now : List DcsctpParameter)
-    (count offset : ℕ) (p : DcsctpParameter) → Written bytes c start old now count offset
-    → IsParameterAt bytes c offset p
-    → Written bytes c start old (set now count p) (count + 1) p.next
-one_more bytes c start old now count offset p before here = record {
+pub one_more : (bytes : List ℕ) (start : ℕ) (old now : List DcsctpParameter)
+    (count offset : ℕ) (p : DcsctpParameter) → Written bytes start old now count offset
+    → IsListedIn bytes offset p
+    → Written bytes start old (set now count p) (count + 1) p.next
+one_more bytes start old now count offset p before here = record {
   done = before.done ++ p ∷ [];
-  are = last_at (IsParameterAt bytes c) (λ (q : DcsctpParameter). q.next) start before.done p
+  are = last_at (IsListedIn bytes) (λ (q : DcsctpParameter). q.next) start before.done p
       before.are
-      (subst (λ (n : ℕ). IsParameterAt bytes c n p) (sym before.ends) here);
+      (subst (λ (n : ℕ). IsListedIn bytes n p) (sym before.ends) here);
   ends = end_last (λ (q : DcsctpParameter). q.next) start before.done p;
   fills = fills_more Holds old before.done now count p p before.fills refl;
 }
+
+-- ---- those of a chunk's value
+
+-- in the bytes up to its end
+module _ (bytes to : List ℕ) (c : DcsctpChunk)
+    (is : Some to ≡ bytes_to bytes c.value_offset c.value_size) where
+  all_in_chunk : (start : ℕ) (all : List DcsctpParameter) → c.value_offset ≤ start
+      → AreListedIn to start all → AreParameters bytes c start all
+  all_in_chunk start [] le a = record {
+    are = tt;
+    ends = subst (λ (l : List ℕ). BeginsWithFrame l → ⊥) (sym (from_to bytes to c is start le))
+        a.ends;
+  }
+  all_in_chunk start (p ∷ ps) le a =
+      let after = a.are.0.item.after in
+      let others = all_in_chunk p.next ps (omega (arith, after, le))
+      (record { are = a.are.1; ends = a.ends }) in
+      record { are = (in_chunk bytes to c is start p le a.are.0, others.are); ends = others.ends }
+
+  pub written_in : (start : ℕ) (old new : List DcsctpParameter) (count : ℕ)
+      → c.value_offset ≤ start → WritesItems to start old new count
+      → (all : List DcsctpParameter) × AreParameters bytes c start all
+      × Fills Holds all old new count
+  written_in start old new count le w = (w.all, all_in_chunk start w.all le w.are, w.fills)

@@ -4,6 +4,7 @@ pub mod Places
 pub mod InitRows
 pub mod NumberRows
 pub mod PlacedPackets
+pub mod RegisteredPlaces
 pub mod Rows
 pub mod Walks
 pub mod Writings

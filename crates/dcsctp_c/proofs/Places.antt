@@ -7,7 +7,7 @@ use Rattle.dcsctp_chunk.specs.DataChunk as data_chunk
 use Rattle.dcsctp_chunk.specs.IDataChunk as idata_chunk
 use Rattle.dcsctp_wire.specs.Chunk.{ChunkTree, Abort, Error, chunks}
 use Rattle.dcsctp_borrowed.{specs.Front.{MeansList, IsFront}, specs.RawCauses.{cause_bytes, causes_of}, specs.RawParameters.{parameter_bytes, parameters_of}, specs.UserData.{read_user_data}, proofs.Fronts.{is_front, typed_front}, proofs.ListPlaces.{parameters_there, causes_there}}
-use Rattle.dcsctp_c.specs.{Part.{part, part_at, Reads, value_at, value_from, list_bytes, IsItemAt, MeansFirst, IsListOf, ChunkMeans, IsChunkAt, data_at, data_view, HoldsData}, Parameter.{IsParameterAt}, declared.structs.DcsctpChunk.{DcsctpChunk}, declared.structs.DcsctpData.{DcsctpData}, declared.structs.DcsctpParameter.{DcsctpParameter}}
+use Rattle.dcsctp_c.specs.{Part.{part, part_at, Reads, value_at, value_from, list_bytes, IsItemAt, MeansFirst, IsListOf, ChunkMeans, IsChunkAt, bytes_to, data_at, data_view, HoldsData}, Parameter.{IsListedIn, IsParameterAt, parameter_value}, declared.structs.DcsctpChunk.{DcsctpChunk}, declared.structs.DcsctpData.{DcsctpData}, declared.structs.DcsctpParameter.{DcsctpParameter}}
 
 -- ---- an item
 
@@ -255,101 +255,115 @@ chunk_there bytes offset value rest fits frame is_value is_rest = record {
 
 -- ---- a parameter or a cause
 
--- a part of a part
-part_of_part : (bytes : List ℕ) (offset size k n : ℕ) → offset + size ≤ length bytes → k + n ≤ size
-    → part_at bytes (offset + k) n ≡ part_at (part bytes offset size) k n
-part_of_part bytes offset size k n within fits =
-    let from = length-drop offset bytes in
-    let whole = length-take size (drop offset bytes) in
-    let outer : nat_le (offset + k + n) (length bytes) ≡ true =
-    le-leb _ _ (omega (arith, within, fits)) in
-    let inner : nat_le (k + n) (length (part bytes offset size)) ≡ true =
-    le-leb _ _ (omega (arith, from, whole, within, fits)) in
-    let all : k + (size - k) ≡ size = omega (arith, fits) in
-    let same : take n (drop k (take (k + (size - k)) (drop offset bytes)))
-    ≡ take n (drop (offset + k) bytes) =
-    ap (take n) (drop-take k (size - k) (drop offset bytes))
-    ∙ take-take n (size - k) (drop k (drop offset bytes)) (omega (arith, fits))
-    ∙ ap (take n) (drop-drop k offset bytes) in
-    rw (outer, inner) (ap Some (sym (ap (λ (m : ℕ). take n (drop k (take m (drop offset bytes))))
-    (sym all) ∙ same)))
-
--- what a call writes of one in a chunk's value
-abbrev pub parameter_of : (c : DcsctpChunk) (list : List ℕ) (offset typ : ℕ)
-    (value rest : List ℕ) → DcsctpParameter
-parameter_of c list offset typ value rest = record {
+-- what a call writes of one in a list that is all of the bytes
+abbrev pub item_of : (bytes : List ℕ) (offset typ : ℕ) (value rest : List ℕ) → DcsctpParameter
+item_of bytes offset typ value rest = record {
   typ = typ;
   value_offset = offset + 4;
   value_size = length value;
-  next = c.value_offset + (length list - length rest);
+  next = length bytes - length rest;
 }
 
-pub parameter_there : (bytes : List ℕ) (c : DcsctpChunk) (list : List ℕ) (offset typ : ℕ)
-    (value rest : List ℕ) → AreBytes bytes → Some list ≡ value_at bytes c
-    → c.value_offset ≤ offset → BeginsWithFrame (drop (offset - c.value_offset) list)
-    → typ ≡ number16 (drop (offset - c.value_offset) list)
-    → value ≡ frame_value (drop (offset - c.value_offset) list)
-    → rest ≡ frame_rest (drop (offset - c.value_offset) list)
-    → IsParameterAt bytes c offset (parameter_of c list offset typ value rest)
-parameter_there bytes c list offset typ value rest fits is le frame kind is_value is_rest = record {
-  typ = rw here kind;
-  item = record {
-    place = refl;
-    value = at_value ∙ item.value ∙ ap (λ (l : List ℕ). Some (frame_value l)) (sym here);
-    next = left ∙ item.next ∙ ap frame_rest (sym here);
-    after = omega (arith, item.after, le);
-    within = omega (arith, item.within, size);
-  };
+pub listed_there : (bytes : List ℕ) (offset typ : ℕ) (value rest : List ℕ) → AreBytes bytes
+    → BeginsWithFrame (drop offset bytes) → typ ≡ number16 (drop offset bytes)
+    → value ≡ frame_value (drop offset bytes) → rest ≡ frame_rest (drop offset bytes)
+    → IsListedIn bytes offset (item_of bytes offset typ value rest)
+listed_there bytes offset typ value rest fits frame kind is_value is_rest = record {
+  typ = kind;
+  item = item_there bytes offset value rest fits frame is_value is_rest;
   of_parameters = first parameter_row;
   of_causes = first cause_row;
 } where
-  there : value_at bytes c ≡ Some list
-  there = sym is
-
-  size : length list ≡ c.value_size
-  size = value_length bytes c list there
-
-  list_fits : AreBytes list
-  list_fits = value_bytes bytes c list fits there
-
-  item : IsItemAt (λ n. drop n list) (length list) (offset - c.value_offset)
-      (offset - c.value_offset + 4) (part_at list (offset - c.value_offset + 4) (length value))
-      (length list - length rest)
-  item = item_there list (offset - c.value_offset) value rest list_fits frame is_value is_rest
-
-  here : value_from bytes c offset ≡ drop (offset - c.value_offset) list
-  here = from_there bytes c list offset there le
-
-  left : value_from bytes c (c.value_offset + (length list - length rest))
-      ≡ drop (length list - length rest) list
-  left =
-      let skip : c.value_offset + (length list - length rest) - c.value_offset
-      ≡ length list - length rest = omega arith in
-      from_there bytes c list (c.value_offset + (length list - length rest)) there (omega arith)
-      ∙ ap (λ (n : ℕ). drop n list) skip
-
-  at_value : part_at bytes (offset + 4) (length value)
-      ≡ part_at list (offset - c.value_offset + 4) (length value)
-  at_value =
-      let whole = value_there bytes c list there in
-      let within = item_within list (offset - c.value_offset) value rest list_fits frame is_value
-      is_rest in
-      let place : offset + 4 ≡ c.value_offset + (offset - c.value_offset + 4) =
-      omega (arith, le) in
-      ap (λ (n : ℕ). part_at bytes n (length value)) place
-      ∙ part_of_part bytes c.value_offset c.value_size (offset - c.value_offset + 4) (length value)
-      whole.0 (omega (arith, within, size))
-      ∙ ap (λ (l : List ℕ). part_at l (offset - c.value_offset + 4) (length value)) whole.1
-
   first : {T : Type 0} (row : ℕ → Row T) → MeansFirst (typed_level row lenient) (row typ)
-      (value_from bytes c offset) (part_at bytes (offset + 4) (length value))
-      (value_from bytes c (c.value_offset + (length list - length rest)))
+      (drop offset bytes) (part_at bytes (offset + 4) (length value))
+      (drop (length bytes - length rest) bytes)
   first row =
-      rw (here, at_value, left)
-      (first_there list (offset - c.value_offset) value rest list_fits frame is_value is_rest
+      first_there bytes offset value rest fits frame is_value is_rest
       (typed_level row lenient) (row typ) (typed_front (typed_level row lenient) row
-      (λ first second value tree means. means) (drop (offset - c.value_offset) list) typ value rest
-      kind is_value is_rest))
+      (λ first second value tree means. means) (drop offset bytes) typ value rest kind is_value
+      is_rest)
+
+-- a part that ends before the bytes are cut off
+part_before : (bytes : List ℕ) (size k n : ℕ) → size ≤ length bytes → k + n ≤ size
+    → part_at bytes k n ≡ part_at (take size bytes) k n
+part_before bytes size k n within fits =
+    let whole = length-take size bytes in
+    let outer : nat_le (k + n) (length bytes) ≡ true = le-leb _ _ (omega (arith, within, fits)) in
+    let inner : nat_le (k + n) (length (take size bytes)) ≡ true =
+    le-leb _ _ (omega (arith, whole, within, fits)) in
+    let all : k + (size - k) ≡ size = omega (arith, fits) in
+    let same : take n (drop k (take (k + (size - k)) bytes)) ≡ take n (drop k bytes) =
+    ap (take n) (drop-take k (size - k) bytes)
+    ∙ take-take n (size - k) (drop k bytes) (omega (arith, fits)) in
+    rw (outer, inner) (ap Some (sym (ap (λ (m : ℕ). take n (drop k (take m bytes))) (sym all)
+    ∙ same)))
+
+-- one in the bytes up to the end of a chunk's value is one of the chunk
+module _ (bytes to : List ℕ) (c : DcsctpChunk)
+    (is : Some to ≡ bytes_to bytes c.value_offset c.value_size) where
+  is_to : (c.value_offset + c.value_size ≤ length bytes)
+      × (take (c.value_offset + c.value_size) bytes ≡ to)
+  is_to =
+      let found = chosen (nat_le (c.value_offset + c.value_size) (length bytes))
+      (take (c.value_offset + c.value_size) bytes) to (sym is) in
+      (leb-true (c.value_offset + c.value_size) (length bytes) found.0, found.1)
+
+  to_size : length to ≡ c.value_offset + c.value_size
+  to_size =
+      let whole = length-take (c.value_offset + c.value_size) bytes in
+      let same = ap length is_to.1 in
+      omega (arith, is_to.0, whole, same)
+
+  there : value_at bytes c ≡ Some (part bytes c.value_offset c.value_size)
+  there =
+      let test : nat_le (c.value_offset + c.value_size) (length bytes) ≡ true =
+      le-leb _ _ is_to.0 in
+      rw test refl
+
+  pub from_to : (offset : ℕ) → c.value_offset ≤ offset → value_from bytes c offset ≡ drop offset to
+  from_to offset le =
+      let n = c.value_offset + c.value_size in
+      let skip : c.value_offset + (offset - c.value_offset) ≡ offset = omega (arith, le) in
+      from_there bytes c (part bytes c.value_offset c.value_size) offset there le
+      ∙ ap (drop (offset - c.value_offset)) (sym (drop-take c.value_offset c.value_size bytes))
+      ∙ drop-drop (offset - c.value_offset) c.value_offset (take n bytes)
+      ∙ ap (λ (k : ℕ). drop k (take n bytes)) skip ∙ ap (drop offset) is_to.1
+
+  found_in : (p : DcsctpParameter) (value : List ℕ) → parameter_value to p ≡ Some value
+      → parameter_value bytes p ≡ parameter_value to p
+  found_in p value at =
+      let found = chosen (nat_le (p.value_offset + p.value_size) (length to))
+      (part to p.value_offset p.value_size) value at in
+      let within = leb-true (p.value_offset + p.value_size) (length to) found.0 in
+      part_before bytes (c.value_offset + c.value_size) p.value_offset p.value_size is_to.0
+      (omega (arith, within, to_size))
+      ∙ ap (λ (l : List ℕ). part_at l p.value_offset p.value_size) is_to.1
+
+  pub in_chunk : (offset : ℕ) (p : DcsctpParameter) → c.value_offset ≤ offset
+      → IsListedIn to offset p → IsParameterAt bytes c offset p
+  in_chunk offset p le it = record {
+    typ = it.typ ∙ ap number16 (sym here);
+    item = record {
+      place = it.item.place;
+      value = found ∙ it.item.value ∙ ap (λ (l : List ℕ). Some (frame_value l)) (sym here);
+      next = left ∙ it.item.next ∙ ap frame_rest (sym here);
+      after = it.item.after;
+      within = (let within = it.item.within in
+          omega (arith, within, to_size));
+    };
+    of_parameters = rw (here, found, left) it.of_parameters;
+    of_causes = rw (here, found, left) it.of_causes;
+  } where
+    here : value_from bytes c offset ≡ drop offset to
+    here = from_to offset le
+
+    left : value_from bytes c p.next ≡ drop p.next to
+    left =
+        let after = it.item.after in
+        from_to p.next (omega (arith, after, le))
+
+    found : parameter_value bytes p ≡ parameter_value to p
+    found = found_in p (frame_value (drop offset to)) it.item.value
 
 -- ---- user data
 

@@ -1,10 +1,10 @@
 -- A list of a chunk, a parameter or an error cause, as one call writes all of it to an array.
-use Rattle.std.specs.Prelude.{◌≡◌, ℕ, List, [], Option, Some, None, length, take, drop}
+use Rattle.std.specs.Prelude.{◌≡◌, ◌+◌, ℕ, List, [], Option, Some, None, length, take, drop}
 use Rattle.dcsctp_chunk.specs.{declared.sack_chunk.GapAckBlock.{GapAckBlock}}
 use Rattle.dcsctp_chunk.specs.Sack as sack_kind
 use Rattle.dcsctp_chunk.specs.SkippedStreams as skipped_streams
 use Rattle.dcsctp_tlv.specs.Frame.{BeginsWithFrame}
-use Rattle.dcsctp_c.specs.{Part.{Holds, value_at, value_from, list_bytes}, Parameter.{IsParameterAt}, Walk.{AreFrom, end_of, MeanEach}}
+use Rattle.dcsctp_c.specs.{Part.{Holds, value_at, value_from, list_bytes}, Parameter.{IsListedAt}, Walk.{AreFrom, end_of, MeanEach}}
 use Rattle.dcsctp_c.specs.declared.structs.{DcsctpChunk.{DcsctpChunk}, DcsctpParameter.{DcsctpParameter}}
 
 -- A struct for each item is written to the front of an array, as many as have room; `count` is how
@@ -33,13 +33,29 @@ abbrev pub numbers_in : Option (List ℕ) → List ℕ
 numbers_in (Some ns) = ns
 numbers_in None = []
 
--- ---- the parameters or the error causes of a chunk
+-- ---- parameters or error causes
 
--- all of them: one after the other from an offset on, to where none begins
-pub record AreParameters (bytes : List ℕ) (c : DcsctpChunk) (start : ℕ)
+-- all of a list in the bytes: one after the other from an offset on, to where none begins
+pub record AreListed (bytes : List ℕ) (from : ℕ → List ℕ) (end start : ℕ)
     (all : List DcsctpParameter) : Type 0 where
-  pub are : AreFrom (IsParameterAt bytes c) (λ p. p.next) start all
-  pub end : BeginsWithFrame (value_from bytes c (end_of (λ p. p.next) start all)) → ⊥
+  pub are : AreFrom (IsListedAt bytes from end) (λ p. p.next) start all
+  pub ends : BeginsWithFrame (from (end_of (λ p. p.next) start all)) → ⊥
+
+-- of a list that is all of the bytes
+abbrev pub AreListedIn : List ℕ → ℕ → List DcsctpParameter → Type 0
+AreListedIn bytes start all = AreListed bytes (λ n. drop n bytes) (length bytes) start all
+
+-- All are written, from an offset on.
+pub record WritesItems (bytes : List ℕ) (start : ℕ) (old new : List DcsctpParameter)
+    (count : ℕ) : Type 0 where
+  pub all : List DcsctpParameter
+  pub are : AreListedIn bytes start all
+  pub fills : Fills Holds all old new count
+
+-- of a chunk's value
+abbrev pub AreParameters : List ℕ → DcsctpChunk → ℕ → List DcsctpParameter → Type 0
+AreParameters bytes c start all =
+    AreListed bytes (value_from bytes c) (c.value_offset + c.value_size) start all
 
 -- All are written, from the chunk's first on. A value that has no place for them has none.
 pub record WritesParameters (bytes : List ℕ) (c : DcsctpChunk) (old new : List DcsctpParameter)

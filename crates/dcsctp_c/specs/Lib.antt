@@ -5,6 +5,7 @@ pub mod Parameter
 pub mod Part
 pub mod PlacedPacket
 pub mod ReConfig
+pub mod Registered
 pub mod Row
 pub mod Walk
 pub mod Writing

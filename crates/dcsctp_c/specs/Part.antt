@@ -58,6 +58,11 @@ abbrev pub part_at : List ℕ → ℕ → ℕ → Option (List ℕ)
 part_at bytes offset size =
     if nat_le (offset + size) (length bytes) then Some (part bytes offset size) else None
 
+-- the bytes up to the end of a part; nothing unless all of the part is there
+abbrev pub bytes_to : List ℕ → ℕ → ℕ → Option (List ℕ)
+bytes_to bytes offset size =
+    if nat_le (offset + size) (length bytes) then Some (take (offset + size) bytes) else None
+
 -- there is a value, which means this tree
 abbrev pub ValueMeans : {T : Type 0} → Row T → Option (List ℕ) → T → Type 0
 ValueMeans row found tree =

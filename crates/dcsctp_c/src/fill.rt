@@ -3,15 +3,15 @@
 //! Each call returns how many items there are, 0 where there is no such list. Those that have room
 //! are written to the front of the array, in their order, and what lies after them stays.
 
-ghost use Rattle.std.specs.{Prelude.{◌≡◌, List, Some}, Option.{option_and_then}};
-ghost use Rattle.dcsctp_tlv.specs.Parameter.{ParameterTree};
-ghost use Rattle.dcsctp_cause.specs.Cause.{CauseTree};
+ghost use Rattle.std.specs.{Prelude.{◌≡◌, ◌≤◌, List, Some, drop}, Option.{option_and_then}};
+ghost use Rattle.dcsctp_tlv.specs.{Frame.{lenient}, Level.{MeansTrees}, Parameter.{ParameterTree, parameters}};
+ghost use Rattle.dcsctp_cause.specs.Cause.{CauseTree, causes};
 ghost use Rattle.dcsctp_wire.specs.Chunk.{ChunkTree};
 ghost use Rattle.dcsctp_borrowed.specs.{MissingParameters.{missing_of}, RawCauses.{causes_of}, RawParameters.{parameters_of}, Sack.{sack_of}, SkippedStreams.{forward_of}};
-ghost use Rattle.dcsctp_c.specs.{Part.{Holds, ChunkMeans, sack_at, forward_at, HoldsSkipped}, Parameter.{ParameterMeans, CauseMeans}, ReConfig.{re_config_at, reset_streams, missing_at}, Fill.{Fills, blocks_in, duplicates_in, skipped_in, numbers_in, AreParameters, WritesParameters}};
+ghost use Rattle.dcsctp_c.specs.{Part.{Holds, ChunkMeans, sack_at, forward_at, HoldsSkipped}, Parameter.{ParameterMeans, CauseMeans, short_numbers_at}, ReConfig.{re_config_at, reset_streams, missing_at}, Fill.{Fills, blocks_in, duplicates_in, skipped_in, numbers_in, AreParameters, WritesItems, WritesParameters}};
 ghost use Rattle.dcsctp_c.specs.declared.structs.DcsctpParameter.{DcsctpParameter};
 
-use crate::parameters::{dcsctp_list_offset, parameter_at};
+use crate::parameters::{dcsctp_list_offset, item_at, short_numbers_in, up_to_end};
 use crate::parts::{forward_ref, sack_ref, skipped_stream_of};
 use crate::re_config::{missing, reset_streams};
 use crate::read::put_item;
@@ -122,6 +122,25 @@ pub extern "C" fn dcsctp_missing_parameters(
     }
 }
 
+/// Writes the numbers of two bytes each that a value is, whatever its type, as many as have room:
+/// the types of Supported Address Types (RFC 9260 section 3.3.2.1.5), the identifiers of Requested
+/// HMAC Algorithm (RFC 4895 section 3.3). Returns how many they are: 0 where the value's size is
+/// odd, or it does not lie within the bytes. The rest of `numbers` stays.
+#[unsafe(no_mangle)]
+pub extern "C" fn dcsctp_short_numbers(
+    bytes: &[u8],
+    parameter: &DcsctpParameter,
+    numbers: &mut [u16],
+) -> usize
+    ensures { Fills Holds (numbers_in (short_numbers_at bytes.now parameter.now))
+        numbers.old numbers.new result }
+{
+    match short_numbers_in(bytes, parameter) {
+        Some(found) => write_numbers(&found, numbers),
+        None => 0,
+    }
+}
+
 /// Writes the parameters (RFC 9260 section 3.2.1) or the error causes (section 3.3.10) of a chunk,
 /// each as `dcsctp_parameter_at` reads it, as many as have room. Returns how many there are from
 /// the offset of `dcsctp_list_offset` on: 0 if the chunk's type has none, or its value does not lie
@@ -142,6 +161,22 @@ pub extern "C" fn dcsctp_parameters(
         → Fills (λ t p. CauseMeans bytes.now p t) trees parameters.old parameters.new result }
 {
     write_parameters(bytes, chunk, dcsctp_list_offset(chunk), parameters)
+}
+
+/// Writes the parameters (RFC 9260 section 3.2.1) or the error causes (section 3.3.10) from an
+/// offset of bytes on, each as `dcsctp_item_at` reads it, as many as have room. Returns how many
+/// there are, up to the end of the bytes or to where none begins. The rest of `items` stays.
+#[unsafe(no_mangle)]
+pub extern "C" fn dcsctp_items(bytes: &[u8], offset: usize, items: &mut [DcsctpParameter]) -> usize
+    ensures read { WritesItems bytes.now offset items.old items.new result }
+    ensures of_parameters { (trees : List ParameterTree)
+        → MeansTrees (parameters lenient) (drop offset bytes.now) trees
+        → Fills (λ t p. ParameterMeans bytes.now p t) trees items.old items.new result }
+    ensures of_causes { (trees : List CauseTree)
+        → MeansTrees (causes lenient) (drop offset bytes.now) trees
+        → Fills (λ t p. CauseMeans bytes.now p t) trees items.old items.new result }
+{
+    write_items(bytes, offset, items)
 }
 
 // ---- helpers
@@ -195,7 +230,8 @@ fn write_numbers(numbers: &Numbers<'_>, output: &mut [u16]) -> usize
     count
 }
 
-/// Writes the parameters or the error causes from an offset on, and returns how many there are.
+/// Writes the parameters or the error causes of a chunk's value from an offset on, and returns how
+/// many there are.
 #[inline(always)]
 fn write_parameters(
     bytes: &[u8],
@@ -203,14 +239,26 @@ fn write_parameters(
     start: usize,
     parameters: &mut [DcsctpParameter],
 ) -> usize
+    requires { chunk.now.value_offset ≤ start }
     ensures { (all : List DcsctpParameter) × AreParameters bytes.now chunk.now start all
         × Fills Holds all parameters.old parameters.new result }
 {
+    match up_to_end(bytes, chunk) {
+        Some(list) => write_items(list, start, parameters),
+        None => 0,
+    }
+}
+
+/// Writes the parameters or the error causes from an offset on, and returns how many there are.
+#[inline(always)]
+fn write_items(bytes: &[u8], start: usize, items: &mut [DcsctpParameter]) -> usize
+    ensures { WritesItems bytes.now start items.old items.new result }
+{
     let mut offset = start;
     let mut count = 0;
-    while let Some(parameter) = parameter_at(bytes, chunk, offset) {
-        offset = parameter.next;
-        put_item(parameters, count, parameter);
+    while let Some(item) = item_at(bytes, offset) {
+        offset = item.next;
+        put_item(items, count, item);
         count += 1;
     }
     count

@@ -16,6 +16,7 @@ mod parts;
 mod re_config;
 mod read;
 mod read_many;
+mod registered;
 mod structs;
 mod version;
 mod writing;

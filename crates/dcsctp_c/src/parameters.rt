@@ -1,14 +1,16 @@
-//! The parameters and the error causes of a chunk: where they begin, one after the other, and what
-//! they hold.
+//! The parameters and the error causes of a chunk, or of any list: where they begin, one after the
+//! other, and what they hold.
 
 ghost use Rattle.std.specs.Prelude.{◌≡◌, ◌↔◌, ◌+◌, ◌^◌, ◌<◌, ◌≤◌, ℕ, List, IsTrue, IsSome, IfSome, Some, false, length, drop, option_map};
 ghost use Rattle.dcsctp_tlv.specs.{Frame.{BeginsWithFrame}, Parameter.{ParameterTree}};
 ghost use Rattle.dcsctp_cause.specs.Cause.{CauseTree};
 ghost use Rattle.dcsctp_wire.specs.Chunk.{ChunkTree};
-ghost use Rattle.dcsctp_c.specs.{Part.{ReadsInto, Holds, value_at, value_from, ChunkMeans, list_bytes, IsListOf}, Parameter.{IsParameterAt, ParameterMeans, CauseMeans, parameter_value, number_at, number_of, cause_number_of}};
+ghost use Rattle.dcsctp_registry.specs.Shapes.{short_numbers_of};
+ghost use Rattle.dcsctp_c.specs.{Part.{ReadsInto, Holds, value_at, value_from, ChunkMeans, list_bytes, IsListOf, bytes_to}, Parameter.{IsListedIn, IsParameterAt, ParameterMeans, CauseMeans, parameter_value, number_at, number_of, cause_number_of, short_numbers_at}};
 
-use crate::parts::{part_at, put_found, read_number, value_of};
+use crate::parts::{part_at, put_found, read_number};
 use crate::structs::{DcsctpChunk, DcsctpParameter};
+use dcsctp_borrowed::numbers::Numbers;
 use dcsctp_tlv::frame::split_frame;
 use dcsctp_wire::packet::init_chunk::{self, InitNumbers};
 use dcsctp_wire::packet::{
@@ -56,6 +58,21 @@ pub extern "C" fn dcsctp_parameter_at(
     put_found(parameter_at(bytes, chunk, offset), parameter)
 }
 
+/// Reads the parameter (RFC 9260 section 3.2.1) or the error cause (section 3.3.10) at an offset of
+/// bytes, and writes where its value and the next one are: in a chunk, in a parameter or in a
+/// cause. The list ends where the bytes do.
+///
+/// Returns false, and `item` stays, if and only if no header with a whole value is there: at the
+/// end of the bytes, and after it.
+#[unsafe(no_mangle)]
+pub extern "C" fn dcsctp_item_at(bytes: &[u8], offset: usize, item: &mut DcsctpParameter) -> bool
+    ensures there { IsTrue result ↔ BeginsWithFrame (drop offset bytes.now) }
+    ensures read { IsTrue result → IsListedIn bytes.now offset item.new }
+    ensures stays { result ≡ false → item.new ≡ item.old }
+{
+    put_found(item_at(bytes, offset), item)
+}
+
 /// Reads a value that is one number of four bytes, whatever its type: the method of Zero Checksum
 /// Acceptable (RFC 9653 section 4), the TSN of the cause No User Data (RFC 9260 section 3.3.10.9).
 ///
@@ -77,21 +94,29 @@ pub extern "C" fn dcsctp_number(bytes: &[u8], parameter: &DcsctpParameter, numbe
 
 // ---- helpers
 
-/// Reads the parameter or the error cause at an offset.
+/// Reads the parameter or the error cause at an offset of the chunk's value.
 #[inline(always)]
-pub(crate) fn parameter_at(
-    bytes: &[u8],
-    chunk: &DcsctpChunk,
-    offset: usize,
-) -> Option<DcsctpParameter>
+fn parameter_at(bytes: &[u8], chunk: &DcsctpChunk, offset: usize) -> Option<DcsctpParameter>
     ensures there { IsSome result ↔ BeginsWithFrame (value_from bytes.now chunk.now offset) }
     ensures read { IfSome result (λ found. IsParameterAt bytes.now chunk.now offset found) }
 {
-    let list = value_of(bytes, chunk)?;
-    if offset < chunk.value_offset || offset - chunk.value_offset > list.len() {
+    let list = up_to_end(bytes, chunk)?;
+    if offset < chunk.value_offset {
         return None;
     }
-    let (_, from) = list.split_at(offset - chunk.value_offset);
+    item_at(list, offset)
+}
+
+/// Reads the parameter or the error cause at an offset of the bytes.
+#[inline(always)]
+pub(crate) fn item_at(bytes: &[u8], offset: usize) -> Option<DcsctpParameter>
+    ensures there { IsSome result ↔ BeginsWithFrame (drop offset bytes.now) }
+    ensures read { IfSome result (λ found. IsListedIn bytes.now offset found) }
+{
+    if offset > bytes.len() {
+        return None;
+    }
+    let (_, from) = bytes.split_at(offset);
     let Ok((value, rest)) = split_frame(from) else {
         return None;
     };
@@ -99,8 +124,22 @@ pub(crate) fn parameter_at(
         typ: read_u16_be(from),
         value_offset: offset + TLV_HEADER_SIZE,
         value_size: value.len(),
-        next: chunk.value_offset + (list.len() - rest.len()),
+        next: bytes.len() - rest.len(),
     })
+}
+
+/// Returns the bytes up to the end of the chunk's value, if all of that lies within them.
+#[inline(always)]
+pub(crate) fn up_to_end<'a>(bytes: &'a [u8], chunk: &DcsctpChunk) -> Option<&'a [u8]>
+    ensures { option_map (λ list. list.now) result
+        ≡ bytes_to bytes.now chunk.now.value_offset chunk.now.value_size }
+{
+    // a sum of the offset and the size could overflow
+    if chunk.value_offset > bytes.len() || chunk.value_size > bytes.len() - chunk.value_offset {
+        return None;
+    }
+    let (list, _) = bytes.split_at(chunk.value_offset + chunk.value_size);
+    Some(list)
 }
 
 /// Returns where the parameters or the error causes begin in a value of this type and size: at its
@@ -142,4 +181,26 @@ fn number_in(bytes: &[u8], parameter: &DcsctpParameter) -> Option<u32>
         → number_at bytes.now parameter.now ≡ Some n }
 {
     read_number(parameter_value(bytes, parameter)?)
+}
+
+/// Returns the numbers of two bytes each that the value is.
+#[inline(always)]
+pub(crate) fn short_numbers_in<'a>(
+    bytes: &'a [u8],
+    parameter: &DcsctpParameter,
+) -> Option<Numbers<'a>>
+    ensures { result ≡ short_numbers_at bytes.now parameter.now }
+{
+    short_numbers(parameter_value(bytes, parameter)?)
+}
+
+/// Returns the numbers of two bytes each that the bytes are; nothing where one is left over.
+#[inline(always)]
+fn short_numbers(value: &[u8]) -> Option<Numbers>
+    ensures { result ≡ short_numbers_of value.now }
+{
+    if !value.len().is_multiple_of(2) {
+        return None;
+    }
+    Some(Numbers::new(value.len() / 2, value))
 }

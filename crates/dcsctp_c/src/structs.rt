@@ -169,6 +169,35 @@ pub struct DcsctpReConfig {
     pub stream_count: usize,
 }
 
+/// What a chunk, a parameter or an error cause holds that IANA's registry has and no struct of its
+/// own: numbers, the octets of an address, and bytes whose form its type says. What the type does
+/// not have is 0.
+#[repr(C)]
+#[derive(Clone, Copy)]
+pub struct DcsctpRegistered {
+    /// The first number of four bytes: the lowest TSN of ECNE and CWR, the cumulative TSN of
+    /// NR-SACK, the sequence number of ASCONF and ASCONF ACK, the bandwidth of PKTDROP, the
+    /// correlation id of an address request and of its answer, or the one number of the type.
+    pub number: u32,
+    /// The second one: the receiver window of NR-SACK, the bytes queued of PKTDROP.
+    pub second_number: u32,
+    /// The first number of two bytes: the shared key id of AUTH, the number of gap ack blocks of
+    /// NR-SACK, the truncated length of PKTDROP, or the one number of the type.
+    pub short_number: u16,
+    /// The second one: the HMAC identifier of AUTH, the number of NR gap ack blocks of NR-SACK.
+    pub second_short_number: u16,
+    /// The third one: the number of duplicate TSNs of NR-SACK.
+    pub third_short_number: u16,
+    /// The offset of an address.
+    pub address_offset: usize,
+    /// The octets of the address: 4 or 16.
+    pub address_size: usize,
+    /// The offset of the bytes that end the value: a list, a text, an HMAC, a packet, padding.
+    pub rest_offset: usize,
+    /// How many bytes these are.
+    pub rest_size: usize,
+}
+
 /// A chunk in a packet that was read: what `dcsctp_chunk_at` writes of it, and the numbers that the
 /// call for its kind writes. What the kind does not carry is 0.
 #[repr(C)]

@@ -1,0 +1,19 @@
+use Rattle.std.proofs.Common.{length}
+use Rattle.dcsctp_registry.specs.RegisteredParameter.{view, read}
+use Rattle.dcsctp_c.{specs.Registered.{parameter_fields, parameter_struct}, proofs.RegisteredPlaces.{parameter_holds, parameter_kept, reads_there}}
+use Rattle.dcsctp_c.proofs.registered.registered_parameter.Goals as goal
+
+pub returns-clause-read : goal.returns-clause-read
+returns-clause-read c =
+    let bytes = c.args.bytes.now in
+    let it = c.args.parameter.now in
+    let value = c.in_ok-value.value.now in
+    rw c.parameter_struct.ensures
+    (reads_there parameter_fields (read it.typ) bytes it.value_offset it.value_size value
+    (view c.in_ok-found.found) (parameter_struct it.value_offset (length value) (view c.in_ok-found.found))
+    c.in_ok-value.ensures c.in_ok-found.ensures.read
+    (λ there means. parameter_holds bytes it.value_offset (length value) value there it.typ
+    (view c.in_ok-found.found) means))
+
+pub returns-clause-means : goal.returns-clause-means
+returns-clause-means c t m = parameter_kept c.args.bytes.now c.args.parameter.now t m

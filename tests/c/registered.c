@@ -1,0 +1,379 @@
+/* SPDX-License-Identifier: Apache-2.0 */
+/* What IANA's registry has beyond the kinds: each field of each type, read from bytes that were laid out by hand as the RFCs
+   say; values of another size, broken lists, and values that don't lie within the bytes; and lists at any place. */
+#include <dcsctp.h>
+#include <stdint.h>
+#include <stdio.h>
+#include <stdlib.h>
+#include <string.h>
+
+static unsigned passed, failed;
+
+#define CHECK(condition) check_that(condition, #condition, "", __LINE__)
+
+static void check_that(bool holds, const char *condition, const char *bytes, int line)
+{
+    if (holds) {
+        passed++;
+    } else {
+        failed++;
+        printf("tests/c/registered.c:%d: %s: %s\n", line, condition, bytes);
+    }
+}
+
+/* ---- bytes */
+
+/* So many bytes lie before an item, and none after it: a memory of its own, so that a read too far is noticed. */
+enum { BEFORE = 7 };
+
+struct bytes {
+    uint8_t *bytes;
+    size_t length;
+};
+
+static struct bytes bytes_of(const char *hexadecimal)
+{
+    struct bytes made = {malloc(BEFORE + strlen(hexadecimal)), BEFORE};
+    unsigned byte;
+    int used;
+    if (!made.bytes)
+        abort();
+    memset(made.bytes, 0xee, BEFORE);
+    for (; sscanf(hexadecimal, " %2x%n", &byte, &used) == 1; hexadecimal += used)
+        made.bytes[made.length++] = (uint8_t)byte;
+    made.bytes = realloc(made.bytes, made.length);
+    if (!made.bytes)
+        abort();
+    return made;
+}
+
+/* ---- one item */
+
+enum level { CHUNK, PARAMETER, CAUSE };
+
+/* Places are counted from the item's header on; 0 is none. */
+struct row {
+    enum level level;
+    const char *bytes;
+    struct dcsctp_registered fields;
+};
+
+/* Those that are read. */
+static const struct row rows[] = {
+    /* ECNE and CWR: RFC 4960 appendix A */
+    {CHUNK, "0c00 0008 01020304", {.number = 0x01020304}},
+    {CHUNK, "0d00 0008 01020304", {.number = 0x01020304}},
+    /* AUTH: RFC 4895 section 5.1 */
+    {CHUNK, "0fff 000c 0102 0003 01020304",
+     {.short_number = 0x0102, .second_short_number = 3, .rest_offset = 8, .rest_size = 4}},
+    {CHUNK, "0f00 0008 0102 0001", {.short_number = 0x0102, .second_short_number = 1, .rest_offset = 8}},
+    /* NR-SACK: draft-tuexen-tsvwg-sctp-multipath */
+    {CHUNK, "1000 0028 01020304 00050607 0001 0002 0002 0000 0002 0103 0205 0206 0408 0509 01020303 01020204",
+     {.number = 0x01020304, .second_number = 0x00050607, .short_number = 1, .second_short_number = 2, .third_short_number = 2,
+      .rest_offset = 20, .rest_size = 20}},
+    {CHUNK, "1000 0014 01020304 00050607 0000 0000 0000 ffff",
+     {.number = 0x01020304, .second_number = 0x00050607, .rest_offset = 20}},
+    /* ASCONF ACK and ASCONF: RFC 5061 section 4.1 */
+    {CHUNK, "8000 002c 08090a0b c005 0008 00000001 c003 001c 00000002 00a1 0014 c001 0010 00000002 0005 0008 c0000201",
+     {.number = 0x08090a0b, .rest_offset = 8, .rest_size = 36}},
+    {CHUNK, "8000 0008 08090a0b", {.number = 0x08090a0b, .rest_offset = 8}},
+    {CHUNK, "c100 0028 08090a0b 0005 0008 c0000201 c001 0010 00000001 0005 0008 c0000202 c006 0008 00000001",
+     {.number = 0x08090a0b, .address_offset = 12, .address_size = 4, .rest_offset = 16, .rest_size = 24}},
+    {CHUNK, "c100 001c 08090a0b 0006 0014 20010db8 00000000 00000000 00000001",
+     {.number = 0x08090a0b, .address_offset = 12, .address_size = 16, .rest_offset = 28}},
+    /* PKTDROP: draft-stewart-sctp-pktdrprep */
+    {CHUNK, "8100 0020 0c0d0e0f 000007d0 05dc 0000 13881389 01020304 00000000 0b000004",
+     {.number = 0x0c0d0e0f, .second_number = 2000, .short_number = 1500, .rest_offset = 16, .rest_size = 16}},
+    {CHUNK, "8100 0010 0c0d0e0f 000007d0 0000 ffff",
+     {.number = 0x0c0d0e0f, .second_number = 2000, .rest_offset = 16}},
+    /* PAD: RFC 4820 section 3 */
+    {CHUNK, "8400 0008 00000000", {.rest_offset = 4, .rest_size = 4}},
+    {CHUNK, "8400 0004", {.rest_offset = 4}},
+
+    /* IPv4 Address and IPv6 Address: RFC 9260 sections 3.3.2.1.1 and 3.3.2.1.2 */
+    {PARAMETER, "0005 0008 c0000201", {.address_offset = 4, .address_size = 4}},
+    {PARAMETER, "0006 0014 20010db8 00000000 00000000 00000001", {.address_offset = 4, .address_size = 16}},
+    /* Unrecognized Parameter: section 3.3.3.1.2 */
+    {PARAMETER, "0008 0009 8008 0005 0f", {.rest_offset = 4, .rest_size = 5}},
+    {PARAMETER, "0008 0010 8008 0005 0f000000 c000 0004", {.rest_offset = 4, .rest_size = 12}},
+    {PARAMETER, "0008 0004", {.rest_offset = 4}},
+    /* Cookie Preservative, Host Name Address, Supported Address Types: sections 3.3.2.1.3 to 3.3.2.1.5 */
+    {PARAMETER, "0009 0008 0000ea60", {.number = 60000}},
+    {PARAMETER, "000b 000e 612e6578616d706c6500", {.rest_offset = 4, .rest_size = 10}},
+    {PARAMETER, "000c 0008 0005 0006", {.rest_offset = 4, .rest_size = 4}},
+    {PARAMETER, "000c 0004", {.rest_offset = 4}},
+    /* ECN Capable: RFC 4960 appendix A */
+    {PARAMETER, "8000 0004", {0}},
+    /* Random, Chunk List, Requested HMAC Algorithm: RFC 4895 section 3 */
+    {PARAMETER, "8002 000c 0123456789abcdef", {.rest_offset = 4, .rest_size = 8}},
+    {PARAMETER, "8003 0006 c180", {.rest_offset = 4, .rest_size = 2}},
+    {PARAMETER, "8004 0008 0003 0001", {.rest_offset = 4, .rest_size = 4}},
+    /* Padding: RFC 4820 section 4 */
+    {PARAMETER, "8005 000a 000000000000", {.rest_offset = 4, .rest_size = 6}},
+    /* Add IP Address, Delete IP Address, Set Primary Address: RFC 5061 sections 4.2.1, 4.2.2 and 4.2.4 */
+    {PARAMETER, "c001 0010 01023474 0005 0008 c0000201", {.number = 0x01023474, .address_offset = 12, .address_size = 4}},
+    {PARAMETER, "c001 001c 01023474 0006 0014 20010db8 00000000 00000000 00000001",
+     {.number = 0x01023474, .address_offset = 12, .address_size = 16}},
+    {PARAMETER, "c002 0010 01023476 0005 0008 00000000", {.number = 0x01023476, .address_offset = 12, .address_size = 4}},
+    {PARAMETER, "c004 0010 01023479 0005 0008 c0000201", {.number = 0x01023479, .address_offset = 12, .address_size = 4}},
+    /* Error Cause Indication, Success Indication, Adaptation Layer Indication: sections 4.2.3, 4.2.5 and 4.2.6 */
+    {PARAMETER, "c003 001c 01023476 00a0 0014 c002 0010 01023476 0005 0008 c0000201",
+     {.number = 0x01023476, .rest_offset = 8, .rest_size = 20}},
+    {PARAMETER, "c003 0008 01023476", {.number = 0x01023476, .rest_offset = 8}},
+    {PARAMETER, "c005 0008 01023474", {.number = 0x01023474}},
+    {PARAMETER, "c006 0008 01020304", {.number = 0x01020304}},
+
+    /* RFC 9260 section 3.3.10 */
+    {CAUSE, "0001 0008 0201 ffff", {.short_number = 0x0201}},
+    {CAUSE, "0003 0008 0001e240", {.number = 123456}},
+    {CAUSE, "0004 0004", {0}},
+    {CAUSE, "0005 000e 000b 000a 612e62632e00", {.rest_offset = 4, .rest_size = 10}},
+    {CAUSE, "0005 0004", {.rest_offset = 4}},
+    {CAUSE, "0007 0004", {0}},
+    {CAUSE, "0008 0014 0008 0009 8008 0005 0f000000 c000 0004", {.rest_offset = 4, .rest_size = 16}},
+    {CAUSE, "000b 0020 0005 0008 c0000201 0006 0014 20010db8 00000000 00000000 00000001", {.rest_offset = 4, .rest_size = 28}},
+    /* RFC 5061 section 4.3 */
+    {CAUSE, "00a0 0014 c002 0010 00000001 0005 0008 c0000201", {.rest_offset = 4, .rest_size = 16}},
+    {CAUSE, "00a1 0014 c001 0010 00000002 0005 0008 c0000201", {.rest_offset = 4, .rest_size = 16}},
+    {CAUSE, "00a2 0014 c002 0010 00000003 0005 0008 c0000201", {.rest_offset = 4, .rest_size = 16}},
+    {CAUSE, "00a3 0004", {0}},
+    {CAUSE, "00a4 0014 c004 0010 00000004 0005 0008 c0000201", {.rest_offset = 4, .rest_size = 16}},
+    /* RFC 4895 section 4.1 */
+    {CAUSE, "0105 0006 0002", {.short_number = 2}},
+};
+
+/* Those that aren't: of another size, with a broken list, or of a type that has a kind of its own, or none. */
+static const struct row others[] = {
+    {CHUNK, "0c00 0004", {0}},
+    {CHUNK, "0d00 000c 01020304 00000000", {0}},
+    {CHUNK, "0f00 0007 0102 00", {0}},
+    {CHUNK, "1000 0013 01020304 00050607 0000 0000 0000 00", {0}},
+    {CHUNK, "1000 0015 01020304 00050607 0000 0000 0000 0000 00", {0}},
+    {CHUNK, "1000 0014 01020304 00050607 ffff ffff ffff 0000", {0}},
+    {CHUNK, "8000 000b 08090a0b c005 00", {0}},
+    {CHUNK, "8000 0007 090a0b", {0}},
+    {CHUNK, "8100 000f 0c0d0e0f 000007d0 0000 00", {0}},
+    {CHUNK, "c100 0008 08090a0b", {0}},
+    {CHUNK, "c100 0010 08090a0b c006 0008 00000001", {0}},
+    {CHUNK, "c100 000e 08090a0b 000b 0006 6100", {0}},
+    {CHUNK, "c100 000f 08090a0b 0005 0008 c00002", {0}},
+    {CHUNK, "c100 0016 08090a0b 0005 0008 c0000201 c006 0008 0000", {0}},
+    {CHUNK, "c100 0007 090a0b", {0}},
+    {CHUNK, "0b00 0004", {0}},
+    {CHUNK, "3e00 0008 01020304", {0}},
+    {PARAMETER, "0005 0007 c00002", {0}},
+    {PARAMETER, "0005 0009 c000020100", {0}},
+    {PARAMETER, "0005 0014 20010db8 00000000 00000000 00000001", {0}},
+    {PARAMETER, "0006 0008 c0000201", {0}},
+    {PARAMETER, "0006 0013 20010db8 00000000 00000000 000000", {0}},
+    {PARAMETER, "0008 0008 8008 0003", {0}},
+    {PARAMETER, "0008 0007 8008 00", {0}},
+    {PARAMETER, "0008 000f 8008 0005 0f000000 c000 00", {0}},
+    {PARAMETER, "0009 0007 00ea60", {0}},
+    {PARAMETER, "0009 0009 0000ea60 00", {0}},
+    {PARAMETER, "000c 0007 0005 00", {0}},
+    {PARAMETER, "8000 0005 00", {0}},
+    {PARAMETER, "8004 0005 00", {0}},
+    {PARAMETER, "c001 0008 01023474", {0}},
+    {PARAMETER, "c001 0006 0102", {0}},
+    {PARAMETER, "c001 000f 01023474 0005 0008 c00002", {0}},
+    {PARAMETER, "c001 0011 01023474 0005 0008 c0000201 00", {0}},
+    {PARAMETER, "c001 000e 01023474 000b 0006 6100", {0}},
+    {PARAMETER, "c002 0010 01023476 0007 0008 c0000201", {0}},
+    {PARAMETER, "c003 000b 01023476 00a0 00", {0}},
+    {PARAMETER, "c003 0007 010234", {0}},
+    {PARAMETER, "c004 0010 01023479 0007 0008 c0000201", {0}},
+    {PARAMETER, "c005 0004", {0}},
+    {PARAMETER, "c006 000c 00000001 00000002", {0}},
+    {PARAMETER, "0007 0008 01020304", {0}},
+    {PARAMETER, "0002 0008 01020304", {0}},
+    {CAUSE, "0001 0006 0201", {0}},
+    {CAUSE, "0001 000a 0201 0000 0000", {0}},
+    {CAUSE, "0003 0007 0001e2", {0}},
+    {CAUSE, "0004 0005 00", {0}},
+    {CAUSE, "0005 0007 000b 00", {0}},
+    {CAUSE, "0007 0005 00", {0}},
+    {CAUSE, "0008 0013 0008 0009 8008 0005 0f000000 c000 00", {0}},
+    {CAUSE, "000b 0008 0005 0003", {0}},
+    {CAUSE, "00a0 0013 c002 0010 00000001 0005 0008 c00002", {0}},
+    {CAUSE, "00a1 0006 c001", {0}},
+    {CAUSE, "00a2 0007 c002 00", {0}},
+    {CAUSE, "00a3 000c c005 0008 00000001", {0}},
+    {CAUSE, "00a4 0008 c004 0005", {0}},
+    {CAUSE, "0105 0008 0002 0000", {0}},
+    {CAUSE, "0105 0005 00", {0}},
+    {CAUSE, "0009 0008 00000001", {0}},
+    {CAUSE, "0010 0004", {0}},
+};
+
+/* A chunk, a parameter or a cause: what the calls take. */
+struct item {
+    struct dcsctp_chunk chunk;
+    struct dcsctp_parameter parameter;
+};
+
+static bool find(enum level level, struct bytes in, struct item *item)
+{
+    return level == CHUNK ? dcsctp_chunk_at(in.bytes, in.length, BEFORE, &item->chunk)
+                          : dcsctp_item_at(in.bytes, in.length, BEFORE, &item->parameter);
+}
+
+static bool read_item(enum level level, const uint8_t *bytes, size_t length, const struct item *item,
+                      struct dcsctp_registered *registered)
+{
+    switch (level) {
+    case CHUNK: return dcsctp_registered_chunk(bytes, length, &item->chunk, registered);
+    case PARAMETER: return dcsctp_registered_parameter(bytes, length, &item->parameter, registered);
+    default: return dcsctp_registered_cause(bytes, length, &item->parameter, registered);
+    }
+}
+
+static bool is_untouched(const struct dcsctp_registered *registered)
+{
+    struct dcsctp_registered filled;
+    memset(&filled, 0xa5, sizeof filled);
+    return !memcmp(registered, &filled, sizeof filled);
+}
+
+static bool refuses(enum level level, const uint8_t *bytes, size_t length, const struct item *item)
+{
+    struct dcsctp_registered registered;
+    memset(&registered, 0xa5, sizeof registered);
+    return !read_item(level, bytes, length, item, &registered) && is_untouched(&registered);
+}
+
+static size_t place(size_t offset)
+{
+    return offset ? BEFORE + offset : 0;
+}
+
+static bool are_same(const struct dcsctp_registered *read, const struct dcsctp_registered *fields)
+{
+    return read->number == fields->number && read->second_number == fields->second_number
+        && read->short_number == fields->short_number && read->second_short_number == fields->second_short_number
+        && read->third_short_number == fields->third_short_number && read->address_offset == place(fields->address_offset)
+        && read->address_size == fields->address_size && read->rest_offset == place(fields->rest_offset)
+        && read->rest_size == fields->rest_size;
+}
+
+/* Its value is said to lie elsewhere: none of these is within the bytes. */
+static void outside(const struct row *row, struct bytes in, struct item item)
+{
+    const size_t far[] = {in.length + 1, SIZE_MAX - 3, SIZE_MAX};
+    struct item moved = item;
+    for (size_t i = 0; i < sizeof far / sizeof *far; i++) {
+        moved.chunk.value_offset = moved.parameter.value_offset = far[i];
+        check_that(refuses(row->level, in.bytes, in.length, &moved), "a value past the end is refused", row->bytes, __LINE__);
+    }
+    moved = item;
+    moved.chunk.value_size = moved.parameter.value_size = SIZE_MAX;
+    check_that(refuses(row->level, in.bytes, in.length, &moved), "an endless value is refused", row->bytes, __LINE__);
+    size_t end = row->level == CHUNK ? item.chunk.value_offset + item.chunk.value_size
+                                     : item.parameter.value_offset + item.parameter.value_size;
+    check_that(refuses(row->level, in.bytes, end - 1, &item), "a value that is cut off is refused", row->bytes, __LINE__);
+    check_that(refuses(row->level, NULL, 0, &item), "no bytes have a value", row->bytes, __LINE__);
+}
+
+static void each_row(void)
+{
+    for (size_t i = 0; i < sizeof rows / sizeof *rows; i++) {
+        struct bytes in = bytes_of(rows[i].bytes);
+        struct dcsctp_registered registered;
+        struct item item = {{0}, {0}};
+        memset(&registered, 0xa5, sizeof registered);
+        check_that(find(rows[i].level, in, &item), "an item is there", rows[i].bytes, __LINE__);
+        check_that(read_item(rows[i].level, in.bytes, in.length, &item, &registered), "it is read", rows[i].bytes, __LINE__);
+        check_that(are_same(&registered, &rows[i].fields), "its fields are right", rows[i].bytes, __LINE__);
+        outside(&rows[i], in, item);
+        free(in.bytes);
+    }
+    for (size_t i = 0; i < sizeof others / sizeof *others; i++) {
+        struct bytes in = bytes_of(others[i].bytes);
+        struct item item = {{0}, {0}};
+        check_that(find(others[i].level, in, &item), "an item is there", others[i].bytes, __LINE__);
+        check_that(refuses(others[i].level, in.bytes, in.length, &item), "it is refused", others[i].bytes, __LINE__);
+        free(in.bytes);
+    }
+}
+
+/* ---- lists at any place */
+
+/* In an Error Cause Indication is a cause, in that a request, and in that an address. */
+static void nested(void)
+{
+    struct bytes in = bytes_of("c003 001c 01023476 00a0 0014 c002 0010 01023476 0005 0008 c0000201");
+    struct dcsctp_parameter item;
+    struct dcsctp_registered found;
+    CHECK(dcsctp_item_at(in.bytes, in.length, BEFORE, &item) && item.type == DCSCTP_PARAMETER_ERROR_CAUSE_INDICATION);
+    CHECK(item.value_offset == BEFORE + 4 && item.value_size == 24 && item.next == in.length);
+    CHECK(dcsctp_registered_parameter(in.bytes, in.length, &item, &found) && found.rest_size == 20);
+    CHECK(dcsctp_item_at(in.bytes, found.rest_offset + found.rest_size, found.rest_offset, &item));
+    CHECK(item.type == DCSCTP_CAUSE_DELETE_LAST_REMAINING_IP_ADDRESS && item.value_offset == BEFORE + 12);
+    CHECK(dcsctp_registered_cause(in.bytes, in.length, &item, &found) && found.rest_offset == BEFORE + 12);
+    CHECK(dcsctp_item_at(in.bytes, found.rest_offset + found.rest_size, found.rest_offset, &item));
+    CHECK(dcsctp_registered_parameter(in.bytes, in.length, &item, &found) && found.number == 0x01023476);
+    CHECK(found.address_size == 4 && !memcmp(in.bytes + found.address_offset, "\xc0\0\2\1", 4));
+    free(in.bytes);
+}
+
+/* The requests of an ASCONF: a list that ends with the chunk's value. */
+static void requests(void)
+{
+    struct bytes in = bytes_of("c100 0028 08090a0b 0005 0008 c0000201 c001 0010 00000001 0005 0008 c0000202 c006 0008 00000001"
+                               "0b00 0004");
+    struct dcsctp_chunk chunk;
+    struct dcsctp_registered found;
+    struct dcsctp_parameter items[4], item;
+    CHECK(dcsctp_chunk_at(in.bytes, in.length, BEFORE, &chunk) && chunk.next == in.length - 4);
+    CHECK(dcsctp_registered_chunk(in.bytes, in.length, &chunk, &found));
+    size_t end = found.rest_offset + found.rest_size;
+    CHECK(end == chunk.value_offset + chunk.value_size);
+    memset(items, 0xa5, sizeof items);
+    CHECK(dcsctp_items(in.bytes, end, found.rest_offset, items, 4) == 2);
+    CHECK(items[0].type == DCSCTP_PARAMETER_ADD_IP_ADDRESS && items[0].value_offset == BEFORE + 20 && items[0].value_size == 12);
+    CHECK(items[1].type == DCSCTP_PARAMETER_ADAPTATION_LAYER_INDICATION && items[1].next == end && items[2].type == 0xa5a5);
+    memset(items, 0xa5, sizeof items);
+    CHECK(dcsctp_items(in.bytes, end, found.rest_offset, items, 1) == 2 && items[0].value_size == 12 && items[1].type == 0xa5a5);
+    CHECK(dcsctp_items(in.bytes, end, found.rest_offset, NULL, 0) == 2);
+    CHECK(dcsctp_items(in.bytes, end, end, items, 4) == 0 && dcsctp_items(in.bytes, end, SIZE_MAX, items, 4) == 0);
+    CHECK(dcsctp_items(NULL, 0, 0, items, 4) == 0);
+    memset(&item, 0xa5, sizeof item);
+    CHECK(!dcsctp_item_at(in.bytes, end, end, &item) && item.type == 0xa5a5);
+    CHECK(!dcsctp_item_at(in.bytes, end, end - 3, &item) && !dcsctp_item_at(in.bytes, end, end + 1, &item));
+    CHECK(!dcsctp_item_at(in.bytes, end, SIZE_MAX, &item) && !dcsctp_item_at(NULL, 0, 0, &item) && item.type == 0xa5a5);
+    /* one byte less, and the last isn't whole */
+    CHECK(dcsctp_items(in.bytes, end - 1, found.rest_offset, items, 4) == 1);
+    free(in.bytes);
+}
+
+static void short_numbers(void)
+{
+    struct bytes in = bytes_of("000c 000a 0005 0006 000b 0000");
+    struct dcsctp_parameter item;
+    uint16_t numbers[4] = {9, 9, 9, 9};
+    CHECK(dcsctp_item_at(in.bytes, in.length, BEFORE, &item));
+    CHECK(dcsctp_short_numbers(in.bytes, in.length, &item, numbers, 4) == 3);
+    CHECK(numbers[0] == 5 && numbers[1] == 6 && numbers[2] == 11 && numbers[3] == 9);
+    numbers[1] = 9;
+    CHECK(dcsctp_short_numbers(in.bytes, in.length, &item, numbers, 1) == 3 && numbers[0] == 5 && numbers[1] == 9);
+    CHECK(dcsctp_short_numbers(in.bytes, in.length, &item, NULL, 0) == 3);
+    item.value_size = 5;
+    CHECK(dcsctp_short_numbers(in.bytes, in.length, &item, numbers, 4) == 0);
+    item.value_size = 0;
+    CHECK(dcsctp_short_numbers(in.bytes, in.length, &item, numbers, 4) == 0);
+    item.value_size = 10;
+    CHECK(dcsctp_short_numbers(in.bytes, in.length, &item, numbers, 4) == 0);
+    item.value_size = SIZE_MAX - 1;
+    CHECK(dcsctp_short_numbers(in.bytes, in.length, &item, numbers, 4) == 0 && numbers[0] == 5);
+    free(in.bytes);
+}
+
+int main(void)
+{
+    each_row();
+    nested();
+    requests();
+    short_numbers();
+    printf("registered: %u passed, %u failed\n", passed, failed);
+    return failed != 0;
+}
