@@ -55,6 +55,7 @@ impl<'a> Numbers<'a> {
     {
         read_u16_be(&self.bytes[NUMBER_SIZE * index..])
     }
+
     /// Returns the bytes of the numbers, as they lie in the packet. Each number is below 2^16.
     #[inline(always)]
     pub fn bytes(&self) -> &'a [u8]
