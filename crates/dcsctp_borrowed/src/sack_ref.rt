@@ -207,8 +207,8 @@ impl<'a> GapAckBlocks<'a> {
         GapAckBlocks { count, rest }
     }
 
-    /// Returns the bytes of the blocks that are left, as they lie in the packet. Each start and each
-    /// end is below 2^16.
+    /// Returns the bytes of the blocks that are left, as they lie in the packet. Each start and
+    /// each end is below 2^16.
     #[inline(always)]
     pub fn bytes(&self) -> &'a [u8]
         ensures bytes { result.now ≡ flat_map block_bytes self.now }

@@ -45,7 +45,8 @@ pub bytes_after : (front rest : List ℕ) → AreBytes (front ++ rest) → AreBy
 bytes_after [] rest h = h
 bytes_after (b ∷ front) rest h = bytes_after front rest (λ i. h (suc i))
 
-pub bytes_before : (front rest : List ℕ) → AreBytes (front ++ rest) → (i : ℕ) → get_or front i 0 < 256
+pub bytes_before : (front rest : List ℕ) → AreBytes (front ++ rest) → (i : ℕ)
+    → get_or front i 0 < 256
 bytes_before [] rest h i = omega arith
 bytes_before (b ∷ front) rest h zero = h 0
 bytes_before (b ∷ front) rest h (suc i) = bytes_before front rest (λ j. h (suc j)) i

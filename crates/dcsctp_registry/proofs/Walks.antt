@@ -72,7 +72,8 @@ all_items (suc n) (b ∷ bs) few known =
     let f = front (raw_items lenient) (b ∷ bs) known (λ e. absurd (cc)) in
     let shrinks = frame_shrinks (b ∷ bs) f.frame in
     let low = f.frame.low in
-    rw (is_framed (b ∷ bs) f.frame) (all_items n (frame_rest (b ∷ bs)) (omega (arith, shrinks, low, few)) f.left)
+    rw (is_framed (b ∷ bs) f.frame) (all_items n (frame_rest (b ∷ bs))
+    (omega (arith, shrinks, low, few)) f.left)
 
 pub items_again : (bytes : List ℕ) → MeansSome (raw_items lenient) bytes × AreBytes bytes
     → items bytes ≡ Some bytes

@@ -8,9 +8,9 @@
 //! 5061) or makes packets longer (RFC 4820), NR-SACK and PKTDROP. A list of items is checked one
 //! level deep: what is in an item, its own reader reads.
 //!
-//! They are written by `dcsctp_buffer`, without memory too, and what is written reads as the same: a
-//! chunk by its `add`; a parameter by `add_parameter` and a cause by `add_cause`, at the end of the
-//! last chunk, as the requests of an ASCONF that was added with an empty list.
+//! They are written by `dcsctp_buffer`, without memory too, and what is written reads as the same:
+//! a chunk by its `add`; a parameter by `add_parameter` and a cause by `add_cause`, at the end of
+//! the last chunk, as the requests of an ASCONF that was added with an empty list.
 #![tactic(auto)]
 
 pub mod address;

@@ -340,8 +340,8 @@ impl WritableItem for RegisteredParameter<'_> {
 
 /// Adds the parameter to the packet's last chunk, which begins at `start`: after zeros up to a
 /// multiple of 4 its header with its type, its value, and zeros up to a multiple of 4, which the
-/// chunk's length doesn't count (RFC 9260 sections 3.2 and 3.2.1). What is written reads as the same
-/// parameter. Which kind of chunk it is, isn't looked at.
+/// chunk's length doesn't count (RFC 9260 sections 3.2 and 3.2.1). What is written reads as the
+/// same parameter. Which kind of chunk it is, isn't looked at.
 ///
 /// Returns the first of these errors that is so, and then changes nothing: `BadPlace` where the
 /// size isn't that of a packet that was begun, or no chunk begins at `start` and ends the packet

@@ -40,7 +40,8 @@ returns c =
     let x_each = length-each block_bytes 4 c.args.blocks.now (λ b. refl) in
     let y_each = length-each block_bytes 4 c.args.nr_blocks.now (λ b. refl) in
     let z_each = length-numbers w32 4 c.args.duplicates.now (λ n. refl) in
-    let b : length c.bytes.result.now / 4 ≡ length c.args.blocks.now = omega (arith, x_len, x_each) in
+    let b : length c.bytes.result.now / 4 ≡ length c.args.blocks.now =
+    omega (arith, x_len, x_each) in
     let n : length c.bytes-2.result.now / 4 ≡ length c.args.nr_blocks.now =
     omega (arith, y_len, y_each) in
     let d : length c.bytes-3.result.now / 4 ≡ length c.args.duplicates.now =
