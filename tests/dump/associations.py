@@ -18,6 +18,7 @@ be compared. Which packets were refused is compared of the captures that are mad
 compared (it says which fields). Status: 0 if all agree, 1 if not. Needed is tshark.
 """
 import argparse
+import ipaddress
 import json
 import os
 import random
@@ -37,9 +38,14 @@ NAMES = {DATA: 'DATA', INIT: 'INIT', INIT_ACK: 'INIT ACK', SACK: 'SACK', HEARTBE
          192: 'FORWARD-TSN', 193: 'ASCONF', 128: 'ASCONF ACK', 130: 'RE-CONFIG', 15: 'AUTH', 16: 'NR-SACK',
          194: 'I-FORWARD-TSN'}
 NR_SACK, RE_CONFIG, FORWARD_TSN, I_FORWARD_TSN = 16, 130, 192, 194
+ERROR, ASCONF_ACK, ASCONF = 9, 128, 193
 # the parameters of a RE-CONFIG that are requests (RFC 6525 sections 4.1 to 4.3, 4.5 and 4.6), and the response (4.4)
 REQUESTS, RESPONSE = (13, 14, 15, 17, 18), 16
-MOST_WAITING, MOST_ADDRESSES = 16, 4
+# addresses (RFC 9260 section 3.3.2.1), the requests of an ASCONF by what they say, and what refuses one (RFC 5061 section 4.2)
+ADDRESSES = {5: 'sctp.parameter_ipv4_address', 6: 'sctp.parameter_ipv6_address'}
+TOPICS, REFUSAL, GRANT = {0xc001: 'added', 0xc002: 'deleted', 0xc004: 'primary'}, 0xc003, 0xc005
+STALE_COOKIE = 3
+MOST_WAITING, MOST_ADDRESSES, MOST_ANNOUNCED = 16, 4, 8
 
 
 # ---- the model (RFC 9260), over tshark's fields
@@ -54,7 +60,8 @@ FIELDS = ['frame.number', 'frame.time_epoch', 'ip.src', 'ip.dst', 'ipv6.src', 'i
           'sctp.nr_sack_number_of_gap_blocks', 'sctp.nr_sack_number_of_nr_gap_blocks', 'sctp.nr_sack_gap_block_start',
           'sctp.nr_sack_gap_block_end', 'sctp.nr_sack_nr_gap_block_start', 'sctp.nr_sack_nr_gap_block_end',
           'sctp.parameter_type', 'sctp.parameter_reconfig_request_sequence_number',
-          'sctp.parameter_reconfig_response_sequence_number']
+          'sctp.parameter_reconfig_response_sequence_number', 'sctp.parameter_ipv4_address', 'sctp.parameter_ipv6_address',
+          'sctp.asconf_seq_nr_number', 'sctp.asconf_ack_seq_nr_number', 'sctp.correlation_id', 'sctp.cause_measure_of_staleness']
 # what isn't compared if tshark lacks a field that begins so
 WITHOUT = {'sctp.parameter_reconfig': ('requests', 'requests_unanswered', 'last_request_unanswered')}
 SKIPPED_KEYS = set()
@@ -110,6 +117,8 @@ class End:
         self.inits = self.i_data = self.forward_tsns = self.abandoned = self.requests = 0
         # skipped: how many TSNs, up to which, by which packet
         self.skipped, self.asked = None, []
+        # what it said of its addresses, how much found no room, and the number of its last ASCONF; Stale Cookie causes
+        self.announced, self.more_announced, self.sequence, self.stale = [], 0, None, []
 
     def tsn(self, tsn, packet, time):
         """Counts a TSN. Returns the key and the number by which it counts for its packet."""
@@ -157,6 +166,42 @@ class End:
         if request not in [number for number, _, _ in self.asked[-8:]]:
             self.requests += 1
             self.asked.append([request, packet, False])
+
+    def announce(self, topic, address, chunk, packet, request=None):
+        """Says something of an address of its own. Returns whether there was no room for it."""
+        for one in self.announced:
+            if one['address'] == address and one.get('deleted', {'refused': True})['refused']:
+                break
+        else:
+            if len(self.announced) == MOST_ANNOUNCED:
+                return True
+            one = {'address': address, 'used': False}
+            self.announced.append(one)
+        if topic != 'added' or one.get('added', {'refused': True})['refused']:
+            one[topic] = {'chunk': chunk, 'packet': packet, 'request': request, 'refused': False}
+        return False
+
+    def note_asconf(self, sequence, requests, source, packet):
+        """RFC 5061 section 4.2: zeros stand for the source, or for all others."""
+        if sequence == self.sequence:
+            return
+        self.sequence = sequence
+        for topic, correlation, address in requests:
+            request = sequence, correlation
+            if address not in ('0.0.0.0', '::'):
+                self.more_announced += self.announce(topic, address, ASCONF, packet, request)
+            elif topic != 'deleted':
+                self.more_announced += self.announce(topic, source, ASCONF, packet, request)
+            else:
+                for one in self.announced:
+                    if one['address'] != source and one.get('deleted', {'refused': True})['refused']:
+                        one['deleted'] = {'packet': packet, 'request': request, 'refused': False}
+
+    def refuse(self, request):
+        for one in self.announced:
+            for topic in TOPICS.values():
+                if topic in one and one[topic]['request'] == request:
+                    one[topic]['refused'] = True
 
     def respond(self, response):
         for one in self.asked[-8:]:
@@ -280,6 +325,8 @@ class Model:
                 steps[key] += count
             if kind == COOKIE_ACK or kind in (SACK, NR_SACK) and receiver.chunks:
                 association.established = association.established or (packet['number'], packet['time'], kind)
+        for one in sender.announced:
+            one['used'] |= one['address'] == packet['route'][0][0]
         association.last = packet['time']
         return steps
 
@@ -309,6 +356,16 @@ class Model:
                 sender.ask(request, number)
             for response in value[1]:
                 receiver.respond(response)
+        elif kind in (INIT, INIT_ACK):
+            left_out = sum(sender.announce('added', address, kind, number) for address in value)
+            sender.more_announced = max(sender.more_announced, left_out)
+        elif kind == ASCONF:
+            sender.note_asconf(*value, packet['route'][0][0], number)
+        elif kind == ASCONF_ACK:
+            for correlation in value[1]:
+                receiver.refuse((value[0], correlation))
+        elif kind == ERROR:
+            sender.stale += value
         elif kind == HEARTBEAT:
             sender.sent += 1
             sender.pending.append((value, number))
@@ -335,6 +392,32 @@ def re_config(take):
     return requests, responses
 
 
+def announcements(take):
+    """Returns the addresses of an INIT or an INIT ACK, which has its packet alone."""
+    kinds = [number(kind) for kind in take['sctp.parameter_type']]
+    return [next(take[ADDRESSES[kind]]) for kind in kinds if kind in ADDRESSES]
+
+
+def asconf(take):
+    """Returns the number and the requests of an ASCONF, which has its packet alone: after its own address, what each says, its
+    correlation id and its address, whose parameter follows it."""
+    sequence, requests = number(next(take['sctp.asconf_seq_nr_number'])), []
+    kinds = [number(kind) for kind in take['sctp.parameter_type']]
+    next(take[ADDRESSES[kinds[0]]])
+    for kind, inner in zip(kinds[1::2], kinds[2::2]):
+        requests.append((TOPICS[kind], number(next(take['sctp.correlation_id'])), next(take[ADDRESSES[inner]])))
+    return sequence, requests
+
+
+def asconf_ack(take):
+    """Returns the number of an ASCONF ACK, which has its packet alone, and the correlation ids that it refuses."""
+    sequence = number(next(take['sctp.asconf_ack_seq_nr_number']))
+    # those of the requests in its causes, too
+    kinds = [kind for kind in map(number, take['sctp.parameter_type']) if kind not in ADDRESSES]
+    answers = [(kind, number(next(take['sctp.correlation_id']))) for kind in kinds]
+    return sequence, [correlation for kind, correlation in answers if kind == REFUSAL]
+
+
 def packets(path, refused, file=0):
     """Yields the packets of a capture as the model takes them."""
     for fields in dissected(path):
@@ -355,8 +438,10 @@ def packets(path, refused, file=0):
                     value = next_number('sctp.data_tsn_raw'), lengths[index] - (16 if kind == DATA else 20)
                 elif kind == INIT:
                     initiate = next_number('sctp.init_initiate_tag')
+                    value = announcements(take)
                 elif kind == INIT_ACK:
                     initiate = next_number('sctp.initack_initiate_tag')
+                    value = announcements(take)
                 elif kind == SACK:
                     cumulative, window = next_number('sctp.sack_cumulative_tsn_ack_raw'), next_number('sctp.sack_a_rwnd')
                     blocks = [(next_number('sctp.sack_gap_block_start'), next_number('sctp.sack_gap_block_end'))
@@ -376,6 +461,13 @@ def packets(path, refused, file=0):
                     value = next_number('sctp.i_forward_tsn_tsn'), (lengths[index] - 8) // 8
                 elif kind == RE_CONFIG:
                     value = re_config(take) if 'sctp.parameter_type' in take else ([], [])
+                elif kind == ASCONF:
+                    value = asconf(take)
+                elif kind == ASCONF_ACK:
+                    value = asconf_ack(take)
+                elif kind == ERROR:
+                    codes = [number(code) for code in take['sctp.cause_code']]
+                    value = [next_number('sctp.cause_measure_of_staleness') for code in codes if code == STALE_COOKIE]
                 elif kind in (HEARTBEAT, HEARTBEAT_ACK):
                     value = next(take['sctp.parameter_heartbeat_information'], '')
                 elif kind == ABORT:
@@ -424,6 +516,21 @@ def packet_keys(packet, key, file_key, paths):
     return {key: frame, file_key: paths[file]} if len(paths) > 1 else {key: frame}
 
 
+def expected_address(address, at, knows_sources):
+    """Returns what the program should print of an address, and of what its end said of it."""
+    one = {'address': address['address']}
+    if 'added' in address:
+        one.update(at(address['added']['packet'], 'packet', 'file'), chunk=NAMES[address['added']['chunk']])
+        if not address['used'] and knows_sources:
+            one['never_used'] = True
+    for topic, key in ('added', 'refused'), ('primary', 'primary_refused'), ('deleted', 'deleted_refused'):
+        if topic in address and topic != 'added':
+            one.update(at(address[topic]['packet'], topic + '_packet'))
+        if topic in address and address[topic]['refused']:
+            one[key] = True
+    return one
+
+
 def expected_end(end, digits, paths):
     """Returns what the program should print of an end."""
     def at(packet, key, file_key=None):
@@ -434,6 +541,12 @@ def expected_end(end, digits, paths):
         one['more_addresses'] = True
     if end.tags:
         one['tag'] = end.tags[0]
+    if end.announced:
+        one['announced'] = [expected_address(address, at, bool(end.addresses)) for address in end.announced]
+    if end.more_announced:
+        one['more_announced'] = end.more_announced
+    if end.stale:
+        one.update(stale_cookies=len(end.stale), greatest_staleness=max(end.stale))
     one.update(packets=end.packets, refused=end.refused, zero_checksums=end.zero, wrong_checksums=end.wrong, inits=end.inits,
                data=end.chunks, i_data=end.i_data, bytes=end.bytes)
     if end.first is not None:
@@ -577,6 +690,22 @@ def chunk(kind, flags, value, length=None):
 
 def parameter(kind, value):
     return struct.pack('>HH', kind, 4 + len(value)) + value + bytes(-len(value) % 4)
+
+
+def address(text):
+    packed = ipaddress.ip_address(text).packed
+    return parameter(5 if len(packed) == 4 else 6, packed)
+
+
+def asconf_of(sequence, *requests):
+    """An ASCONF with requests, each a type, a correlation id and an address (RFC 5061 section 4.1.1)."""
+    inner = b''.join(parameter(kind, struct.pack('>I', one) + address(text)) for kind, one, text in requests)
+    return chunk(ASCONF, 0, struct.pack('>I', sequence) + address('10.0.0.1') + inner)
+
+
+def refusal_of(correlation):
+    """An Error Cause Indication with Invalid Mandatory Parameter (RFC 5061 section 4.2.3)."""
+    return parameter(REFUSAL, struct.pack('>I', correlation) + parameter(7, b''))
 
 
 def init(kind, tag, tsn, parameters=b''):
@@ -822,6 +951,30 @@ def requests():
     return capture
 
 
+def announced():
+    """Addresses in INIT, INIT ACK and ASCONF, of which the requests are granted, refused and sent again; and stale cookies."""
+    capture, tags = Capture('announced'), (0x11, 0x22)
+    capture.add(A, B, 0, init(INIT, tags[0], 1, address('10.0.0.1') + address('10.0.0.9') + address('2001:db8::9')))
+    capture.add(B, A, tags[0], init(INIT_ACK, tags[1], 1, address('10.0.0.2') + COOKIE))
+    capture.add(A, B, tags[1], chunk(COOKIE_ECHO, 0, b'cookie..'))
+    capture.add(B, A, tags[0], chunk(ERROR, 0, parameter(STALE_COOKIE, struct.pack('>I', 5000)) + parameter(4, b'')))
+    capture.add(B, A, tags[0], chunk(ERROR, 0, parameter(STALE_COOKIE, struct.pack('>I', 70))))
+    capture.add(B, A, tags[0], chunk(COOKIE_ACK, 0, b''))
+    nine = 9, A[1]
+    first = asconf_of(2 ** 32 - 1, (0xc001, 1, '10.0.0.10'), (0xc002, 2, '10.0.0.1'), (0xc004, 3, '10.0.0.9'), (0xc002, 4, '10.0.0.77'))
+    capture.add(nine, B, tags[1], first)
+    capture.add(B, nine, tags[0], chunk(ASCONF_ACK, 0, struct.pack('>I', 2 ** 32 - 1) + refusal_of(2) + parameter(GRANT, bytes(4))))
+    capture.add(nine, B, tags[1], first)
+    capture.add(nine, B, tags[1], asconf_of(0, (0xc001, 1, '0.0.0.0'), (0xc004, 2, '::'), (0xc002, 3, '0.0.0.0')))
+    capture.add(B, nine, tags[0], chunk(ASCONF_ACK, 0, bytes(4)))
+    capture.add(nine, B, tags[1], asconf_of(1, *((0xc001, one, '10.0.1.%d' % (one % 6)) for one in range(9))))
+    capture.add(B, nine, tags[0], chunk(ASCONF_ACK, 0, struct.pack('>I', 1) + refusal_of(1) + refusal_of(7)))
+    capture.add(B, nine, tags[0], asconf_of(1, (0xc001, 1, '2001:db8::2'), (0xc004, 2, '2001:db8::2')))
+    capture.add(nine, B, tags[1], chunk(ASCONF_ACK, 0, struct.pack('>I', 1) + refusal_of(1) + refusal_of(2)))
+    capture.add(B, nine, tags[0], asconf_of(2, (0xc001, 1, '2001:db8::2'), (0xc002, 2, '10.0.0.2')))
+    return capture
+
+
 def blue():
     """Packets out of the blue beside an association that lives, and after its end."""
     capture = Capture('blue')
@@ -1036,7 +1189,7 @@ def run(given, folder):
         captures = [([path], None) for path in given.captures]
     else:
         cases = [case() for case in (plain, tsns, beginnings, endings, checksums, heartbeats, homes, abandoned, nr_sacks, requests,
-                                     blue, back, whole)]
+                                     announced, blue, back, whole)]
         cases += [drawn(given.seed), drawn(given.seed + 1)]
         captures = [([case.write(folder)], case.refused) for case in cases] + [(parts(folder), None)]
         with open(os.path.join(DATA_FOLDER, 'associations.pcap'), 'rb') as file:

@@ -263,6 +263,19 @@ second end sent packets 0: refused 0, checksums: zero 0, wrong 0
 WANTED
 judge 'more transports than are known by their names' $ended 0
 
+# ---- more addresses than are kept
+
+# An INIT with 3,000 addresses (of 24,020 bytes, in a packet of 24,032), twice: the first 8 are kept.
+init=$(printf '138813890000000000000000 01005dd4 00000001 00010000 00010001 00000001' && printf ' 00050008 0a%06x' {1..3000})
+printf '%s\n' "$init" "$init" | timeout 60 "$program" --associations 2>"$work/errors" | sed -n '/announced/p; /^first end sent/p' >"$work/printed"
+ended=${PIPESTATUS[1]}
+{
+    printf '  announced 10.0.0.%d (INIT)\n' {1..8}
+    echo '  announced 2992 more'
+    echo 'first end sent packets 2: refused 0, checksums: zero 2, wrong 0'
+} >"$work/wanted"
+judge 'more addresses than are kept' $ended 0
+
 # ---- an input that is waited for
 
 # A packet is printed though its input doesn't end yet.

@@ -1,35 +1,42 @@
--- The chunks of a packet are counted, one after the other.
+-- The items that lie somewhere are counted, one after the other: the chunks of a packet, or the
+-- causes of an ERROR.
 use Rattle.std.proofs.Common.{◌≡◌, List, [], ◌∷◌, fold, true, false, refl, ap, subst, ◌∙◌}
 use Rattle.dcsctp_borrowed.specs.Part.{Part, Item, AreItems, none, next, begins_with_item, first_item, after_item}
-use Rattle.dump_analysis.specs.declared.counts.Counts.{Counts}
-use Rattle.dump_analysis.specs.declared.packet_number.PacketNumber.{PacketNumber}
-use Rattle.dump_analysis.specs.Counts.{with_chunk}
+use Rattle.dump_analysis.specs.Items.{items_of}
+use Rattle.dump_analysis.proofs.Looks.{are_items, one_list}
 
--- whatever chunks are left, all are they and those before them that were counted
-abbrev pub Counting : PacketNumber → Part → Counts → Part → Counts → Type 0
-Counting number all start left now =
-    (others : List Item) → AreItems left others → (chunks : List Item) × AreItems all chunks
-    × (fold (with_chunk number) now others ≡ fold (with_chunk number) start chunks)
+module _ {Counts : Type 0} (with_item : Counts → Item → Counts) where
+  -- whatever items are left, all are they and those before them that were counted
+  abbrev pub Counting : Part → Counts → Part → Counts → Type 0
+  Counting all start left now =
+      (others : List Item) → AreItems left others → (items : List Item) × AreItems all items
+      × (fold with_item now others ≡ fold with_item start items)
 
-pub Counting-none : (number : PacketNumber) (all : Part) (start : Counts) → Counting number all start all start
-Counting-none number all start = λ others are. (others, are, refl)
+  pub Counting-none : (all : Part) (start : Counts) → Counting all start all start
+  Counting-none all start = λ others are. (others, are, refl)
 
-pub Counting-next : (number : PacketNumber) (all left rest : Part) (start now more : Counts) (chunk : Item)
-    → Counting number all start left now → begins_with_item left ≡ true → chunk ≡ first_item left
-    → rest ≡ after_item left → more ≡ with_chunk number now chunk
-    → Counting number all start rest more
-Counting-next number all left rest start now more chunk counting begins chunk_is rest_is more_is =
-    λ others are.
-    let before = counting (chunk ∷ others) (next left (chunk ∷ others) others begins
-    (subst (λ p. AreItems p others) rest_is are) (ap (λ i. i ∷ others) chunk_is)) in (
-      before.0,
-      before.1,
-      ap (λ (c : Counts). fold (with_chunk number) c others) more_is ∙ before.2,
-    )
+  pub Counting-next : (all left rest : Part) (start now more : Counts) (item : Item)
+      → Counting all start left now → begins_with_item left ≡ true → item ≡ first_item left
+      → rest ≡ after_item left → more ≡ with_item now item → Counting all start rest more
+  Counting-next all left rest start now more item counting begins item_is rest_is more_is =
+      λ others are.
+      let before = counting (item ∷ others) (next left (item ∷ others) others begins
+      (subst (λ p. AreItems p others) rest_is are) (ap (λ i. i ∷ others) item_is)) in (
+        before.0,
+        before.1,
+        ap (λ (c : Counts). fold with_item c others) more_is ∙ before.2,
+      )
 
-pub Counting-all : (number : PacketNumber) (all left : Part) (start now : Counts)
-    → Counting number all start left now → begins_with_item left ≡ false
-    → (chunks : List Item) × AreItems all chunks
-    × (now ≡ fold (with_chunk number) start chunks)
-Counting-all number all left start now counting none_left =
-    counting [] (none left [] none_left refl)
+  pub Counting-all : (all left : Part) (start now : Counts) → Counting all start left now
+      → begins_with_item left ≡ false
+      → (items : List Item) × AreItems all items × (now ≡ fold with_item start items)
+  Counting-all all left start now counting none_left =
+      counting [] (none left [] none_left refl)
+
+  -- the same, of the list as a function
+  pub Counting-list : (all left : Part) (start now : Counts) → Counting all start left now
+      → begins_with_item left ≡ false → now ≡ fold with_item start (items_of all)
+  Counting-list all left start now counting none_left =
+      let counted = Counting-all all left start now counting none_left in
+      counted.2
+      ∙ ap (fold with_item start) (one_list all counted.0 (items_of all) counted.1 (are_items all))

@@ -3,6 +3,8 @@ use Rattle.std.specs.Prelude.{◌≡◌, ◌+◌, ◌-◌, ◌/◌, ◌==◌, �
 use Rattle.dcsctp_tlv.specs.Number.{number16, number32}
 use Rattle.dump_capture.specs.Number.{capped, one_more}
 use Rattle.dcsctp_borrowed.specs.Part.{Part, Item, AreItems, after}
+use Rattle.dump_analysis.specs.Items.{items_of}
+use Rattle.dump_analysis.specs.StaleCookies.{none_stale, with_cause}
 use Rattle.dump_analysis.specs.declared.counts.Counts.{Counts}
 use Rattle.dump_analysis.specs.declared.counts.LeastWindow.{LeastWindow}
 use Rattle.dump_analysis.specs.declared.counts.SeenPacket.{SeenPacket}
@@ -26,6 +28,7 @@ nothing = record {
   sacks_with_gaps = 0;
   least_window = None;
   heartbeats = 0;
+  stale_cookies = none_stale;
 }
 
 -- ---- a packet, without its chunks
@@ -99,6 +102,11 @@ with_nr_sack packet c value =
     else with_report packet more (a_rwnd value)
     (nat_lt 0 (gap_blocks value) || nat_lt 0 (other_gap_blocks value))
 
+-- an ERROR (RFC 9260 section 3.3.10) with these causes
+abbrev pub with_error : Counts → Part → Counts
+with_error c causes =
+    record c { stale_cookies = fold with_cause c.stale_cookies (items_of causes) }
+
 -- DATA (RFC 9260 section 3.3.1) has 12 bytes before its user data, I-DATA (RFC 8260 section 2.1)
 -- 16. INIT is of RFC 9260 section 3.3.2, SACK of 3.3.4, HEARTBEAT of 3.3.5. After the new
 -- cumulative TSN a FORWARD-TSN (RFC 3758 section 3.2) has 4 bytes a stream, an I-FORWARD-TSN
@@ -111,6 +119,7 @@ with_chunk packet c chunk =
     if chunk.first == 3 then with_sack packet c chunk.value.bytes else
     if chunk.first == 16 then with_nr_sack packet c chunk.value.bytes else
     if chunk.first == 4 then record c { heartbeats = one_more c.heartbeats } else
+    if chunk.first == 9 then with_error c chunk.value else
     if chunk.first == 192 then with_forward_tsn c ((chunk.value.size - 4) / 4) else
     if chunk.first == 194 then with_forward_tsn c ((chunk.value.size - 4) / 8) else c
 

@@ -1,4 +1,5 @@
 pub mod Acknowledged
+pub mod Announced
 pub mod Buckets
 pub mod Calendar
 pub mod Counts
@@ -7,6 +8,7 @@ pub mod Questions
 pub mod RoundTrips
 pub mod Serial
 pub mod Sides
+pub mod StaleCookies
 pub mod Table
 pub mod Tsns
 pub mod Chunks

@@ -206,6 +206,7 @@ fn note_between(sender: &mut End, receiver: &mut End, packet: &SeenPacket<'_>) -
         }
         receiver.note_received(packet, chunk);
     }
+    sender.announced.note_source(source);
     sequence
 }
 

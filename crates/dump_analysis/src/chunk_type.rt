@@ -5,6 +5,7 @@ pub use dcsctp_wire::packet::abort_chunk::CHUNK_TYPE as ABORT;
 pub use dcsctp_wire::packet::cookie_ack_chunk::CHUNK_TYPE as COOKIE_ACK;
 pub use dcsctp_wire::packet::cookie_echo_chunk::CHUNK_TYPE as COOKIE_ECHO;
 pub use dcsctp_wire::packet::data_chunk::CHUNK_TYPE as DATA;
+pub use dcsctp_wire::packet::error_chunk::CHUNK_TYPE as ERROR;
 pub use dcsctp_wire::packet::forward_tsn_chunk::CHUNK_TYPE as FORWARD_TSN;
 pub use dcsctp_wire::packet::heartbeat_ack_chunk::CHUNK_TYPE as HEARTBEAT_ACK;
 pub use dcsctp_wire::packet::heartbeat_request_chunk::CHUNK_TYPE as HEARTBEAT;
@@ -24,5 +25,7 @@ pub const AUTH: u8 = 15;
 pub const NR_SACK: u8 = 16;
 /// Of RFC 4820.
 pub const PAD: u8 = 132;
+/// Of RFC 5061.
+pub const ASCONF_ACK: u8 = 128;
 /// Of RFC 5061.
 pub const ASCONF: u8 = 193;

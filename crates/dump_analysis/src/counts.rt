@@ -1,12 +1,15 @@
 //! What is counted of the packets that one end of an association sent.
 
 ghost use Rattle.std.specs.Prelude.{◌≡◌};
-ghost use Rattle.dcsctp_borrowed.specs.Part.{item_of};
+ghost use Rattle.dcsctp_borrowed.specs.Part.{item_of, part_of};
 ghost use Rattle.dump_capture.specs.Number.{one_more};
-ghost use Rattle.dump_analysis.specs.Counts.{nothing, with_chunk, with_data, with_i_data, with_forward_tsn, with_sack, with_nr_sack, with_report, with_header, with_window, CountsChunks, CountsPacket, packet_of};
+ghost use Rattle.dump_analysis.specs.Counts.{nothing, with_chunk, with_data, with_i_data, with_forward_tsn, with_sack, with_nr_sack, with_report, with_error, with_header, with_window, CountsChunks, CountsPacket, packet_of};
 
-use crate::chunk_type::{DATA, FORWARD_TSN, HEARTBEAT, I_DATA, I_FORWARD_TSN, INIT, NR_SACK, SACK};
+use crate::chunk_type::{
+    DATA, ERROR, FORWARD_TSN, HEARTBEAT, I_DATA, I_FORWARD_TSN, INIT, NR_SACK, SACK,
+};
 use crate::packet_number::PacketNumber;
+use crate::stale_cookies::StaleCookies;
 use dcsctp_borrowed::checksum::Checksum;
 use dcsctp_borrowed::part::{Item, Items, Part};
 use dcsctp_wire::packet::sack_chunk::SackNumbers;
@@ -113,6 +116,8 @@ pub struct Counts {
     pub least_window: Option<LeastWindow>,
     /// HEARTBEAT chunks.
     pub heartbeats: u64,
+    /// Stale Cookie causes in ERROR chunks.
+    pub stale_cookies: StaleCookies,
 }
 
 impl Counts {
@@ -135,6 +140,7 @@ impl Counts {
             sacks_with_gaps: 0,
             least_window: None,
             heartbeats: 0,
+            stale_cookies: StaleCookies::new(),
         }
     }
 
@@ -190,6 +196,7 @@ impl Counts {
             SACK => self.count_sack(number, chunk.value.bytes),
             NR_SACK => self.count_nr_sack(number, chunk.value.bytes),
             HEARTBEAT => increase(&mut self.heartbeats),
+            ERROR => self.count_error(chunk.value),
             FORWARD_TSN => self.count_forward_tsn(size.saturating_sub(4) / 4),
             I_FORWARD_TSN => self.count_forward_tsn(size.saturating_sub(4) / 8),
             _ => {}
@@ -242,6 +249,13 @@ impl Counts {
         }
         let has_gaps = read_u16_be(&value[8..]) > 0 || read_u16_be(&value[10..]) > 0;
         self.count_report(number, read_u32_be(&value[4..]), has_gaps);
+    }
+
+    /// Counts an ERROR with these causes, as far as they can be read.
+    fn count_error(&mut self, causes: Part<'_>)
+        ensures { self.new ≡ with_error self.old (part_of causes.entry) }
+    {
+        self.stale_cookies.count_causes(causes);
     }
 
     /// Counts what a SACK says of gaps and of the window.

@@ -5,6 +5,7 @@ ghost use Rattle.dump_analysis.specs.Counts.{nothing};
 ghost use Rattle.dump_analysis.specs.Tsns.{Follows};
 
 use crate::acknowledgement::Acknowledgement;
+use crate::announced::{Announced, Announcements};
 use crate::chunk_type::{
     DATA, FORWARD_TSN, HEARTBEAT, HEARTBEAT_ACK, I_DATA, I_FORWARD_TSN, INIT, INIT_ACK, NR_SACK,
     RE_CONFIG, SACK,
@@ -64,6 +65,8 @@ pub struct End {
     pub addresses: [Option<IpAddr>; MOST_ADDRESSES],
     /// Whether there were more.
     pub has_more_addresses: bool,
+    /// The addresses that it announced.
+    pub announced: Announcements,
     /// The port.
     pub port: u16,
     /// The tag that it chose: packets to it carry it (RFC 9260 section 3.1).
@@ -112,6 +115,7 @@ impl End {
         End {
             addresses: [address, None, None, None],
             has_more_addresses: false,
+            announced: Announcements::new(),
             port,
             tag: None,
             other_tag: None,
@@ -162,10 +166,17 @@ impl End {
         self.has_more_addresses = true;
     }
 
+    /// Returns whether an address was announced, and no packet of this end was seen that came from
+    /// it then or later; false where packets have no addresses.
+    pub fn is_unused(&self, announced: &Announced) -> bool {
+        announced.added.is_some() && !announced.is_used && self.addresses[0].is_some()
+    }
+
     /// Notes a chunk that this end sent. Returns how the TSN of DATA follows those before.
     pub fn note_sent(&mut self, packet: &SeenPacket<'_>, chunk: Item<'_>) -> Option<Step>
         ensures { self.new.counts ≡ self.old.counts }
     {
+        self.announced.note_sent(packet, chunk);
         let value = chunk.value.bytes;
         match chunk.first {
             DATA | I_DATA if value.len() >= 4 => {
@@ -196,6 +207,7 @@ impl End {
                     .acknowledge(acknowledged, nanoseconds, packet.number);
             }
         }
+        self.announced.note_received(chunk);
         match chunk.first {
             HEARTBEAT_ACK => self.heartbeats.answer(digest(chunk.value.bytes)),
             RE_CONFIG => self.requests.note_received(chunk.value),

@@ -1,5 +1,6 @@
 //! An association, as JSON.
 
+use crate::announced::{Announced, Statement};
 use crate::association::{Association, Began, Ended, Established, Side};
 use crate::end::End;
 use crate::packet_number::{PacketKeys, PacketNumber, file_of};
@@ -117,16 +118,80 @@ impl<'a> AssociationJson<'a> {
     fn write_end<W: fmt::Write>(&self, end: &End, f: &mut fmt::Formatter<W>) -> fmt::Result {
         f.write_str("{")?;
         write_addresses(end, f)?;
+        self.write_announced(end, f)?;
         write_counts(end, f)?;
         self.write_tsns(end, f)?;
         self.write_skipped(end, f)?;
         self.write_sacks(end, f)?;
         self.write_heartbeats(end, f)?;
         self.write_requests(end, f)?;
+        write_stale_cookies(end, f)?;
         if end.round_trips.count > 0 {
             self.write_round_trips(&end.round_trips, f)?;
         }
         f.write_str("}")
+    }
+
+    /// Writes the addresses of which an end said something, if there are some, and how many
+    /// statements found no room.
+    fn write_announced<W: fmt::Write>(&self, end: &End, f: &mut fmt::Formatter<W>) -> fmt::Result {
+        let mut separator = ",\"announced\":[";
+        for announced in &end.announced.list {
+            if let Some(announced) = announced {
+                f.write_str(separator)?;
+                separator = ",";
+                self.write_address(announced, f)?;
+                if end.is_unused(announced) {
+                    f.write_str(",\"never_used\":true")?;
+                }
+                f.write_str("}")?;
+            }
+        }
+        if separator == "," {
+            f.write_str("]")?;
+        }
+        let more = end.announced.more;
+        if more == 0 {
+            return Ok(());
+        }
+        write!(f, ",\"more_announced\":{more}")
+    }
+
+    /// Writes an address, and what its end said of it, without the end of the object.
+    fn write_address<W: fmt::Write>(
+        &self,
+        announced: &Announced,
+        f: &mut fmt::Formatter<W>,
+    ) -> fmt::Result {
+        let address = announced.address;
+        write!(f, "{{\"address\":\"{address}\"")?;
+        if let Some(added) = announced.added {
+            write_chunk(added.chunk, f)?;
+            self.write_statement(("packet", "file", "refused"), added, f)?;
+        }
+        if let Some(primary) = announced.primary {
+            let keys = ("primary_packet", "primary_file", "primary_refused");
+            self.write_statement(keys, primary, f)?;
+        }
+        if let Some(deleted) = announced.deleted {
+            let keys = ("deleted_packet", "deleted_file", "deleted_refused");
+            self.write_statement(keys, deleted, f)?;
+        }
+        Ok(())
+    }
+
+    /// Writes the packet of a statement, its file, and whether it was refused.
+    fn write_statement<W: fmt::Write>(
+        &self,
+        (key, file_key, refused_key): (&'static str, &'static str, &'static str),
+        statement: Statement,
+        f: &mut fmt::Formatter<W>,
+    ) -> fmt::Result {
+        self.write_packet(key, file_key, Some(statement.packet), f)?;
+        if !statement.is_refused {
+            return Ok(());
+        }
+        write!(f, ",\"{refused_key}\":true")
     }
 
     /// Writes the round trips of an end's DATA.
@@ -308,6 +373,19 @@ fn write_transport<W: fmt::Write>(transport: &Transport, f: &mut fmt::Formatter<
 fn write_chunk<W: fmt::Write>(typ: u8, f: &mut fmt::Formatter<W>) -> fmt::Result {
     let name = ChunkName(typ);
     write!(f, ",\"chunk\":\"{name}\"")
+}
+
+/// Writes what is counted of Stale Cookie causes, if there are some.
+fn write_stale_cookies<W: fmt::Write>(end: &End, f: &mut fmt::Formatter<W>) -> fmt::Result {
+    let stale = end.counts.stale_cookies;
+    let (count, greatest) = (stale.count, stale.greatest);
+    if count == 0 {
+        return Ok(());
+    }
+    write!(
+        f,
+        ",\"stale_cookies\":{count},\"greatest_staleness\":{greatest}"
+    )
 }
 
 /// Writes the addresses, the port and the tag of an end.

@@ -10,6 +10,7 @@
 #![tactic(auto)]
 
 mod acknowledgement;
+mod announced;
 mod association;
 mod associations;
 mod chunk_test;
@@ -33,12 +34,14 @@ mod requests;
 mod round_trips;
 pub mod rule;
 mod serial;
+mod stale_cookies;
 mod time;
 mod transport;
 mod tsns;
 mod unanswered;
 pub mod warnings;
 
+pub use crate::announced::{Announced, Announcements, RequestId, Statement, Topic};
 pub use crate::association::{Association, Began, Ended, Established, Side};
 pub use crate::associations::{Associations, Noted};
 pub use crate::counts::{Counts, LeastWindow, SeenPacket};
@@ -49,6 +52,7 @@ pub use crate::packet_number::{PacketNumber, PacketText};
 pub use crate::report::AssociationReport;
 pub use crate::requests::Requests;
 pub use crate::round_trips::RoundTrips;
+pub use crate::stale_cookies::StaleCookies;
 pub use crate::time::{SecondsReport, TimeForm, TimeReport, TimeStyle};
 pub use crate::transport::{Transport, TransportName};
 pub use crate::tsns::{Step, Tsns};

@@ -1,5 +1,6 @@
 //! An association, as text.
 
+use crate::announced::{Announced, Statement};
 use crate::association::{Association, Began, Ended, Established, Side};
 use crate::counts::Counts;
 use crate::end::End;
@@ -28,8 +29,10 @@ impl<'a> fmt::Display for AssociationReport<'a> {
         write_head(association, f)?;
         f.write_str("first end: ")?;
         write_end(&association.first, f)?;
+        self.write_announced(&association.first, f)?;
         f.write_str("second end: ")?;
         write_end(&association.second, f)?;
+        self.write_announced(&association.second, f)?;
         self.write_began(&association.began, f)?;
         self.write_established(&association.established, f)?;
         self.write_ended(&association.ended, f)?;
@@ -46,6 +49,70 @@ impl<'a> fmt::Display for AssociationReport<'a> {
 }
 
 impl<'a> AssociationReport<'a> {
+    /// Writes a line for each address of which an end said something, and for those that found no
+    /// room.
+    fn write_announced<W: fmt::Write>(&self, end: &End, f: &mut fmt::Formatter<W>) -> fmt::Result {
+        for announced in &end.announced.list {
+            if let Some(announced) = announced {
+                self.write_address(announced, f)?;
+                if end.is_unused(announced) {
+                    f.write_str(", never used")?;
+                }
+                f.write_str("\n")?;
+            }
+        }
+        let more = end.announced.more;
+        if more == 0 {
+            return Ok(());
+        }
+        writeln!(f, "  announced {more} more")
+    }
+
+    /// Writes an address, and what its end said of it.
+    fn write_address<W: fmt::Write>(
+        &self,
+        announced: &Announced,
+        f: &mut fmt::Formatter<W>,
+    ) -> fmt::Result {
+        let address = announced.address;
+        match announced.added {
+            Some(added) if added.request.is_none() => {
+                let name = ChunkName(added.chunk);
+                write!(f, "  announced {address} ({name})")?;
+            }
+            Some(added) => {
+                let name = ChunkName(added.chunk);
+                write!(f, "  announced {address} ({name}, ")?;
+                self.write_place(added, f)?;
+            }
+            None => write!(f, "  not announced {address}")?,
+        }
+        if let Some(primary) = announced.primary {
+            f.write_str(", primary (")?;
+            self.write_place(primary, f)?;
+        }
+        if let Some(deleted) = announced.deleted {
+            f.write_str(", deleted (")?;
+            self.write_place(deleted, f)?;
+        }
+        Ok(())
+    }
+
+    /// Writes the packet of a request, whether it was refused, and the end of the brackets.
+    fn write_place<W: fmt::Write>(
+        &self,
+        statement: Statement,
+        f: &mut fmt::Formatter<W>,
+    ) -> fmt::Result {
+        let packet = self.packet(statement.packet);
+        write!(f, "{packet}")?;
+        f.write_str(if statement.is_refused {
+            ", refused)"
+        } else {
+            ")"
+        })
+    }
+
     /// Writes the line of the first packet.
     fn write_began<W: fmt::Write>(&self, began: &Began, f: &mut fmt::Formatter<W>) -> fmt::Result {
         let packet = self.packet(began.packet);
@@ -125,6 +192,7 @@ impl<'a> AssociationReport<'a> {
         self.write_sacks(end, f)?;
         self.write_heartbeats(end, f)?;
         self.write_requests(end, f)?;
+        write_stale_cookies(&end.counts, f)?;
         self.write_round_trips(end, f)
     }
 
@@ -329,6 +397,18 @@ fn write_end<W: fmt::Write>(end: &End, f: &mut fmt::Formatter<W>) -> fmt::Result
         Some(tag) => writeln!(f, ", tag {tag:#010x}"),
         None => f.write_str(", tag not seen\n"),
     }
+}
+
+/// Writes the line of Stale Cookie causes, if there are some.
+fn write_stale_cookies<W: fmt::Write>(counts: &Counts, f: &mut fmt::Formatter<W>) -> fmt::Result {
+    let (count, greatest) = (counts.stale_cookies.count, counts.stale_cookies.greatest);
+    if count == 0 {
+        return Ok(());
+    }
+    writeln!(
+        f,
+        "  Stale Cookie {count}, greatest staleness {greatest} us"
+    )
 }
 
 /// Writes the rest of the line of packets.

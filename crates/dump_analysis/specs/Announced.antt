@@ -1,0 +1,49 @@
+-- What an end says of its addresses (RFC 9260 section 3.3.2.1, RFC 5061 section 4.2), and what the
+-- other end refuses (RFC 5061 section 4.2.3).
+use Rattle.std.specs.Prelude.{◌≡◌, ◌<◌, ◌==◌, ◌&&◌, not, Bool, true, false, ℕ, if◌then◌else◌, List, get_or, length, Option, Some, None, IsSome, option_map}
+use Rattle.dump_analysis.specs.declared.announced.Announced.{Announced}
+use Rattle.dump_analysis.specs.declared.announced.RequestId.{RequestId}
+use Rattle.dump_analysis.specs.declared.announced.Statement.{Statement}
+use Rattle.dump_analysis.specs.declared.announced.Topic.{Topic}
+use Rattle.dump_analysis.specs.declared.announced.Topic.TheVariants.{Added, Primary, Deleted}
+
+-- it was said, and not refused
+abbrev pub holds : Option Statement → Bool
+holds (Some s) = not s.is_refused
+holds None = false
+
+abbrev pub is_deleted : Announced → Bool
+is_deleted a = holds a.deleted
+
+-- An address that was added already isn't added again; of others the last one counts.
+abbrev pub with_statement : Topic → Statement → Announced → Announced
+with_statement Added s a = if holds a.added then a else record a { added = Some s }
+with_statement Primary s a = record a { primary = Some s }
+with_statement Deleted s a = record a { deleted = Some s }
+
+-- a request by the number of its ASCONF and its own
+abbrev pub is_request : RequestId → Option RequestId → Bool
+is_request id (Some r) =
+    (r.sequence_number == id.sequence_number) && (r.correlation_id == id.correlation_id)
+is_request id None = false
+
+abbrev pub refuse : RequestId → Statement → Statement
+refuse id s = if is_request id s.request then record s { is_refused = true } else s
+
+-- whatever it says of an address
+abbrev pub refused : RequestId → Announced → Announced
+refused id a = record a {
+  added = option_map (refuse id) a.added;
+  primary = option_map (refuse id) a.primary;
+  deleted = option_map (refuse id) a.deleted;
+}
+
+-- of each address that is kept
+abbrev pub AreRefused : RequestId → List (Option Announced) → List (Option Announced) → Type 0
+AreRefused id before after =
+    (i : ℕ) → i < length before
+    → get_or after i None ≡ option_map (refused id) (get_or before i None)
+
+-- Eight addresses are kept, and there is no room for another one.
+abbrev pub IsFull : List (Option Announced) → Type 0
+IsFull list = (i : ℕ) → i < 8 → IsSome (get_or list i None)
