@@ -49,7 +49,7 @@ pub struct Statement {
 
 /// What an end says of an address of its own.
 #[derive(Clone, Copy, Debug)]
-pub enum Topic {
+enum Topic {
     /// It has it: in INIT or INIT ACK, or by Add IP Address (RFC 5061 section 4.2.1).
     Added,
     /// The other end is to send to it: Set Primary Address (RFC 5061 section 4.2.4).

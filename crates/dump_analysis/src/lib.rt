@@ -41,7 +41,7 @@ mod tsns;
 mod unanswered;
 pub mod warnings;
 
-pub use crate::announced::{Announced, Announcements, RequestId, Statement, Topic};
+pub use crate::announced::{Announced, Announcements, RequestId, Statement};
 pub use crate::association::{Association, Began, Ended, Established, Side};
 pub use crate::associations::{Associations, Noted};
 pub use crate::counts::{Counts, LeastWindow, SeenPacket};
