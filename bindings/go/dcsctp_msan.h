@@ -125,16 +125,26 @@ DCSCTP_MSAN_PART(dcsctp_shutdown, dcsctp_chunk, uint32_t)
 DCSCTP_MSAN_PART(dcsctp_forward_tsn, dcsctp_chunk, struct dcsctp_forward_tsn)
 DCSCTP_MSAN_ITEM(dcsctp_skipped_stream, dcsctp_chunk, struct dcsctp_skipped_stream)
 DCSCTP_MSAN_ITEM(dcsctp_parameter_at, dcsctp_chunk, struct dcsctp_parameter)
+DCSCTP_MSAN(bool, dcsctp_item_at, (const uint8_t *bytes, size_t length, size_t offset, struct dcsctp_parameter *item),
+            (bytes, length, offset, item), DCSCTP_MSAN_NOTHING, DCSCTP_MSAN_WRITES(returned, item, 1))
 DCSCTP_MSAN_PART(dcsctp_number, dcsctp_parameter, uint32_t)
 DCSCTP_MSAN_PART(dcsctp_re_config, dcsctp_parameter, struct dcsctp_re_config)
 DCSCTP_MSAN_ITEM(dcsctp_reset_stream, dcsctp_parameter, uint16_t)
+DCSCTP_MSAN_PART(dcsctp_registered_chunk, dcsctp_chunk, struct dcsctp_registered)
+DCSCTP_MSAN_PART(dcsctp_registered_parameter, dcsctp_parameter, struct dcsctp_registered)
+DCSCTP_MSAN_PART(dcsctp_registered_cause, dcsctp_parameter, struct dcsctp_registered)
 DCSCTP_MSAN_ITEM(dcsctp_missing_parameter, dcsctp_parameter, uint16_t)
 DCSCTP_MSAN_LIST(dcsctp_gap_ack_blocks, dcsctp_chunk, struct dcsctp_gap_ack_block)
 DCSCTP_MSAN_LIST(dcsctp_duplicate_tsns, dcsctp_chunk, uint32_t)
 DCSCTP_MSAN_LIST(dcsctp_skipped_streams, dcsctp_chunk, struct dcsctp_skipped_stream)
 DCSCTP_MSAN_LIST(dcsctp_parameters, dcsctp_chunk, struct dcsctp_parameter)
+DCSCTP_MSAN(size_t, dcsctp_items,
+            (const uint8_t *bytes, size_t length, size_t offset, struct dcsctp_parameter *items, size_t item_count),
+            (bytes, length, offset, items, item_count), DCSCTP_MSAN_NOTHING,
+            DCSCTP_MSAN_WRITES(true, items, returned < item_count ? returned : item_count))
 DCSCTP_MSAN_LIST(dcsctp_reset_streams, dcsctp_parameter, uint16_t)
 DCSCTP_MSAN_LIST(dcsctp_missing_parameters, dcsctp_parameter, uint16_t)
+DCSCTP_MSAN_LIST(dcsctp_short_numbers, dcsctp_parameter, uint16_t)
 
 DCSCTP_MSAN(uint32_t, dcsctp_seal, (uint8_t *packet, size_t length), (packet, length),
             DCSCTP_MSAN_READS_PACKET(packet, length), DCSCTP_MSAN_WRITES(returned == DCSCTP_OK, packet + 8, 4))
