@@ -1,5 +1,5 @@
-//! What a benchmark calls from C (`docs/SPEED.md`): each call takes the bytes of a packet, returns
-//! a number, and drops all that it made.
+//! What a benchmark calls from C (`docs/SPEED.md`): each call takes the bytes of a packet, and
+//! `probes_refill` those of many, returns a number, and drops all that it made.
 //!
 //! In C a slice is a pointer and a length, and `alloc` takes no place among the arguments: memory
 //! comes from the C program's `malloc` and `realloc`. The checksum field may hold any number.
