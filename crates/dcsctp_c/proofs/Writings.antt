@@ -6,6 +6,14 @@ use Rattle.dcsctp_buffer.specs.Item.{IsLastChunk}
 use Rattle.dcsctp_buffer.specs.declared.error.WriteError.TheVariants.{BadPlace, BadValue}
 use Rattle.dcsctp_c.specs.{Code.{bad_value_code, bad_place_code}, Output.{Output}, Writing.{declined, AddsNothing, AddsItem, AddsParameter, fixed_tree, re_config_tree, value_of, cause_value, has_streams}, declared.structs.DcsctpReConfig.{DcsctpReConfig}}
 
+some_value : {A : Type 0} (a b : A) → Some a ≡ Some b → a ≡ b
+some_value a b e = cc
+
+-- of what was found, what is so of the one that was built
+pub of_found : {T : Type 0} (P : T → Type 0) (built t : T) (found : Option T) → Some built ≡ found
+    → found ≡ Some t → P built → P t
+of_found P built t found e is so = subst P (some_value built t (e ∙ is)) so
+
 -- an output is its bytes and its size
 pub same_output : (old new : List ℕ) (m n : ℕ) → (new ≡ old) × (n ≡ m)
     → record { bytes = new; size = n } ≡ (let o : Output = record { bytes = old; size = m } in o)
@@ -46,9 +54,6 @@ missing_added start types count old new code e h =
     (zeroed-solid (to_be_bytes w32 (length types) ++ numbers w16 types)
     ∙ ap (λ (bytes : List ℕ). bytes ++ numbers w16 types)
     (sym (e ∙ four_bytes (length types)))) h
-
-some_value : {A : Type 0} (a b : A) → Some a ≡ Some b → a ≡ b
-some_value a b e = cc
 
 -- the value with stream ids is the value without them, and these
 leads : (lead words leading : List ℕ) → Some lead ≡ Some (zeroed (solid (leading ++ [])))

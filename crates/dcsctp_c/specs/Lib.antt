@@ -1,3 +1,4 @@
+pub mod AddRegistered
 pub mod Code
 pub mod Fill
 pub mod Output

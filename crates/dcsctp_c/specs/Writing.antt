@@ -153,8 +153,12 @@ cause_value c = zeroed (cause_tlv c).value
 abbrev pub has_streams : ℕ → Bool
 has_streams typ = typ == 13 || typ == 14
 
+-- an item of this type with this value is added, if there is one
+abbrev pub AddsSomeItem : ℕ → ℕ → Option (List ℕ) → Output → Output → ℕ → Type 0
+AddsSomeItem start typ (Some value) old new code = AddsItem start typ value old new code
+AddsSomeItem start typ None old new code =
+    AddsNothing (IsLastChunk old.bytes old.size start) old new code
+
 -- the parameter is added, if there is one
 abbrev pub AddsParameter : ℕ → ℕ → Option ParameterTree → Output → Output → ℕ → Type 0
-AddsParameter start typ (Some p) old new code = AddsItem start typ (value_of p) old new code
-AddsParameter start typ None old new code =
-    AddsNothing (IsLastChunk old.bytes old.size start) old new code
+AddsParameter start typ found = AddsSomeItem start typ (option_map value_of found)

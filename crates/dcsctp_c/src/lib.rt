@@ -6,6 +6,7 @@
 //! offsets and sizes. An output changes only where the contract says so.
 #![tactic(auto)]
 
+mod add_registered;
 mod codes;
 mod fill;
 mod in_place;

@@ -11,7 +11,7 @@ ghost use Rattle.dcsctp_c.specs.{Writing.{AddsItem, AddsParameter, has_streams, 
 
 use crate::codes::{OK, unwritable, write_code};
 use crate::structs::DcsctpReConfig;
-use dcsctp_buffer::item::{add_item, is_last_chunk};
+use dcsctp_buffer::item::{BytesAndNumbers, WritableItem, add_written, is_last_chunk};
 use dcsctp_tlv::fields::put_fields;
 use dcsctp_tlv::frame::put_bytes;
 use dcsctp_tlv::parameter::add_streams_request::AddStreamsNumbers;
@@ -190,7 +190,26 @@ fn add_to_list(
         (record { bytes = packet.old; size = size.old })
         (record { bytes = packet.new; size = size.new }) result }
 {
-    match add_item(packet, size, start, typ, leading, words) {
+    let item = BytesAndNumbers {
+        leading,
+        numbers: words,
+    };
+    add_item(packet, size, start, typ, &item)
+}
+
+/// Adds an item of this type.
+pub(crate) fn add_item<I: WritableItem>(
+    packet: &mut [u8],
+    size: &mut usize,
+    start: usize,
+    typ: u16,
+    item: &I,
+) -> u32
+    ensures { AddsItem start typ (I.value item.now)
+        (record { bytes = packet.old; size = size.old })
+        (record { bytes = packet.new; size = size.new }) result }
+{
+    match add_written(packet, size, start, typ, item) {
         Ok(()) => OK,
         Err(error) => write_code(error),
     }

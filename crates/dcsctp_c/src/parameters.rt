@@ -5,12 +5,12 @@ ghost use Rattle.std.specs.Prelude.{◌≡◌, ◌↔◌, ◌+◌, ◌^◌, ◌<
 ghost use Rattle.dcsctp_tlv.specs.{Frame.{BeginsWithFrame}, Parameter.{ParameterTree}};
 ghost use Rattle.dcsctp_cause.specs.Cause.{CauseTree};
 ghost use Rattle.dcsctp_wire.specs.Chunk.{ChunkTree};
-ghost use Rattle.dcsctp_registry.specs.Shapes.{short_numbers_of};
 ghost use Rattle.dcsctp_c.specs.{Part.{ReadsInto, Holds, value_at, value_from, ChunkMeans, list_bytes, IsListOf, bytes_to}, Parameter.{IsListedIn, IsParameterAt, ParameterMeans, CauseMeans, parameter_value, number_at, number_of, cause_number_of, short_numbers_at}};
 
 use crate::parts::{part_at, put_found, read_number};
 use crate::structs::{DcsctpChunk, DcsctpParameter};
 use dcsctp_borrowed::numbers::Numbers;
+use dcsctp_registry::shapes::short_numbers;
 use dcsctp_tlv::frame::split_frame;
 use dcsctp_wire::packet::init_chunk::{self, InitNumbers};
 use dcsctp_wire::packet::{
@@ -192,15 +192,4 @@ pub(crate) fn short_numbers_in<'a>(
     ensures { result ≡ short_numbers_at bytes.now parameter.now }
 {
     short_numbers(parameter_value(bytes, parameter)?)
-}
-
-/// Returns the numbers of two bytes each that the bytes are; nothing where one is left over.
-#[inline(always)]
-fn short_numbers(value: &[u8]) -> Option<Numbers>
-    ensures { result ≡ short_numbers_of value.now }
-{
-    if !value.len().is_multiple_of(2) {
-        return None;
-    }
-    Some(Numbers::new(value.len() / 2, value))
 }

@@ -359,7 +359,7 @@ fn init_chunk(is_ack: bool, init: &DcsctpInit) -> BorrowedInit
 }
 
 /// Adds a chunk.
-fn add_chunk<C: WritableChunk>(packet: &mut [u8], size: &mut usize, chunk: &C) -> u32
+pub(crate) fn add_chunk<C: WritableChunk>(packet: &mut [u8], size: &mut usize, chunk: &C) -> u32
     ensures { AddsChunk (C.tree chunk.now)
         (record { bytes = packet.old; size = size.old })
         (record { bytes = packet.new; size = size.new }) result }

@@ -18,4 +18,4 @@ pub mod raw_items;
 pub mod registered_cause;
 pub mod registered_chunk;
 pub mod registered_parameter;
-mod shapes;
+pub mod shapes;

@@ -48,8 +48,9 @@ pub(crate) fn padded_number(value: &[u8]) -> Option<u16>
     Some(read_u16_be(value))
 }
 
-/// Reads a value of numbers of two bytes each.
-pub(crate) fn short_numbers(value: &[u8]) -> Option<Numbers>
+/// Reads a value of numbers of two bytes each: types of addresses (RFC 9260 section 3.3.2.1.5),
+/// identifiers of HMACs (RFC 4895 section 3.3). `None` if and only if its size is odd.
+pub fn short_numbers(value: &[u8]) -> Option<Numbers>
     ensures { result ≡ short_numbers_of value.now }
 {
     if !value.len().is_multiple_of(2) {

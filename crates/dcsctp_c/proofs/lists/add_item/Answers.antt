@@ -1,7 +1,7 @@
 use Rattle.dcsctp_c.{specs.Writing.{declined}, proofs.Writings.{same_output}}
-use Rattle.dcsctp_c.proofs.lists.add_to_list.Goals as goal
+use Rattle.dcsctp_c.proofs.lists.add_item.Goals as goal
 
 pub returns-in-Err : goal.returns-in-Err
-returns-in-Err c =
+returns-in-Err g c =
     declined c.in-Err.error c.in-Err.ensures.declined
     (same_output _ _ _ _ c.in-Err.ensures.unchanged) c.write_code.ensures
