@@ -215,6 +215,24 @@ DCSCTP_MSAN_ADD(dcsctp_add_missing_parameters, (DCSCTP_MSAN_TO, size_t start, co
                 (packet, room, size, start, types, type_count), DCSCTP_MSAN_READS_NUMBERS(start);
                 DCSCTP_MSAN_READS(types, type_count))
 
+#define DCSCTP_MSAN_READS_REGISTERED                                                                                     \
+    DCSCTP_MSAN_READS(registered, 1);                                                                                    \
+    DCSCTP_MSAN_READS(bytes, length)
+DCSCTP_MSAN_ADD(dcsctp_add_registered_chunk,
+                (DCSCTP_MSAN_TO, uint8_t type, const struct dcsctp_registered *registered, const uint8_t *bytes, size_t length),
+                (packet, room, size, type, registered, bytes, length), DCSCTP_MSAN_READS_NUMBERS(type);
+                DCSCTP_MSAN_READS_REGISTERED)
+DCSCTP_MSAN_ADD(dcsctp_add_registered_parameter,
+                (DCSCTP_MSAN_TO, size_t start, uint16_t type, const struct dcsctp_registered *registered, const uint8_t *bytes,
+                 size_t length),
+                (packet, room, size, start, type, registered, bytes, length), DCSCTP_MSAN_READS_NUMBERS(start ^ type);
+                DCSCTP_MSAN_READS_REGISTERED)
+DCSCTP_MSAN_ADD(dcsctp_add_registered_cause,
+                (DCSCTP_MSAN_TO, size_t start, uint16_t code, const struct dcsctp_registered *registered, const uint8_t *bytes,
+                 size_t length),
+                (packet, room, size, start, code, registered, bytes, length), DCSCTP_MSAN_READS_NUMBERS(start ^ code);
+                DCSCTP_MSAN_READS_REGISTERED)
+
 DCSCTP_MSAN(size_t, dcsctp_clean_blocks, (struct dcsctp_gap_ack_block *blocks, size_t block_count),
             (blocks, block_count), DCSCTP_MSAN_READS(blocks, block_count), DCSCTP_MSAN_NOTHING)
 

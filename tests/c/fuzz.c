@@ -463,6 +463,36 @@ static void require_registered(bool is_read, const struct dcsctp_registered *fou
     }
 }
 
+enum registered_level { REGISTERED_CHUNK, REGISTERED_PARAMETER, REGISTERED_CAUSE };
+
+/* What was read of a value is written, and reads as the same. */
+static void rewrite_registered(enum registered_level level, uint16_t type, const uint8_t *bytes, size_t length,
+                               const struct dcsctp_registered *found)
+{
+    static uint8_t packet[65536];
+    size_t size;
+    struct dcsctp_chunk chunk;
+    struct dcsctp_parameter item;
+    struct dcsctp_registered again = {77, 77, 77, 77, 77, 77, 77, 77, 77};
+    REQUIRE(dcsctp_begin(packet, sizeof packet, &size, 1, 2, 3) == DCSCTP_OK);
+    if (level == REGISTERED_CHUNK) {
+        REQUIRE(dcsctp_add_registered_chunk(packet, sizeof packet, &size, (uint8_t)type, found, bytes, length) == DCSCTP_OK);
+        REQUIRE(dcsctp_chunk_at(packet, size, 12, &chunk) && chunk.type == type && chunk.flags == 0 && chunk.next == size);
+        REQUIRE(dcsctp_registered_chunk(packet, size, &chunk, &again));
+    } else {
+        REQUIRE(dcsctp_add_chunk(packet, sizeof packet, &size, DCSCTP_CHUNK_ERROR, 0, NULL, 0) == DCSCTP_OK);
+        REQUIRE((level == REGISTERED_CAUSE ? dcsctp_add_registered_cause : dcsctp_add_registered_parameter)(
+                    packet, sizeof packet, &size, 12, type, found, bytes, length) == DCSCTP_OK);
+        REQUIRE(dcsctp_item_at(packet, size, 16, &item) && item.type == type && item.next == size);
+        REQUIRE((level == REGISTERED_CAUSE ? dcsctp_registered_cause : dcsctp_registered_parameter)(packet, size, &item, &again));
+    }
+    REQUIRE(again.number == found->number && again.second_number == found->second_number && again.short_number == found->short_number);
+    REQUIRE(again.second_short_number == found->second_short_number && again.third_short_number == found->third_short_number);
+    REQUIRE(again.address_size == found->address_size && again.rest_size == found->rest_size);
+    REQUIRE(!memcmp(packet + again.address_offset, bytes + found->address_offset, again.address_size));
+    REQUIRE(!memcmp(packet + again.rest_offset, bytes + found->rest_offset, again.rest_size));
+}
+
 /* A parameter or an error cause as a call or a caller gave it: what its offsets say, read here. */
 static void try_item(const uint8_t *bytes, size_t length, const struct dcsctp_parameter *item)
 {
@@ -482,9 +512,13 @@ static void try_item(const uint8_t *bytes, size_t length, const struct dcsctp_pa
     bool is_read = dcsctp_registered_parameter(bytes, length, item, &as_parameter);
     REQUIRE(is_there || !is_read);
     require_registered(is_read, &as_parameter, item->value_offset, size);
+    if (is_read && size < 65000)
+        rewrite_registered(REGISTERED_PARAMETER, item->type, bytes, length, &as_parameter);
     is_read = dcsctp_registered_cause(bytes, length, item, &as_cause);
     REQUIRE(is_there || !is_read);
     require_registered(is_read, &as_cause, item->value_offset, size);
+    if (is_read && size < 65000)
+        rewrite_registered(REGISTERED_CAUSE, item->type, bytes, length, &as_cause);
 
     bool is_re_config = is_there && type >= 13 && type <= 18 && parameter_fault((uint32_t)type, value, size) == DCSCTP_OK;
     struct dcsctp_re_config found = {.type = 77, .result = 77, .has_next_tsns = true, .new_streams = 77, .stream_count = 77};
@@ -614,6 +648,8 @@ static void try_parts(const uint8_t *bytes, size_t length, const struct dcsctp_c
     bool is_registered = dcsctp_registered_chunk(bytes, length, chunk, &registered);
     REQUIRE(is_there || !is_registered);
     require_registered(is_registered, &registered, offset, size);
+    if (is_registered && size < 65000)
+        rewrite_registered(REGISTERED_CHUNK, chunk->type, bytes, length, &registered);
 
     struct dcsctp_sack sack = {77, 77, 77, 77};
     struct dcsctp_gap_ack_block block = {77, 77};

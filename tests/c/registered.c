@@ -1,6 +1,7 @@
 /* SPDX-License-Identifier: Apache-2.0 */
 /* What IANA's registry has beyond the kinds: each field of each type, read from bytes that were laid out by hand as the RFCs
-   say; values of another size, broken lists, and values that don't lie within the bytes; and lists at any place. */
+   say, and written as these bytes again; values of another size, broken lists, and values that don't lie within the bytes; and
+   lists at any place. */
 #include <dcsctp.h>
 #include <stdint.h>
 #include <stdio.h>
@@ -51,11 +52,12 @@ static struct bytes bytes_of(const char *hexadecimal)
 
 enum level { CHUNK, PARAMETER, CAUSE };
 
-/* Places are counted from the item's header on; 0 is none. */
+/* Places are counted from the item's header on; 0 is none. Flags and reserved bytes that aren't zero are in `bytes` alone. */
 struct row {
     enum level level;
     const char *bytes;
     struct dcsctp_registered fields;
+    const char *written; /* where it differs from `bytes` */
 };
 
 /* Those that are read. */
@@ -65,14 +67,14 @@ static const struct row rows[] = {
     {CHUNK, "0d00 0008 01020304", {.number = 0x01020304}},
     /* AUTH: RFC 4895 section 5.1 */
     {CHUNK, "0fff 000c 0102 0003 01020304",
-     {.short_number = 0x0102, .second_short_number = 3, .rest_offset = 8, .rest_size = 4}},
+     {.short_number = 0x0102, .second_short_number = 3, .rest_offset = 8, .rest_size = 4}, "0f00 000c 0102 0003 01020304"},
     {CHUNK, "0f00 0008 0102 0001", {.short_number = 0x0102, .second_short_number = 1, .rest_offset = 8}},
     /* NR-SACK: draft-tuexen-tsvwg-sctp-multipath */
     {CHUNK, "1000 0028 01020304 00050607 0001 0002 0002 0000 0002 0103 0205 0206 0408 0509 01020303 01020204",
      {.number = 0x01020304, .second_number = 0x00050607, .short_number = 1, .second_short_number = 2, .third_short_number = 2,
       .rest_offset = 20, .rest_size = 20}},
     {CHUNK, "1000 0014 01020304 00050607 0000 0000 0000 ffff",
-     {.number = 0x01020304, .second_number = 0x00050607, .rest_offset = 20}},
+     {.number = 0x01020304, .second_number = 0x00050607, .rest_offset = 20}, "1000 0014 01020304 00050607 0000 0000 0000 0000"},
     /* ASCONF ACK and ASCONF: RFC 5061 section 4.1 */
     {CHUNK, "8000 002c 08090a0b c005 0008 00000001 c003 001c 00000002 00a1 0014 c001 0010 00000002 0005 0008 c0000201",
      {.number = 0x08090a0b, .rest_offset = 8, .rest_size = 36}},
@@ -85,7 +87,7 @@ static const struct row rows[] = {
     {CHUNK, "8100 0020 0c0d0e0f 000007d0 05dc 0000 13881389 01020304 00000000 0b000004",
      {.number = 0x0c0d0e0f, .second_number = 2000, .short_number = 1500, .rest_offset = 16, .rest_size = 16}},
     {CHUNK, "8100 0010 0c0d0e0f 000007d0 0000 ffff",
-     {.number = 0x0c0d0e0f, .second_number = 2000, .rest_offset = 16}},
+     {.number = 0x0c0d0e0f, .second_number = 2000, .rest_offset = 16}, "8100 0010 0c0d0e0f 000007d0 0000 0000"},
     /* PAD: RFC 4820 section 3 */
     {CHUNK, "8400 0008 00000000", {.rest_offset = 4, .rest_size = 4}},
     {CHUNK, "8400 0004", {.rest_offset = 4}},
@@ -124,7 +126,7 @@ static const struct row rows[] = {
     {PARAMETER, "c006 0008 01020304", {.number = 0x01020304}},
 
     /* RFC 9260 section 3.3.10 */
-    {CAUSE, "0001 0008 0201 ffff", {.short_number = 0x0201}},
+    {CAUSE, "0001 0008 0201 ffff", {.short_number = 0x0201}, "0001 0008 0201 0000"},
     {CAUSE, "0003 0008 0001e240", {.number = 123456}},
     {CAUSE, "0004 0004", {0}},
     {CAUSE, "0005 000e 000b 000a 612e62632e00", {.rest_offset = 4, .rest_size = 10}},
@@ -274,6 +276,143 @@ static void outside(const struct row *row, struct bytes in, struct item item)
     check_that(refuses(row->level, NULL, 0, &item), "no bytes have a value", row->bytes, __LINE__);
 }
 
+/* ---- what is written */
+
+enum { ROOM = 128, HEADER = 12, LIST = 16 };
+
+/* A packet without a chunk, or with one to whose list is added. */
+struct packet {
+    uint8_t bytes[ROOM];
+    size_t size;
+};
+
+static struct packet begun(enum level level)
+{
+    struct packet packet;
+    memset(packet.bytes, 0x5a, sizeof packet.bytes);
+    CHECK(dcsctp_begin(packet.bytes, ROOM, &packet.size, 5000, 5001, 7) == DCSCTP_OK);
+    if (level != CHUNK)
+        CHECK(dcsctp_add_chunk(packet.bytes, ROOM, &packet.size, DCSCTP_CHUNK_ERROR, 0, NULL, 0) == DCSCTP_OK);
+    return packet;
+}
+
+static uint32_t write_item(enum level level, uint16_t type, struct packet *packet, size_t room,
+                           const struct dcsctp_registered *registered, struct bytes in)
+{
+    switch (level) {
+    case CHUNK:
+        return dcsctp_add_registered_chunk(packet->bytes, room, &packet->size, (uint8_t)type, registered, in.bytes, in.length);
+    case PARAMETER:
+        return dcsctp_add_registered_parameter(packet->bytes, room, &packet->size, HEADER, type, registered, in.bytes,
+                                               in.length);
+    default:
+        return dcsctp_add_registered_cause(packet->bytes, room, &packet->size, HEADER, type, registered, in.bytes, in.length);
+    }
+}
+
+static bool declines(uint32_t code, enum level level, uint16_t type, size_t room, const struct dcsctp_registered *registered,
+                     struct bytes in)
+{
+    struct packet packet = begun(level), before = packet;
+    return write_item(level, type, &packet, room, registered, in) == code && packet.size == before.size
+        && !memcmp(packet.bytes, before.bytes, ROOM);
+}
+
+/* The bytes of the row, with padding, after the header or in the list; and nothing after them. */
+static void writes(const struct row *row, const struct item *item, struct bytes in, const struct dcsctp_registered *registered)
+{
+    struct bytes wanted = bytes_of(row->written ? row->written : row->bytes);
+    uint16_t type = row->level == CHUNK ? item->chunk.type : item->parameter.type;
+    size_t length = wanted.length - BEFORE, end = (length + 3) / 4 * 4, start = row->level == CHUNK ? HEADER : LIST;
+    struct packet packet = begun(row->level);
+    check_that(write_item(row->level, type, &packet, start + end, registered, in) == DCSCTP_OK, "it is written", row->bytes, __LINE__);
+    check_that(packet.size == start + end && !memcmp(packet.bytes + start, wanted.bytes + BEFORE, length),
+               "its bytes are the same", row->bytes, __LINE__);
+    for (size_t at = length; at < ROOM - start; at++)
+        check_that(packet.bytes[start + at] == (at < end ? 0 : 0x5a), "padding is zero", row->bytes, __LINE__);
+    if (row->level != CHUNK)
+        check_that(packet.bytes[14] == 0 && packet.bytes[15] == 4 + length, "the chunk is as long", row->bytes, __LINE__);
+    check_that(declines(DCSCTP_NO_ROOM, row->level, type, start + end - 1, registered, in), "it takes room", row->bytes, __LINE__);
+    free(wanted.bytes);
+    if (registered->rest_size) {
+        struct dcsctp_registered moved = *registered;
+        moved.rest_offset = in.length - moved.rest_size + 1;
+        check_that(declines(DCSCTP_BAD_VALUE, row->level, type, ROOM, &moved, in), "a rest past the end", row->bytes, __LINE__);
+        moved.rest_offset = SIZE_MAX;
+        check_that(declines(DCSCTP_BAD_VALUE, row->level, type, ROOM, &moved, in), "a rest far off", row->bytes, __LINE__);
+        moved = *registered;
+        moved.rest_size = SIZE_MAX;
+        check_that(declines(DCSCTP_BAD_VALUE, row->level, type, ROOM, &moved, in), "an endless rest", row->bytes, __LINE__);
+    }
+    if (registered->address_size) {
+        struct dcsctp_registered moved = *registered;
+        const size_t sizes[] = {0, 3, 5, SIZE_MAX};
+        for (size_t i = 0; i < sizeof sizes / sizeof *sizes; i++) {
+            moved.address_size = sizes[i];
+            check_that(declines(DCSCTP_BAD_VALUE, row->level, type, ROOM, &moved, in), "no address", row->bytes, __LINE__);
+        }
+        moved = *registered;
+        moved.address_offset = in.length - moved.address_size + 1;
+        check_that(declines(DCSCTP_BAD_VALUE, row->level, type, ROOM, &moved, in), "an address past the end", row->bytes, __LINE__);
+    }
+}
+
+/* What the values can't be. */
+static void unwritable(void)
+{
+    struct bytes in = bytes_of("0005 0008 c0000201 8008 0003 00000000 00000000 0000");
+    struct dcsctp_registered none = {0}, all = {.address_offset = BEFORE + 4, .address_size = 4, .rest_offset = BEFORE};
+    struct packet packet = begun(PARAMETER);
+    /* a type that has a kind of its own, or none */
+    const uint16_t chunks[] = {0, 1, 11, 14, 17, 64, 127, 130, 131, 133, 192, 194, 255};
+    const uint16_t parameters[] = {0, 1, 7, 10, 13, 18, 0x8001, 0x8006, 0x8008, 0xc000, 0xc007, 0xffff};
+    const uint16_t causes[] = {0, 2, 6, 9, 10, 12, 13, 0x9f, 0xa5, 0x104, 0x106, 0xffff};
+    for (size_t i = 0; i < sizeof chunks / sizeof *chunks; i++)
+        CHECK(declines(DCSCTP_BAD_VALUE, CHUNK, chunks[i], ROOM, &all, in));
+    for (size_t i = 0; i < sizeof parameters / sizeof *parameters; i++)
+        CHECK(declines(DCSCTP_BAD_VALUE, PARAMETER, parameters[i], ROOM, &all, in));
+    for (size_t i = 0; i < sizeof causes / sizeof *causes; i++)
+        CHECK(declines(DCSCTP_BAD_VALUE, CAUSE, causes[i], ROOM, &all, in));
+    /* an address of the other family, or none */
+    CHECK(declines(DCSCTP_BAD_VALUE, PARAMETER, DCSCTP_PARAMETER_IPV6_ADDRESS, ROOM, &all, in));
+    CHECK(declines(DCSCTP_BAD_VALUE, PARAMETER, DCSCTP_PARAMETER_IPV4_ADDRESS, ROOM, &none, in));
+    all.address_size = 16;
+    CHECK(declines(DCSCTP_BAD_VALUE, PARAMETER, DCSCTP_PARAMETER_IPV4_ADDRESS, ROOM, &all, in));
+    CHECK(declines(DCSCTP_BAD_VALUE, CHUNK, DCSCTP_CHUNK_ASCONF, ROOM, &none, in));
+    /* lists that are broken: an item's length is 3, or one is cut off, or a number is */
+    all.rest_offset = BEFORE + 8;
+    all.rest_size = 8;
+    CHECK(declines(DCSCTP_BAD_VALUE, PARAMETER, DCSCTP_PARAMETER_UNRECOGNIZED_PARAMETER, ROOM, &all, in));
+    CHECK(declines(DCSCTP_BAD_VALUE, PARAMETER, DCSCTP_PARAMETER_ERROR_CAUSE_INDICATION, ROOM, &all, in));
+    CHECK(declines(DCSCTP_BAD_VALUE, CHUNK, DCSCTP_CHUNK_ASCONF_ACK, ROOM, &all, in));
+    CHECK(declines(DCSCTP_BAD_VALUE, CAUSE, DCSCTP_CAUSE_UNRECOGNIZED_PARAMETERS, ROOM, &all, in));
+    all.rest_offset = BEFORE;
+    all.rest_size = 7;
+    CHECK(declines(DCSCTP_BAD_VALUE, CHUNK, DCSCTP_CHUNK_ASCONF, ROOM, &all, in));
+    CHECK(declines(DCSCTP_BAD_VALUE, PARAMETER, DCSCTP_PARAMETER_REQUESTED_HMAC_ALGORITHM, ROOM, &all, in));
+    CHECK(declines(DCSCTP_BAD_VALUE, PARAMETER, DCSCTP_PARAMETER_SUPPORTED_ADDRESS_TYPES, ROOM, &all, in));
+    /* an NR-SACK with other counts than its lists have */
+    all.rest_size = 8;
+    const uint16_t counts[][3] = {{0, 0, 0}, {1, 0, 0}, {0, 1, 0}, {0, 0, 3}, {UINT16_MAX, UINT16_MAX, UINT16_MAX}};
+    for (size_t i = 0; i < sizeof counts / sizeof *counts; i++) {
+        all.short_number = counts[i][0], all.second_short_number = counts[i][1], all.third_short_number = counts[i][2];
+        CHECK(declines(DCSCTP_BAD_VALUE, CHUNK, DCSCTP_CHUNK_NR_SACK, ROOM, &all, in));
+    }
+    /* what the type does not carry is ignored, wherever it is said to be */
+    memset(&all, 0xff, sizeof all);
+    CHECK(write_item(PARAMETER, DCSCTP_PARAMETER_ECN_CAPABLE, &packet, ROOM, &all, in) == DCSCTP_OK && packet.size == 20);
+    CHECK(write_item(CAUSE, DCSCTP_CAUSE_STALE_COOKIE, &packet, ROOM, &all, (struct bytes){NULL, 0}) == DCSCTP_OK);
+    CHECK(packet.size == 28 && !memcmp(packet.bytes + 12, "\x09\0\0\x10\x80\0\0\4\0\3\0\x08\xff\xff\xff\xff", 16));
+    /* the place is told first: a size that no packet has, or a place that is no chunk's */
+    packet.size = 13;
+    CHECK(write_item(CHUNK, DCSCTP_CHUNK_PAD, &packet, ROOM, &none, in) == DCSCTP_BAD_PLACE);
+    CHECK(write_item(CHUNK, DCSCTP_CHUNK_DATA, &packet, ROOM, &none, in) == DCSCTP_BAD_PLACE);
+    packet = begun(CHUNK);
+    CHECK(write_item(PARAMETER, DCSCTP_PARAMETER_ECN_CAPABLE, &packet, ROOM, &none, in) == DCSCTP_BAD_PLACE);
+    CHECK(write_item(CAUSE, 0, &packet, ROOM, &none, in) == DCSCTP_BAD_PLACE && packet.size == HEADER);
+    free(in.bytes);
+}
+
 static void each_row(void)
 {
     for (size_t i = 0; i < sizeof rows / sizeof *rows; i++) {
@@ -285,6 +424,7 @@ static void each_row(void)
         check_that(read_item(rows[i].level, in.bytes, in.length, &item, &registered), "it is read", rows[i].bytes, __LINE__);
         check_that(are_same(&registered, &rows[i].fields), "its fields are right", rows[i].bytes, __LINE__);
         outside(&rows[i], in, item);
+        writes(&rows[i], &item, in, &registered);
         free(in.bytes);
     }
     for (size_t i = 0; i < sizeof others / sizeof *others; i++) {
@@ -371,6 +511,7 @@ static void short_numbers(void)
 int main(void)
 {
     each_row();
+    unwritable();
     nested();
     requests();
     short_numbers();

@@ -178,7 +178,7 @@ only_number n = record empty { number = n }
 abbrev pub only_short_number : ℕ → DcsctpRegistered
 only_short_number n = record empty { short_number = n }
 
--- what follows so many bytes
+-- the struct with the place of what follows the first `skip` bytes
 abbrev pub with_rest : ℕ → ℕ → ℕ → DcsctpRegistered → DcsctpRegistered
 with_rest skip offset size r =
     record r { rest_offset = offset + min skip size; rest_size = size - skip }
@@ -187,7 +187,7 @@ abbrev pub address_size : address.Tree → ℕ
 address_size (address.V4 octets) = 4
 address_size (address.V6 octets) = 16
 
--- the address that follows so many bytes
+-- the struct with the place of an address that follows the first `skip` bytes
 abbrev pub with_address : address.Tree → ℕ → ℕ → ℕ → DcsctpRegistered → DcsctpRegistered
 with_address a skip offset size r =
     record r { address_offset = offset + min skip size; address_size = address_size a }

@@ -13,27 +13,14 @@ use crate::parts::{NUMBER_SIZE, put_found, value_of};
 use crate::structs::{DcsctpChunk, DcsctpParameter, DcsctpRegistered};
 use dcsctp_registry::address::Address;
 use dcsctp_registry::registered_cause::RegisteredCause;
-use dcsctp_registry::registered_chunk::RegisteredChunk;
+use dcsctp_registry::registered_chunk::{
+    AUTH_SIZE, NR_SACK_BLOCKS, NR_SACK_DUPLICATES, NR_SACK_NR_BLOCKS, NR_SACK_SIZE, PKTDROP_SIZE,
+    RegisteredChunk,
+};
 use dcsctp_registry::registered_parameter::RegisteredParameter;
 use dcsctp_tlv::parameter::RawParameter;
 use dcsctp_wire::packet::raw_chunk::RawChunk;
 use dcsctp_wire::packet::{TLV_HEADER_SIZE, read_u16_be};
-
-/// Bytes of AUTH's value before the HMAC: two short numbers.
-const AUTH_SIZE: usize = 4;
-
-/// Bytes of an NR-SACK's value before its lists.
-const NR_SACK_SIZE: usize = 16;
-
-/// The places of the lists' lengths in an NR-SACK's value.
-const NR_SACK_BLOCKS: usize = 8;
-
-const NR_SACK_NR_BLOCKS: usize = 10;
-
-const NR_SACK_DUPLICATES: usize = 12;
-
-/// Bytes of PKTDROP's value before the packet.
-const PKTDROP_SIZE: usize = 12;
 
 /// Bytes before the octets of an address parameter that follows a number.
 const BEFORE_ADDRESS: usize = NUMBER_SIZE + TLV_HEADER_SIZE;

@@ -49,14 +49,23 @@ pub const ASCONF: u8 = 193;
 /// Bytes of the value of ECNE or CWR.
 const TSN_SIZE: usize = 4;
 
-/// Bytes of AUTH's value before the HMAC.
-const AUTH_SIZE: usize = 4;
+/// Bytes of AUTH's value before the HMAC: two numbers of two bytes.
+pub const AUTH_SIZE: usize = 4;
 
 /// Bytes of an NR-SACK's value before its lists.
-const NR_SACK_SIZE: usize = 16;
+pub const NR_SACK_SIZE: usize = 16;
+
+/// The offset in an NR-SACK's value of how many gap ack blocks there are.
+pub const NR_SACK_BLOCKS: usize = 8;
+
+/// The offset in an NR-SACK's value of how many NR gap ack blocks there are.
+pub const NR_SACK_NR_BLOCKS: usize = 10;
+
+/// The offset in an NR-SACK's value of how many duplicate TSNs there are.
+pub const NR_SACK_DUPLICATES: usize = 12;
 
 /// Bytes of PKTDROP's value before the packet.
-const PKTDROP_SIZE: usize = 12;
+pub const PKTDROP_SIZE: usize = 12;
 
 /// Bytes of ASCONF's value before the address.
 const ASCONF_SIZE: usize = 4;
@@ -426,8 +435,8 @@ fn put_numbers_and_lists(
     let nr_block_count = (nr_blocks.len() / 4) as u16;
     let duplicate_count = (duplicates.len() / 4) as u16;
     put_words(output, place, tsn, a_rwnd);
-    put_shorts(output, place + 8, block_count, nr_block_count);
-    put_shorts(output, place + 12, duplicate_count, 0);
+    put_shorts(output, place + NR_SACK_BLOCKS, block_count, nr_block_count);
+    put_shorts(output, place + NR_SACK_DUPLICATES, duplicate_count, 0);
     let nr_place = place + NR_SACK_SIZE + blocks.len();
     put_bytes(output, place + NR_SACK_SIZE, blocks);
     put_bytes(output, nr_place, nr_blocks);
@@ -559,9 +568,9 @@ fn nr_sack(value: &[u8]) -> Option<RegisteredChunk>
     if value.len() < NR_SACK_SIZE {
         return None;
     }
-    let blocks = read_u16_be(&value[8..]) as usize;
-    let nr_blocks = read_u16_be(&value[10..]) as usize;
-    let duplicates = read_u16_be(&value[12..]) as usize;
+    let blocks = read_u16_be(&value[NR_SACK_BLOCKS..]) as usize;
+    let nr_blocks = read_u16_be(&value[NR_SACK_NR_BLOCKS..]) as usize;
+    let duplicates = read_u16_be(&value[NR_SACK_DUPLICATES..]) as usize;
     let nr_place = NR_SACK_SIZE + 4 * blocks;
     let duplicate_place = nr_place + 4 * nr_blocks;
     if value.len() != duplicate_place + 4 * duplicates {
