@@ -30,12 +30,12 @@ front_chunk p =
     if begins_with_item p then first_item p else
     record { first = slice_index p.bytes 0; second = slice_index p.bytes 1; value = after 4 p }
 
--- A chunk lies here with its padding, and the next one begins at most so many bytes ahead.
+-- A chunk lies here with its padding, and the next one begins at most `ahead` bytes from here.
 abbrev pub goes_on : ℕ → Part → Bool
 goes_on ahead p = begins_with_item p && nat_le (round_up_to_4 (length_field p)) ahead
 
--- The chunks that lie here one after the other, and begin at most so many bytes ahead, are these.
--- The last one is looked at even where its length is impossible.
+-- The chunks that lie here one after the other, and begin at most `ahead` bytes from here, are
+-- these. The last one is looked at even where its length is impossible.
 pub data AreWithin : ℕ → Part → List Item → Type 0 where
   none : (ahead : ℕ) (p : Part) (items : List Item) → has_header p ≡ false → items ≡ []
       → AreWithin ahead p items

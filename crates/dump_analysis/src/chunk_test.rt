@@ -242,7 +242,7 @@ pub(crate) fn some_seen(packet: Part<'_>, fault: Option<usize>, test: ChunkTest)
     }
 }
 
-/// Returns whether a chunk meets the test that begins at most so many bytes ahead.
+/// Returns whether a chunk that begins at most `ahead` bytes from the front meets the test.
 fn some_ahead(chunks: Part<'_>, ahead: usize, test: ChunkTest) -> bool
     ensures { result ≡ list_any (meets_test test) (chunks_ahead ahead (part_of chunks.entry)) }
 {

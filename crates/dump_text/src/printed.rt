@@ -152,8 +152,8 @@ fn is_hidden(character: char) -> bool
     )
 }
 
-/// Returns the first bytes of a text, at most so many, and none of a character that goes on after
-/// them.
+/// Returns the front of a text, of at most `most` bytes, without a character that goes on after
+/// it.
 pub fn text_front(text: &[u8], most: usize) -> &[u8]
     ensures front { result.now ≡ take (length result.now) text.now }
     ensures size { length result.now ≤ most }
