@@ -1,1 +1,3 @@
 pub mod Action
+pub mod Chunks
+pub mod VerificationTag

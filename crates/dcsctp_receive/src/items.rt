@@ -1,0 +1,93 @@
+//! The chunks of a packet, and the parameters and error causes in a chunk, whatever the bytes are.
+
+ghost use Rattle.std.specs.Prelude.{◌≡◌, Some, option_map, find};
+ghost use Rattle.dcsctp_borrowed.specs.{Grammar.{whole}, Part.{part_of, item_of, after}};
+ghost use Rattle.dcsctp_receive.specs.Chunks.{items_of, is_wanted, contains, begins_with, is_only, t_bit};
+
+use dcsctp_borrowed::part::{Item, Part};
+use dcsctp_chunk::flags::is_set;
+use dcsctp_wire::packet::sctp_packet::COMMON_HEADER_SIZE;
+
+/// What is looked for among items.
+#[derive(Clone, Copy)]
+pub(crate) enum Wanted {
+    /// A chunk of this type.
+    Chunk(u8),
+    /// A parameter or an error cause of this type.
+    Numbered(u8),
+}
+
+impl Wanted {
+    /// Returns whether the item is looked for.
+    fn is_met(self, item: Item<'_>) -> bool
+        ensures { result ≡ is_wanted self (item_of item.entry) }
+    {
+        match self {
+            Wanted::Chunk(typ) => item.first == typ,
+            Wanted::Numbered(typ) => item.first == 0 && item.second == typ,
+        }
+    }
+}
+
+/// Returns what follows the common header of a packet.
+pub(crate) fn chunk_part(packet: &[u8]) -> Part
+    ensures { part_of result ≡ after 12 (whole packet.now) }
+{
+    Part::packet(packet, packet.len()).after(COMMON_HEADER_SIZE)
+}
+
+/// Returns the first item that is looked for.
+pub(crate) fn first(list: Part<'_>, wanted: Wanted) -> Option<Item<'_>>
+    ensures { option_map item_of result ≡ find (is_wanted wanted) (items_of (part_of list.entry)) }
+{
+    let mut items = list.items();
+    while let Some(item) = items.next() {
+        if wanted.is_met(item) {
+            return Some(item);
+        }
+    }
+    None
+}
+
+/// Returns whether a chunk has this type.
+pub(crate) fn contains(chunks: Part<'_>, typ: u8) -> bool
+    ensures { result ≡ contains typ (items_of (part_of chunks.entry)) }
+{
+    match first(chunks, Wanted::Chunk(typ)) {
+        Some(_) => true,
+        None => false,
+    }
+}
+
+/// Returns whether the first chunk has this type.
+pub(crate) fn begins_with(chunks: Part<'_>, typ: u8) -> bool
+    ensures { result ≡ begins_with typ (items_of (part_of chunks.entry)) }
+{
+    match chunks.item() {
+        Some(chunk) => chunk.first == typ,
+        None => false,
+    }
+}
+
+/// Returns whether a chunk of this type is the only one.
+pub(crate) fn is_only(chunks: Part<'_>, typ: u8) -> bool
+    ensures { result ≡ is_only typ (items_of (part_of chunks.entry)) }
+{
+    match chunks.item() {
+        Some(chunk) => match chunks.after(chunk.padded).item() {
+            Some(_) => false,
+            None => chunk.first == typ,
+        },
+        None => false,
+    }
+}
+
+/// Returns the T bit of the first chunk of this type.
+pub(crate) fn t_bit(chunks: Part<'_>, typ: u8) -> bool
+    ensures { result ≡ t_bit typ (items_of (part_of chunks.entry)) }
+{
+    match first(chunks, Wanted::Chunk(typ)) {
+        Some(chunk) => is_set(chunk.second, 0),
+        None => false,
+    }
+}
