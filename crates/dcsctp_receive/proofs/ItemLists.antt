@@ -5,8 +5,7 @@ use Rattle.std.proofs.lemmas.List.{length-drop}
 use Rattle.std.specs.Prelude.{find}
 use Rattle.dcsctp_tlv.specs.Frame.{round_up_to_4}
 use Rattle.dcsctp_borrowed.{specs.Part.{Part, Item, AreItems, none, next, begins_with_item, first_item, after_item, length_field}, proofs.PacketItems.{one_list}}
-use Rattle.dcsctp_receive.specs.Chunks.{items_within, items_of, is_of_type, is_wanted, begins_with, is_only}
-use Rattle.dcsctp_receive.specs.declared.items.Wanted.{Wanted}
+use Rattle.dcsctp_receive.specs.Chunks.{items_within, items_of, is_of_type, begins_with, is_only}
 
 -- an item isn't empty, so fewer bytes follow it
 fewer : (p : Part) → begins_with_item p ≡ true → length (after_item p).bytes < length p.bytes
@@ -61,21 +60,18 @@ items_end p ends = end_of p (items_of p) ends (are_items p)
 
 -- ---- the loop that looks for an item
 
-pub first_met : (wanted : Wanted) (p : Part) (i : Item) → begins_with_item p ≡ true
-    → i ≡ first_item p → is_wanted wanted i ≡ true
-    → find (is_wanted wanted) (items_of p) ≡ Some i
-first_met wanted p i begins is met =
-    let test = is_wanted wanted in
+pub first_met : (test : Item → Bool) (p : Part) (i : Item) → begins_with_item p ≡ true
+    → i ≡ first_item p → test i ≡ true → find test (items_of p) ≡ Some i
+first_met test p i begins is met =
     ap (find test) (items_next p begins)
     ∙ cond-true (test (first_item p)) (Some (first_item p)) (find test (items_of (after_item p)))
     (ap test (sym is) ∙ met)
     ∙ ap (λ (i : Item). Some i) (sym is)
 
-pub first_on : (wanted : Wanted) (p : Part) (i : Item) → begins_with_item p ≡ true
-    → i ≡ first_item p → is_wanted wanted i ≡ false
-    → find (is_wanted wanted) (items_of p) ≡ find (is_wanted wanted) (items_of (after_item p))
-first_on wanted p i begins is unmet =
-    let test = is_wanted wanted in
+pub first_on : (test : Item → Bool) (p : Part) (i : Item) → begins_with_item p ≡ true
+    → i ≡ first_item p → test i ≡ false
+    → find test (items_of p) ≡ find test (items_of (after_item p))
+first_on test p i begins is unmet =
     ap (find test) (items_next p begins)
     ∙ cond-false (test (first_item p)) (Some (first_item p)) (find test (items_of (after_item p)))
     (ap test (sym is) ∙ unmet)

@@ -1,1 +1,2 @@
 pub mod ItemLists
+pub mod Replies

@@ -48,9 +48,13 @@ abbrev pub is_wanted : Wanted → Item → Bool
 is_wanted (wanted.Chunk typ) i = is_of_type typ i
 is_wanted (wanted.Numbered typ) i = is_numbered typ i
 
+-- Some item meets the test.
+abbrev pub has : (Item → Bool) → List Item → Bool
+has test items = is_some (find test items)
+
 -- The packet contains a chunk of this type.
 abbrev pub contains : ℕ → List Item → Bool
-contains typ chunks = is_some (find (is_of_type typ) chunks)
+contains typ chunks = has (is_of_type typ) chunks
 
 -- The first chunk has this type.
 abbrev pub begins_with : ℕ → List Item → Bool

@@ -1,3 +1,4 @@
 pub mod Action
 pub mod Chunks
 pub mod VerificationTag
+pub mod OutOfTheBlue

@@ -2,7 +2,7 @@
 
 ghost use Rattle.std.specs.Prelude.{◌≡◌, Some, option_map, find};
 ghost use Rattle.dcsctp_borrowed.specs.{Grammar.{whole}, Part.{part_of, item_of, after}};
-ghost use Rattle.dcsctp_receive.specs.Chunks.{items_of, is_wanted, contains, begins_with, is_only, t_bit};
+ghost use Rattle.dcsctp_receive.specs.Chunks.{items_of, is_wanted, has, is_numbered, contains, begins_with, is_only, t_bit};
 
 use dcsctp_borrowed::part::{Item, Part};
 use dcsctp_chunk::flags::is_set;
@@ -10,7 +10,7 @@ use dcsctp_wire::packet::sctp_packet::COMMON_HEADER_SIZE;
 
 /// What is looked for among items.
 #[derive(Clone, Copy)]
-pub(crate) enum Wanted {
+enum Wanted {
     /// A chunk of this type.
     Chunk(u8),
     /// A parameter or an error cause of this type.
@@ -37,7 +37,7 @@ pub(crate) fn chunk_part(packet: &[u8]) -> Part
 }
 
 /// Returns the first item that is looked for.
-pub(crate) fn first(list: Part<'_>, wanted: Wanted) -> Option<Item<'_>>
+fn first(list: Part<'_>, wanted: Wanted) -> Option<Item<'_>>
     ensures { option_map item_of result ≡ find (is_wanted wanted) (items_of (part_of list.entry)) }
 {
     let mut items = list.items();
@@ -54,6 +54,16 @@ pub(crate) fn contains(chunks: Part<'_>, typ: u8) -> bool
     ensures { result ≡ contains typ (items_of (part_of chunks.entry)) }
 {
     match first(chunks, Wanted::Chunk(typ)) {
+        Some(_) => true,
+        None => false,
+    }
+}
+
+/// Returns whether a parameter or an error cause has this type.
+pub(crate) fn has_numbered(list: Part<'_>, typ: u8) -> bool
+    ensures { result ≡ has (is_numbered typ) (items_of (part_of list.entry)) }
+{
+    match first(list, Wanted::Numbered(typ)) {
         Some(_) => true,
         None => false,
     }

@@ -1,9 +1,12 @@
 //! What RFC 9260 asks of whoever receives a packet, before the state of an association matters.
 //!
 //! Functions of bytes and of a little state, for any bytes: what is done with a type that isn't
-//! recognized, and with a packet by its Verification Tag. Nothing is kept, and nothing allocates.
+//! recognized, with a packet by its Verification Tag, and with one that belongs to no association,
+//! whose reply is written by `dcsctp_buffer`. Nothing is kept, and nothing allocates.
 #![tactic(auto)]
 
 pub mod action;
 mod items;
+pub mod out_of_the_blue;
+mod reply;
 pub mod verification_tag;

@@ -10,7 +10,7 @@ returns-then-is_met c =
     let steps = c.in-Some.ensures.steps in
     let test = is_wanted c.args.wanted in
     sym (ap (λ p. find test (items_of p)) (sym c.items-items.ensures) ∙ c.loop-item.invariant
-    ∙ first_met c.args.wanted c.loop-item.items (item_of c.in-Some.item) steps.0 steps.1
+    ∙ first_met test c.loop-item.items (item_of c.in-Some.item) steps.0 steps.1
     (sym c.is_met.ensures ∙ c.if-is_met.true))
 
 pub loop-item-preserved : goal.loop-item-preserved
@@ -18,7 +18,7 @@ loop-item-preserved c =
     let steps = c.in-Some.ensures.steps in
     let test = is_wanted c.args.wanted in
     c.loop-item.invariant
-    ∙ first_on c.args.wanted c.loop-item.items (item_of c.in-Some.item) steps.0 steps.1
+    ∙ first_on test c.loop-item.items (item_of c.in-Some.item) steps.0 steps.1
     (sym c.is_met.ensures ∙ c.if-is_met.false)
     ∙ ap (λ p. find test (items_of p)) (sym steps.2)
 
