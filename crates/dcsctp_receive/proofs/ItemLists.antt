@@ -5,7 +5,7 @@ use Rattle.std.proofs.lemmas.List.{length-drop}
 use Rattle.std.specs.Prelude.{find}
 use Rattle.dcsctp_tlv.specs.Frame.{round_up_to_4}
 use Rattle.dcsctp_borrowed.{specs.Part.{Part, Item, AreItems, none, next, begins_with_item, first_item, after_item, length_field}, proofs.PacketItems.{one_list}}
-use Rattle.dcsctp_receive.specs.Chunks.{items_within, items_of, is_of_type, begins_with, is_only}
+use Rattle.dcsctp_receive.specs.Chunks.{items_within, items_of, is_of_type, begins_with, only}
 
 -- an item isn't empty, so fewer bytes follow it
 fewer : (p : Part) → begins_with_item p ≡ true → length (after_item p).bytes < length p.bytes
@@ -83,15 +83,15 @@ pub begins_with_first : (typ : ℕ) (p : Part) (i : Item) → begins_with_item p
 begins_with_first typ p i begins is =
     ap (is_of_type typ) is ∙ sym (ap (begins_with typ) (items_next p begins))
 
-pub only_one : (typ : ℕ) (p : Part) (i : Item) → begins_with_item p ≡ true → i ≡ first_item p
-    → begins_with_item (after_item p) ≡ false → is_of_type typ i ≡ is_only typ (items_of p)
-only_one typ p i begins is ends =
-    ap (is_of_type typ) is
-    ∙ sym (ap (is_only typ) (items_next p begins
-    ∙ ap (λ (l : List Item). first_item p ∷ l) (items_end (after_item p) ends)))
+pub only_one : (typ : ℕ) (p : Part) → begins_with_item p ≡ true
+    → begins_with_item (after_item p) ≡ false
+    → only typ (items_of p) ≡ only typ (first_item p ∷ [])
+only_one typ p begins ends =
+    ap (only typ) (items_next p begins
+    ∙ ap (λ (l : List Item). first_item p ∷ l) (items_end (after_item p) ends))
 
 pub not_only : (typ : ℕ) (p : Part) → begins_with_item p ≡ true
-    → begins_with_item (after_item p) ≡ true → false ≡ is_only typ (items_of p)
+    → begins_with_item (after_item p) ≡ true → only typ (items_of p) ≡ None
 not_only typ p begins more =
-    sym (ap (is_only typ) (items_next p begins
-    ∙ ap (λ (l : List Item). first_item p ∷ l) (items_next (after_item p) more)))
+    ap (only typ) (items_next p begins
+    ∙ ap (λ (l : List Item). first_item p ∷ l) (items_next (after_item p) more))

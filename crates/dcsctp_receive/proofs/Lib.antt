@@ -1,2 +1,3 @@
 pub mod ItemLists
+pub mod Aborts
 pub mod Replies

@@ -61,11 +61,15 @@ abbrev pub begins_with : ℕ → List Item → Bool
 begins_with typ [] = false
 begins_with typ (c ∷ cs) = is_of_type typ c
 
+-- the only chunk, if it has this type
+abbrev pub only : ℕ → List Item → Option Item
+only typ [] = None
+only typ (c ∷ []) = if is_of_type typ c then Some c else None
+only typ (c ∷ d ∷ cs) = None
+
 -- A chunk of this type is the only one.
 abbrev pub is_only : ℕ → List Item → Bool
-is_only typ [] = false
-is_only typ (c ∷ []) = is_of_type typ c
-is_only typ (c ∷ d ∷ cs) = false
+is_only typ chunks = is_some (only typ chunks)
 
 -- the T bit, the lowest flag (sections 3.3.7 and 3.3.13)
 abbrev pub t_bit_of : Option Item → Bool

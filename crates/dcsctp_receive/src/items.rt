@@ -2,7 +2,7 @@
 
 ghost use Rattle.std.specs.Prelude.{◌≡◌, Some, option_map, find};
 ghost use Rattle.dcsctp_borrowed.specs.{Grammar.{whole}, Part.{part_of, item_of, after}};
-ghost use Rattle.dcsctp_receive.specs.Chunks.{items_of, is_wanted, has, is_numbered, contains, begins_with, is_only, t_bit};
+ghost use Rattle.dcsctp_receive.specs.Chunks.{items_of, is_wanted, has, is_numbered, contains, begins_with, only, is_only, t_bit};
 
 use dcsctp_borrowed::part::{Item, Part};
 use dcsctp_chunk::flags::is_set;
@@ -79,15 +79,31 @@ pub(crate) fn begins_with(chunks: Part<'_>, typ: u8) -> bool
     }
 }
 
+/// Returns the only chunk, if it has this type.
+pub(crate) fn only(chunks: Part<'_>, typ: u8) -> Option<Item<'_>>
+    ensures { option_map item_of result ≡ only typ (items_of (part_of chunks.entry)) }
+{
+    match chunks.item() {
+        Some(chunk) => match chunks.after(chunk.padded).item() {
+            Some(_) => None,
+            None => {
+                if chunk.first == typ {
+                    Some(chunk)
+                } else {
+                    None
+                }
+            }
+        },
+        None => None,
+    }
+}
+
 /// Returns whether a chunk of this type is the only one.
 pub(crate) fn is_only(chunks: Part<'_>, typ: u8) -> bool
     ensures { result ≡ is_only typ (items_of (part_of chunks.entry)) }
 {
-    match chunks.item() {
-        Some(chunk) => match chunks.after(chunk.padded).item() {
-            Some(_) => false,
-            None => chunk.first == typ,
-        },
+    match only(chunks, typ) {
+        Some(_) => true,
         None => false,
     }
 }

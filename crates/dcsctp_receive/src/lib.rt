@@ -1,11 +1,13 @@
 //! What RFC 9260 asks of whoever receives a packet, before the state of an association matters.
 //!
 //! Functions of bytes and of a little state, for any bytes: what is done with a type that isn't
-//! recognized, with a packet by its Verification Tag, and with one that belongs to no association,
-//! whose reply is written by `dcsctp_buffer`. Nothing is kept, and nothing allocates.
+//! recognized, with a packet by its Verification Tag, with one that belongs to no association, and
+//! with an INIT or an INIT ACK that can't be processed. What is sent back then is written by
+//! `dcsctp_buffer`. Nothing is kept, and nothing allocates.
 #![tactic(auto)]
 
 pub mod action;
+pub mod initiation;
 mod items;
 pub mod out_of_the_blue;
 mod reply;
