@@ -21,6 +21,7 @@ mod kept;
 mod kinds;
 mod made;
 mod packets;
+mod receive;
 mod registry;
 mod rows;
 mod sack;

@@ -3,7 +3,7 @@
 use crate::bytes::add_words;
 use crate::{
     buffers, built, captures, checksums, frames, hostile, in_place, kept, kinds, made, packets,
-    registry, sack,
+    receive, registry, sack,
 };
 use std::alloc::{AllocError, Global};
 
@@ -26,6 +26,7 @@ fn write_answer(
         || in_place::write_answer(alloc, call, (bytes, other), out)?
         || kept::write_answer(alloc, call, (bytes, other), out)?
         || registry::write_answer(alloc, call, bytes, out)?
+        || receive::write_answer(alloc, call, bytes, out)?
         || made::write_answer(alloc, call, bytes, out)?
         || hostile::write_answer(alloc, call, (bytes, other), out)?
         || buffers::write_answer(alloc, call, bytes, out)?
