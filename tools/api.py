@@ -24,8 +24,8 @@ PAGE = os.path.join(ROOT, 'docs', 'API.md')
 
 # The libraries, in the order in which their items come within a section.
 LIBRARIES = [
-    'dcsctp_wire', 'dcsctp_borrowed', 'dcsctp_registry', 'dcsctp_buffer', 'dcsctp_crc32c', 'dcsctp_chunk', 'dcsctp_tlv', 'dcsctp_cause',
-    'dcsctp_types',
+    'dcsctp_wire', 'dcsctp_borrowed', 'dcsctp_registry', 'dcsctp_buffer', 'dcsctp_receive', 'dcsctp_crc32c', 'dcsctp_chunk', 'dcsctp_tlv',
+    'dcsctp_cause', 'dcsctp_types',
 ]
 
 # The sections of the page, and which modules each has, by their paths in a program: the first that matches.
@@ -40,6 +40,7 @@ SECTIONS = [
     ('Packets in their own bytes', r'dcsctp_borrowed'),
     ('What the registry has beyond the kinds', r'dcsctp_registry'),
     ("Packets written into the caller's buffer", r'dcsctp_buffer'),
+    ('What a receiver is asked', r'dcsctp_receive'),
     ('The checksum', r'dcsctp_crc32c'),
 ]
 
@@ -56,8 +57,8 @@ HEAD = '''# The public items
 
 Made from the sources by `tools/api.py --write`; the gate compares it. A heading is the path to write in a `use`: the items below it
 are at that path, and `fn Tsn::add_to` is the method `add_to` of `Tsn`. A program needs the crate `dcsctp_wire`, and `dcsctp_borrowed`,
-`dcsctp_registry`, `dcsctp_buffer` and `dcsctp_crc32c` where it uses them. What the caller has to prove (`requires`) comes after the
-signature, after *needs*:
+`dcsctp_registry`, `dcsctp_buffer`, `dcsctp_receive` and `dcsctp_crc32c` where it uses them. What the caller has to prove (`requires`)
+comes after the signature, after *needs*:
 
 | *needs* | the caller proves that |
 |---|---|
@@ -263,7 +264,7 @@ def paths_of():
 def path_in_program(name, paths):
     """The path of a module or an item in a program, or nothing if it has none."""
     parts = name.split('::')
-    if parts[0] in ('dcsctp_wire', 'dcsctp_borrowed', 'dcsctp_registry', 'dcsctp_buffer', 'dcsctp_crc32c'):
+    if parts[0] in ('dcsctp_wire', 'dcsctp_borrowed', 'dcsctp_registry', 'dcsctp_buffer', 'dcsctp_receive', 'dcsctp_crc32c'):
         return name
     for size in range(len(parts), 1, -1):
         front = '::'.join(parts[:size])
