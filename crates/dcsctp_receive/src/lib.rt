@@ -9,6 +9,7 @@
 pub mod action;
 pub mod initiation;
 mod items;
+pub mod laws;
 pub mod out_of_the_blue;
 mod reply;
 pub mod verification_tag;

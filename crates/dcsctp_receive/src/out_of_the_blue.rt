@@ -1,13 +1,11 @@
 //! What is done with a packet that belongs to no association.
 
-ghost use Rattle.std.specs.Prelude.{◌≡◌, ◌↔◌, ◌≤◌, ℕ, List, Bool, length, drop, IsOk, IfErr};
+ghost use Rattle.std.specs.Prelude.{◌≡◌, ◌↔◌, ◌≤◌, length, IsOk, IfErr};
 ghost use Rattle.dcsctp_borrowed.specs.Part.{part_of, item_of};
-ghost use Rattle.dcsctp_wire.specs.{Canonical.{canonical}, Chunk.{tlv as chunk_tlv}};
-ghost use Rattle.dcsctp_wire.specs.declared.packet.common_header.CommonHeader.{CommonHeader};
+ghost use Rattle.dcsctp_wire.specs.Chunk.{tlv as chunk_tlv};
 ghost use Rattle.dcsctp_buffer.specs.{Buffer.{HoldsPacket}, declared.error.WriteError.TheVariants.{NoRoom}};
 ghost use Rattle.dcsctp_receive.specs.Chunks.{has, items_of};
 ghost use Rattle.dcsctp_receive.specs.OutOfTheBlue.{is_stale_cookie_error, answer_of, answer_to, reply_chunk, reply_to};
-ghost use Rattle.dcsctp_receive.specs.declared.out_of_the_blue.OutOfTheBlue.TheVariants.{Discard};
 
 use crate::items::{begins_with, chunk_part, contains, has_numbered};
 use crate::reply::write_back;
@@ -154,11 +152,3 @@ impl WritableChunk for Reply {
         put_solid(self.chunk_type(), one_flag(true), &[], output);
     }
 }
-
-/// Proves that a reply is never replied to, whatever its checksum field is: two ends without an
-/// association answer each other once at most.
-pub fn reply_is_discarded()
-    ensures { (h : CommonHeader) (reply : Reply) (is_unicast : Bool) (packet : List ℕ)
-        → drop 12 packet ≡ drop 12 (canonical (reply_to h reply))
-        → answer_to is_unicast packet ≡ Discard }
-{}
