@@ -233,6 +233,11 @@ DCSCTP_MSAN_ADD(dcsctp_add_registered_cause,
                 (packet, room, size, start, code, registered, bytes, length), DCSCTP_MSAN_READS_NUMBERS(start ^ code);
                 DCSCTP_MSAN_READS_REGISTERED)
 
+DCSCTP_MSAN(uint32_t, dcsctp_reply, (DCSCTP_MSAN_TO, const struct dcsctp_header *header, uint32_t answer),
+            (packet, room, size, header, answer), DCSCTP_MSAN_READS_NUMBERS(answer);
+            DCSCTP_MSAN_READS_FIELDS(header, source_port, verification_tag),
+            DCSCTP_MSAN_WRITES(returned == DCSCTP_OK, size, 1); DCSCTP_MSAN_WRITES(returned == DCSCTP_OK, packet, 16))
+
 DCSCTP_MSAN(size_t, dcsctp_clean_blocks, (struct dcsctp_gap_ack_block *blocks, size_t block_count),
             (blocks, block_count), DCSCTP_MSAN_READS(blocks, block_count), DCSCTP_MSAN_NOTHING)
 

@@ -204,6 +204,10 @@ registered() {
     compile_sanitized -pedantic -Werror -o "$work/registered" tests/c/registered.c "$prefix/lib/libdcsctp.a" && "$work/registered"
 }
 
+receive() {
+    compile_sanitized -pedantic -Werror -o "$work/receive" tests/c/receive.c "$prefix/lib/libdcsctp.a" && "$work/receive"
+}
+
 has_usrsctp() {
     echo '#include <usrsctp.h>' | "$cc" -fsyntax-only -x c - 2>"$work/log"
 }
@@ -268,6 +272,7 @@ fi
 try "the processor's CRC32c, on 3,000 packets" processor
 try 'calls on captured packets and at the edges, and each allocation refused' edge
 try "what IANA's registry has beyond the kinds, field by field" registered
+try "what is asked of whoever receives a packet, sentence by sentence" receive
 if has_usrsctp; then
     try 'two sockets of usrsctp with the filter between them, and one that calls the responder' interop
 else

@@ -6,6 +6,7 @@ pub mod Parameter
 pub mod Part
 pub mod PlacedPacket
 pub mod ReConfig
+pub mod Receive
 pub mod Registered
 pub mod Row
 pub mod Walk

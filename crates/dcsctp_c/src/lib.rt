@@ -17,6 +17,7 @@ mod parts;
 mod re_config;
 mod read;
 mod read_many;
+mod receive;
 mod registered;
 mod structs;
 mod version;

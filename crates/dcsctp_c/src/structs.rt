@@ -274,3 +274,17 @@ pub struct DcsctpPlacedPacket {
     /// What was read, as of a packet alone: offsets are those in the packet, not in the block.
     pub packet: DcsctpPacket,
 }
+
+/// What a receiver knows of an association before it looks at a packet's tag.
+#[repr(C)]
+#[derive(Clone, Copy)]
+pub struct DcsctpAssociation {
+    /// The receiver's own tag: the Initiate Tag of the INIT or INIT ACK that it sent.
+    pub own_tag: u32,
+    /// The peer's tag: the Initiate Tag of the INIT or INIT ACK that it received.
+    pub peer_tag: u32,
+    /// Whether it has received one.
+    pub has_peer_tag: bool,
+    /// Whether the receiver is in the state COOKIE-WAIT or COOKIE-ECHOED.
+    pub awaits_cookie: bool,
+}
