@@ -1,1 +1,2 @@
+pub mod Cookie
 pub mod Hmac
