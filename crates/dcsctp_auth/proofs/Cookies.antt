@@ -7,7 +7,7 @@ use Rattle.std.specs.Int.{w16, w32, w64, to_be_bytes}
 use Rattle.dcsctp_tlv.specs.Number.{AreBytes, number16, number32, number64}
 use Rattle.dcsctp_tlv.specs.Image.{put}
 use Rattle.dcsctp_tlv.proofs.Puts.{put-put}
-use Rattle.sha2.specs.Sha256.{sha256, digest_bytes}
+use Rattle.dcsctp_auth.proofs.Hmacs.{length-hmac}
 use Rattle.dcsctp_auth.specs.declared.hmac.HashFunction.TheVariants.{Sha256}
 use Rattle.dcsctp_auth.specs.Hmac.{hmac}
 use Rattle.dcsctp_auth.specs.Cookie.{CookieTree, IsInWidth, fixed_bytes, body, body_read, cookie_bytes, IsAuthentic}
@@ -105,13 +105,6 @@ written_of_read bytes fits size =
 
 -- ---- the MAC at the front
 
-pub length-sha256 : (text : List ℕ) → length (sha256 text) ≡ 32
-unfolding sha256 digest_bytes
-length-sha256 text = refl
-
-pub length-mac : (key text : List ℕ) → length (hmac Sha256 key text) ≡ 32
-length-mac key text = length-sha256 _
-
 -- bytes that begin with their MAC are those of a cookie
 pub authentic_is_cookie : (key bytes : List ℕ) → AreBytes bytes → 72 ≤ length bytes
     → IsAuthentic key bytes → bytes ≡ cookie_bytes key (body_read (drop 32 bytes))
@@ -131,7 +124,7 @@ pub cookie_is_sealed : (key : List ℕ) (c : CookieTree) (bytes : List ℕ)
     → bytes ≡ cookie_bytes key c → IsSealed key c bytes
 cookie_is_sealed key c bytes is =
     let mac = hmac Sha256 key (body c) in
-    let long : length mac ≡ 32 = length-mac key (body c) in
+    let long : length mac ≡ 32 = length-hmac Sha256 key (body c) in
     let rest : drop 32 bytes ≡ body c = ap (drop 32) is ∙ drop_at mac (body c) 32 long in
     record {
       size = omega (

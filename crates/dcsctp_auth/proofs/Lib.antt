@@ -1,2 +1,4 @@
 pub mod Cookies
 pub mod Differences
+pub mod Hmacs
+pub mod Signatures

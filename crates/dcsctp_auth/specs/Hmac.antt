@@ -20,6 +20,11 @@ abbrev pub digest_size : HashFunction → ℕ
 digest_size Sha1 = 20
 digest_size Sha256 = 32
 
+-- the HMAC Identifier (RFC 4895 section 3.3)
+abbrev pub hmac_identifier : HashFunction → ℕ
+hmac_identifier Sha1 = 1
+hmac_identifier Sha256 = 3
+
 -- K: a key that is longer than a block is hashed first
 abbrev pub hashed_key : HashFunction → List ℕ → List ℕ
 hashed_key function key = if nat_lt block_size (length key) then digest function key else key

@@ -1,2 +1,3 @@
+pub mod Auth
 pub mod Cookie
 pub mod Hmac

@@ -1,7 +1,7 @@
 //! HMAC (RFC 2104) over SHA-1 and SHA-256 (FIPS 180-4).
 
 ghost use Rattle.std.specs.Prelude.{◌≡◌, ℕ, ◌≤◌, ◌-◌, ◌++◌, List, [], length, replicate};
-ghost use Rattle.dcsctp_auth.specs.Hmac.{digest, digest_size, block_key, padded, hmac, mac_bytes, Hashes, IsHmacOf};
+ghost use Rattle.dcsctp_auth.specs.Hmac.{digest, digest_size, block_key, padded, hmac, hmac_identifier, mac_bytes, Hashes, IsHmacOf};
 ghost use Rattle.dcsctp_auth.specs.declared.hmac.HashFunction.{HashFunction};
 
 use dcsctp_tlv::frame::put_bytes;
@@ -24,6 +24,28 @@ pub enum HashFunction {
     Sha1,
     /// SHA-256: its HMAC has 32 bytes.
     Sha256,
+}
+
+impl HashFunction {
+    /// Returns the number of bytes of a digest, and so of an HMAC: L of RFC 2104.
+    pub fn digest_size(self) -> usize
+        ensures { result ≡ digest_size self }
+    {
+        match self {
+            HashFunction::Sha1 => 20,
+            HashFunction::Sha256 => 32,
+        }
+    }
+
+    /// Returns the HMAC Identifier (RFC 4895 section 3.3).
+    pub fn hmac_identifier(self) -> u16
+        ensures { result ≡ hmac_identifier self }
+    {
+        match self {
+            HashFunction::Sha1 => 1,
+            HashFunction::Sha256 => 3,
+        }
+    }
 }
 
 /// An HMAC that was computed.

@@ -3,7 +3,8 @@ use Rattle.dcsctp_tlv.specs.Image.{put}
 use Rattle.dcsctp_auth.specs.declared.hmac.HashFunction.TheVariants.{Sha256}
 use Rattle.dcsctp_auth.specs.Hmac.{hmac}
 use Rattle.dcsctp_auth.specs.Cookie.{view, fixed_bytes, body}
-use Rattle.dcsctp_auth.proofs.Cookies.{length-mac, put_three}
+use Rattle.dcsctp_auth.proofs.Cookies.{put_three}
+use Rattle.dcsctp_auth.proofs.Hmacs.{length-hmac}
 use Rattle.dcsctp_auth.proofs.cookie.seal_cookie.Goals as goal
 
 pub returns-clause-bytes : goal.returns-clause-bytes
@@ -23,4 +24,4 @@ returns-clause-bytes c =
     ∙ ap₂ (λ out bytes. put out 32 bytes) (c.put_bytes.ensures
     ∙ ap (λ bytes. put c.args.buffer.now 0 bytes) mac) fixed)
     ∙ put_three c.args.buffer.now (hmac Sha256 key (body cookie)) (fixed_bytes cookie) addresses 32 72
-    room (sym (length-mac key (body cookie))) (sym (ap (λ n. n + 40) (length-mac key (body cookie))))
+    room (sym (length-hmac Sha256 key (body cookie))) (sym (ap (λ n. n + 40) (length-hmac Sha256 key (body cookie))))
