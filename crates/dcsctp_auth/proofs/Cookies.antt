@@ -5,8 +5,6 @@ use Rattle.std.proofs.lemmas.List.{take-append-drop, take_rest, get_or-take, get
 use Rattle.std.proofs.lemmas.Nat.{from_be_bytes-to_be_bytes_2, from_be_bytes-to_be_bytes_4, from_be_bytes-to_be_bytes_8, be_bytes_2, be_bytes_4, be_bytes_8}
 use Rattle.std.specs.Int.{w16, w32, w64, to_be_bytes}
 use Rattle.dcsctp_tlv.specs.Number.{AreBytes, number16, number32, number64}
-use Rattle.dcsctp_tlv.specs.Image.{put}
-use Rattle.dcsctp_tlv.proofs.Puts.{put-put}
 use Rattle.dcsctp_auth.proofs.Hmacs.{length-hmac}
 use Rattle.dcsctp_auth.specs.declared.hmac.HashFunction.TheVariants.{Sha256}
 use Rattle.dcsctp_auth.specs.Hmac.{hmac}
@@ -153,15 +151,3 @@ pub was_sealed : (key bytes : List ℕ) (t : CookieTree) → AreBytes bytes
 was_sealed key bytes t fits sealed read =
     authentic_is_cookie key bytes fits sealed.0 sealed.1
     ∙ ap (cookie_bytes key) (sym (read ∙ ap body_read (take_rest bytes 32)))
-
--- ---- writing
-
--- three pieces that are written one after the other
-pub put_three : (old a b c : List ℕ) (after_a after_b : ℕ) → after_b ≤ length old
-    → after_a ≡ length a → after_b ≡ length a + length b
-    → put (put (put old 0 a) after_a b) after_b c ≡ put old 0 (a ++ (b ++ c))
-put_three old a b c after_a after_b room is_a is_b =
-    ap (λ out. put out after_b c)
-    (put-put old 0 after_a a b (omega arith) (omega arith))
-    ∙ put-put old 0 after_b (a ++ b) c (omega arith) (omega (arith, length-append a b))
-    ∙ ap (put old 0) (append_assoc a b c)

@@ -1,3 +1,4 @@
 pub mod Auth
 pub mod Cookie
 pub mod Hmac
+pub mod SharedKey

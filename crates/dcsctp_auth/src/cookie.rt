@@ -1,12 +1,15 @@
 //! State Cookies (RFC 9260 section 5.1.3), sealed by an HMAC with SHA-256.
 
-ghost use Rattle.std.specs.{Prelude.{◌≡◌, ◌≢◌, ◌↔◌, ◌+◌, ◌≤◌, ℕ, List, Some, IsSome, IfSome, IfNone, length, IsTrue, drop, take}};
+ghost use Rattle.std.specs.{Prelude.{◌≡◌, ◌≢◌, ◌↔◌, ◌+◌, ◌≤◌, ◌++◌, ℕ, List, Some, IsSome, IfSome, IfNone, length, IsTrue, drop, take}};
 ghost use Rattle.dcsctp_tlv.specs.Image.{put};
 ghost use Rattle.dcsctp_auth.specs.Cookie.{CookieTree, view, IsInWidth, cookie_bytes, fixed_bytes, body_read, Answers, IsAuthentic, IfValid};
+ghost use Rattle.dcsctp_auth.specs.Hmac.{hmac, mac_bytes};
+ghost use Rattle.dcsctp_auth.specs.declared.hmac.HashFunction.TheVariants.{Sha256};
 ghost use Rattle.dcsctp_auth.specs.declared.cookie.OpenedCookie.TheVariants.{Invalid};
 
 use crate::equality::are_equal;
-use crate::hmac::{HashFunction, Hmac};
+use crate::hmac::{HashFunction, Hmac, Mac};
+use crate::pieces::put_three;
 use dcsctp_tlv::frame::put_bytes;
 use dcsctp_tlv::number::{put_u16, put_u32, read_u16_be, read_u32_be, read_u64_be};
 
@@ -80,12 +83,8 @@ pub fn seal_cookie(buffer: &mut [u8], key: &[u8], cookie: &StateCookie) -> Optio
         return None;
     }
     let fixed = fixed_bytes(cookie);
-    let mut hmac = Hmac::new(HashFunction::Sha256, key);
-    hmac.update(&fixed);
-    hmac.update(addresses);
-    put_bytes(buffer, 0, hmac.finalize().as_bytes());
-    put_bytes(buffer, MAC_SIZE, &fixed);
-    put_bytes(buffer, MIN_COOKIE_SIZE, addresses);
+    let mac = body_mac(key, &fixed, addresses);
+    put_three(buffer, mac.as_bytes(), &fixed, addresses);
     Some(MIN_COOKIE_SIZE + addresses.len())
 }
 
@@ -123,6 +122,16 @@ fn is_authentic(key: &[u8], bytes: &[u8]) -> bool
     let (front, rest) = bytes.split_at(MAC_SIZE);
     let mac = Hmac::of(HashFunction::Sha256, key, rest);
     are_equal(front, mac.as_bytes())
+}
+
+/// Returns the MAC over these numbers and addresses.
+fn body_mac(key: &[u8], fixed: &[u8], addresses: &[u8]) -> Mac
+    ensures { mac_bytes result ≡ hmac Sha256 key.now (fixed.now ++ addresses.now) }
+{
+    let mut hmac = Hmac::new(HashFunction::Sha256, key);
+    hmac.update(fixed);
+    hmac.update(addresses);
+    hmac.finalize()
 }
 
 /// Returns the numbers of a cookie as they are written.

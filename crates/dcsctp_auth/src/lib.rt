@@ -7,3 +7,5 @@ pub mod auth;
 pub mod cookie;
 mod equality;
 pub mod hmac;
+mod pieces;
+pub mod shared_key;
