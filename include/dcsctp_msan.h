@@ -238,6 +238,12 @@ DCSCTP_MSAN(uint32_t, dcsctp_reply, (DCSCTP_MSAN_TO, const struct dcsctp_header 
             DCSCTP_MSAN_READS_FIELDS(header, source_port, verification_tag),
             DCSCTP_MSAN_WRITES(returned == DCSCTP_OK, size, 1); DCSCTP_MSAN_WRITES(returned == DCSCTP_OK, packet, 16))
 
+DCSCTP_MSAN(uint32_t, dcsctp_init_abort,
+            (DCSCTP_MSAN_TO, const struct dcsctp_header *header, uint32_t initiate_tag, uint32_t fault),
+            (packet, room, size, header, initiate_tag, fault), DCSCTP_MSAN_READS_NUMBERS(initiate_tag ^ fault);
+            DCSCTP_MSAN_READS_FIELDS(header, source_port, verification_tag),
+            DCSCTP_MSAN_WRITES(returned == DCSCTP_OK, size, 1); DCSCTP_MSAN_WRITES(returned == DCSCTP_OK, packet, *size))
+
 DCSCTP_MSAN(size_t, dcsctp_clean_blocks, (struct dcsctp_gap_ack_block *blocks, size_t block_count),
             (blocks, block_count), DCSCTP_MSAN_READS(blocks, block_count), DCSCTP_MSAN_NOTHING)
 

@@ -1,5 +1,6 @@
 /* SPDX-License-Identifier: Apache-2.0 */
-/* What RFC 9260 asks of whoever receives a packet: each sentence of sections 3.2, 3.2.1, 8.4 and 8.5.1, as a C program asks. */
+/* What RFC 9260 asks of whoever receives a packet: each sentence of sections 3.2, 3.2.1, 3.3.2, 3.3.3, 8.4 and 8.5.1, as a C
+   program asks. */
 #include <dcsctp.h>
 #include <stdint.h>
 #include <stdio.h>
@@ -162,12 +163,97 @@ static void replies(void)
     }
 }
 
+/* ---- INIT and INIT ACK */
+
+static struct packet init_of(bool is_ack, struct dcsctp_init init, bool has_cookie)
+{
+    struct packet packet = {{0}, 0};
+    CHECK(dcsctp_begin(packet.bytes, ROOM, &packet.size, 5000, 5001, is_ack ? OWN : 0) == DCSCTP_OK);
+    CHECK((is_ack ? dcsctp_add_init_ack : dcsctp_add_init)(packet.bytes, ROOM, &packet.size, &init) == DCSCTP_OK);
+    if (has_cookie)
+        CHECK(dcsctp_add_parameter(packet.bytes, ROOM, &packet.size, 12, DCSCTP_PARAMETER_STATE_COOKIE, (const uint8_t *)"c", 1)
+              == DCSCTP_OK);
+    return packet;
+}
+
+static uint32_t init_fault(const struct packet *packet, bool is_ack)
+{
+    return dcsctp_init_fault(packet->bytes, packet->size, is_ack);
+}
+
+static void initiations(void)
+{
+    const struct {
+        struct dcsctp_init init;
+        uint32_t fault;
+    } rows[] = {
+        {{1, 1500, 1, 1, 0}, DCSCTP_INIT_NO_FAULT},
+        {{0, 0, 0, 0, 0}, DCSCTP_INIT_TAG_ZERO},
+        {{1, 1499, 0, 0, 0}, DCSCTP_INIT_SMALL_WINDOW},
+        {{1, 1500, 0, 0, 0}, DCSCTP_INIT_NO_OUTBOUND_STREAMS},
+        {{1, 1500, 1, 0, 0}, DCSCTP_INIT_NO_INBOUND_STREAMS},
+    };
+    for (size_t i = 0; i < sizeof rows / sizeof *rows; i++) {
+        struct packet init = init_of(false, rows[i].init, false), ack = init_of(true, rows[i].init, true);
+        check_that(init_fault(&init, false) == rows[i].fault, "the fault of an INIT", (int)i);
+        check_that(init_fault(&ack, true) == rows[i].fault, "the fault of an INIT ACK", (int)i);
+        CHECK(init_fault(&init, true) == DCSCTP_INIT_NOT_ALONE && init_fault(&ack, false) == DCSCTP_INIT_NOT_ALONE);
+        ack = init_of(true, rows[i].init, false);
+        check_that(init_fault(&ack, true) == (rows[i].fault ? rows[i].fault : (uint32_t)DCSCTP_INIT_NO_STATE_COOKIE), "no cookie", (int)i);
+        CHECK(dcsctp_add_cookie_ack(init.bytes, ROOM, &init.size) == DCSCTP_OK && init_fault(&init, false) == DCSCTP_INIT_NOT_ALONE);
+    }
+    struct packet packet = PACKET(0, {DCSCTP_CHUNK_INIT, 0});
+    CHECK(init_fault(&packet, false) == DCSCTP_INIT_TOO_SHORT);
+    CHECK(dcsctp_init_fault(NULL, 0, false) == DCSCTP_INIT_NOT_ALONE);
+}
+
+static void refusals(void)
+{
+    /* of an INIT (sections 3.3.2 and 8.5.1), and of an INIT ACK in COOKIE-WAIT (sections 3.3.3 and 5.1), by the fault's number */
+    static const uint32_t of_init[] = {0, 0, 0, 0, 1, 1, 1, 0, 0}, of_ack[] = {0, 0, 0, 2, 1, 2, 2, 2, 0};
+    for (uint32_t fault = 0; fault < 9; fault++) {
+        CHECK(dcsctp_init_refusal(fault, false, false) == of_init[fault] && dcsctp_init_refusal(fault, false, true) == of_init[fault]);
+        CHECK(dcsctp_init_refusal(fault, true, true) == of_ack[fault]);
+        CHECK(dcsctp_init_refusal(fault, true, false) == DCSCTP_REFUSAL_DISCARD);
+    }
+}
+
+/* The ABORT: under the initiate tag, or reflected where there is none; and its cause. */
+static void init_aborts(void)
+{
+    static const uint8_t reflected[] = {0x13, 0x89, 0x13, 0x88, 1, 2, 3, 4, 0, 0, 0, 0, 6, 1, 0, 8, 0, 7, 0, 4},
+                         invalid[] = {0x13, 0x89, 0x13, 0x88, 9, 10, 11, 12, 0, 0, 0, 0, 6, 0, 0, 8, 0, 7, 0, 4},
+                         missing[] = {0x13, 0x89, 0x13, 0x88, 9, 10, 11, 12, 0, 0, 0, 0, 6, 0, 0, 14, 0, 2, 0, 10, 0, 0, 0, 1, 0, 7, 0, 0},
+                         none[] = {0x13, 0x89, 0x13, 0x88, 9, 10, 11, 12, 0, 0, 0, 0, 6, 0, 0, 4};
+    const struct {
+        const uint8_t *bytes;
+        size_t size;
+    } wanted[] = {{NULL, 0}, {none, 16}, {none, 16}, {reflected, 20}, {invalid, 20}, {invalid, 20}, {invalid, 20}, {missing, 28}, {NULL, 0}};
+    const struct dcsctp_header header = {5000, 5001, OWN, 77};
+    for (uint32_t fault = 0; fault < 9; fault++) {
+        struct packet packet, before;
+        memset(&packet, 0xa5, sizeof packet);
+        before = packet;
+        uint32_t tag = fault == DCSCTP_INIT_TAG_ZERO ? 0 : OTHER, size = (uint32_t)wanted[fault].size;
+        CHECK(dcsctp_init_abort(packet.bytes, size ? size - 1 : ROOM, &packet.size, &header, tag, fault)
+              == (size ? DCSCTP_NO_ROOM : DCSCTP_BAD_VALUE));
+        CHECK(packet.size == before.size && !memcmp(packet.bytes, before.bytes, ROOM));
+        if (!size)
+            continue;
+        CHECK(dcsctp_init_abort(packet.bytes, size, &packet.size, &header, tag, fault) == DCSCTP_OK && packet.size == size);
+        CHECK(!memcmp(packet.bytes, wanted[fault].bytes, size) && !memcmp(packet.bytes + size, before.bytes + size, ROOM - size));
+    }
+}
+
 int main(void)
 {
     each_action();
     tags();
     out_of_the_blue();
     replies();
+    initiations();
+    refusals();
+    init_aborts();
     printf("receive: %u passed, %u failed\n", passed, failed);
     return failed != 0;
 }

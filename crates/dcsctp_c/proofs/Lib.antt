@@ -1,4 +1,5 @@
 pub mod AnswerCodes
+pub mod Cookies
 pub mod Fills
 pub mod Places
 pub mod InitRows

@@ -1,4 +1,5 @@
 pub mod AddRegistered
+pub mod Auth
 pub mod Code
 pub mod Fill
 pub mod Output

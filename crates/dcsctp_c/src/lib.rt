@@ -7,6 +7,7 @@
 #![tactic(auto)]
 
 mod add_registered;
+mod auth;
 mod codes;
 mod fill;
 mod in_place;

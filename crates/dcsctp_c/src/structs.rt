@@ -288,3 +288,33 @@ pub struct DcsctpAssociation {
     /// Whether the receiver is in the state COOKIE-WAIT or COOKIE-ECHOED.
     pub awaits_cookie: bool,
 }
+
+/// What a State Cookie says (RFC 9260 section 5.1.3). *Local* is the end that seals and opens it.
+#[repr(C)]
+#[derive(Clone, Copy)]
+pub struct DcsctpCookie {
+    /// When it was created, in microseconds on the clock of the local end.
+    pub created: u64,
+    /// For how long it is good, in microseconds.
+    pub lifespan: u64,
+    /// The Initiate Tag of the INIT ACK.
+    pub local_tag: u32,
+    /// The Initiate Tag of the INIT.
+    pub peer_tag: u32,
+    /// The Initial TSN of the INIT ACK.
+    pub local_initial_tsn: u32,
+    /// The Initial TSN of the INIT.
+    pub peer_initial_tsn: u32,
+    /// The port that the INIT was for.
+    pub local_port: u16,
+    /// The port that the INIT came from.
+    pub peer_port: u16,
+    /// How many streams the local end sends on.
+    pub outbound_streams: u16,
+    /// How many streams the peer sends on.
+    pub inbound_streams: u16,
+    /// The offset of the addresses in the cookie.
+    pub addresses_offset: usize,
+    /// The size of the addresses in bytes.
+    pub addresses_size: usize,
+}

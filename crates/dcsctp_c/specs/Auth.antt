@@ -1,0 +1,41 @@
+-- State Cookies (RFC 9260 section 5.1.3) and the association shared key (RFC 4895 section 6.1), as a
+-- C program passes and gets them.
+use Rattle.std.specs.Prelude.{◌≡◌, ◌+◌, ◌≤◌, ◌<◌, ℕ, nat_le, if◌then◌else◌, List, Some}
+use Rattle.dcsctp_auth.specs.Cookie.{CookieTree}
+use Rattle.dcsctp_c.specs.{Code.{no_room_code}, Part.{part_at}}
+use Rattle.dcsctp_c.specs.declared.structs.DcsctpCookie.{DcsctpCookie}
+
+-- 0, or the code of an output that has no room for so many bytes
+abbrev pub room_code : ℕ → ℕ → ℕ
+room_code needed room = if nat_le needed room then 0 else no_room_code
+
+-- the struct's numbers, and these addresses
+abbrev pub cookie_tree : DcsctpCookie → List ℕ → CookieTree
+cookie_tree c addresses = record {
+  created = c.created;
+  lifespan = c.lifespan;
+  local_tag = c.local_tag;
+  peer_tag = c.peer_tag;
+  local_initial_tsn = c.local_initial_tsn;
+  peer_initial_tsn = c.peer_initial_tsn;
+  local_port = c.local_port;
+  peer_port = c.peer_port;
+  outbound_streams = c.outbound_streams;
+  inbound_streams = c.inbound_streams;
+  addresses = addresses;
+}
+
+-- the struct holds the cookie, whose addresses lie in the bytes
+pub record HoldsCookie (bytes : List ℕ) (tree : CookieTree) (c : DcsctpCookie) : Type 0 where
+  pub numbers : cookie_tree c tree.addresses ≡ tree
+  pub addresses : part_at bytes c.addresses_offset c.addresses_size ≡ Some tree.addresses
+
+-- What the call wrote and returned of a cookie at a time: the cookie while it is good, 0; later for
+-- how many microseconds it hasn't been, 1.
+pub data Opens (bytes : List ℕ) (tree : CookieTree) (now : ℕ) (old new : DcsctpCookie)
+    (old_staleness staleness code : ℕ) : Type 0 where
+  good : now ≤ tree.created + tree.lifespan → HoldsCookie bytes tree new
+      → staleness ≡ old_staleness → code ≡ 0
+      → Opens bytes tree now old new old_staleness staleness code
+  stale : 0 < staleness → now ≡ tree.created + tree.lifespan + staleness → new ≡ old → code ≡ 1
+      → Opens bytes tree now old new old_staleness staleness code
