@@ -1,5 +1,5 @@
 -- The ABORT that says what is wrong with an INIT or an INIT ACK, as it is written.
-use Rattle.std.proofs.Common.{◌≡◌, ℕ, ◌+◌, ◌≤◌, List, [], ◌∷◌, length, refl, ap, ap₂, ◌∙◌, lit<}
+use Rattle.std.proofs.Common.{◌≡◌, ℕ, ◌+◌, ◌≤◌, List, length, refl, ap, ap₂, ◌∙◌, lit<}
 use Rattle.dcsctp_tlv.specs.Image.{size_of, zeroed, image_of, written, solid_tlv}
 use Rattle.dcsctp_wire.specs.Chunk.{tlv as chunk_tlv, IsChunkEncodable, IsInWidth as IsChunkInWidth}
 use Rattle.dcsctp_buffer.{specs.Buffer.{with_item}, proofs.Items.{solid_item}}
@@ -51,16 +51,19 @@ written_abort TooShort flags value old second is room =
     ∙ solid_item (chunk_tlv (abort_of TooShort)) (value_of TooShort) old refl refl room
 written_abort InitiateTagZero flags value old second is room =
     ap₂ (λ (n : ℕ) (v : List ℕ). written (image_of (solid_tlv 6 n v)) old) second is
-    ∙ solid_item (chunk_tlv (abort_of InitiateTagZero)) (value_of InitiateTagZero) old refl refl room
+    ∙ solid_item (chunk_tlv (abort_of InitiateTagZero)) (value_of InitiateTagZero) old refl refl
+    room
 written_abort SmallWindow flags value old second is room =
     ap₂ (λ (n : ℕ) (v : List ℕ). written (image_of (solid_tlv 6 n v)) old) second is
     ∙ solid_item (chunk_tlv (abort_of SmallWindow)) (value_of SmallWindow) old refl refl room
 written_abort NoOutboundStreams flags value old second is room =
     ap₂ (λ (n : ℕ) (v : List ℕ). written (image_of (solid_tlv 6 n v)) old) second is
-    ∙ solid_item (chunk_tlv (abort_of NoOutboundStreams)) (value_of NoOutboundStreams) old refl refl room
+    ∙ solid_item (chunk_tlv (abort_of NoOutboundStreams)) (value_of NoOutboundStreams) old refl refl
+    room
 written_abort NoInboundStreams flags value old second is room =
     ap₂ (λ (n : ℕ) (v : List ℕ). written (image_of (solid_tlv 6 n v)) old) second is
-    ∙ solid_item (chunk_tlv (abort_of NoInboundStreams)) (value_of NoInboundStreams) old refl refl room
+    ∙ solid_item (chunk_tlv (abort_of NoInboundStreams)) (value_of NoInboundStreams) old refl refl
+    room
 written_abort NoStateCookie flags value old second is room =
     ap₂ (λ (n : ℕ) (v : List ℕ). written (image_of (solid_tlv 6 n v)) old) second is
     ∙ solid_item (chunk_tlv (abort_of NoStateCookie)) (value_of NoStateCookie) old refl refl room

@@ -1,9 +1,9 @@
 -- A reply out of the blue holds one chunk, an ABORT or a SHUTDOWN COMPLETE, so it is discarded; and
 -- how this chunk is written.
-use Rattle.std.proofs.Common.{◌≡◌, ℕ, Bool, true, false, List, [], ◌∷◌, ◌++◌, length, drop, ◌≤◌, ◌==◌, ◌&&◌, if◌then◌else◌, refl, sym, ap, ap₂, ◌∙◌, arith, length-drop}
+use Rattle.std.proofs.Common.{◌≡◌, ℕ, Bool, true, false, List, [], ◌∷◌, length, drop, ◌≤◌, ◌==◌, ◌&&◌, if◌then◌else◌, refl, sym, ap, ap₂, ◌∙◌, length-drop}
 use Rattle.dcsctp_tlv.specs.Image.{size_of, image_of, written, solid_tlv}
 use Rattle.dcsctp_wire.specs.{Canonical.{canonical}, Chunk.{tlv as chunk_tlv}, declared.packet.common_header.CommonHeader.{CommonHeader}}
-use Rattle.dcsctp_borrowed.specs.{Grammar.{whole}, Part.{Part, Item, after}}
+use Rattle.dcsctp_borrowed.specs.Grammar.{whole}
 use Rattle.dcsctp_buffer.{specs.Buffer.{with_item}, proofs.Items.{solid_item}}
 use Rattle.dcsctp_receive.specs.Chunks.{has_header, tag_of, items_of, chunks_of}
 use Rattle.dcsctp_receive.specs.OutOfTheBlue.{answer_of, answer_to, reply_chunk, reply_to}
@@ -67,7 +67,8 @@ reply_is_discarded h reply is_unicast packet is =
 pub written_reply : (reply : Reply) (typ flags : ℕ) (old : List ℕ)
     → typ ≡ (chunk_tlv (reply_chunk reply)).first → flags ≡ 1
     → size_of (chunk_tlv (reply_chunk reply)) ≤ length old
-    → written (image_of (solid_tlv typ flags [])) old ≡ with_item (chunk_tlv (reply_chunk reply)) old
+    → written (image_of (solid_tlv typ flags [])) old
+    ≡ with_item (chunk_tlv (reply_chunk reply)) old
 written_reply ShutdownComplete typ flags old is t room =
     ap₂ (λ (n m : ℕ). written (image_of (solid_tlv n m [])) old) is t
     ∙ solid_item (chunk_tlv (reply_chunk ShutdownComplete)) [] old refl refl room

@@ -1,7 +1,6 @@
 -- The chunks of a packet that may hold anything (RFC 9260 section 3), and what the rules of chapter
 -- 8 ask of them.
-use Rattle.std.specs.Prelude.{◌==◌, ◌&&◌, Bool, true, false, ℕ, zero, suc, nat_lt, if◌then◌else◌, List, [], ◌∷◌, Option, Some, None, find, length, drop}
-use Rattle.std.specs.List.{list_any}
+use Rattle.std.specs.Prelude.{◌==◌, ◌&&◌, Bool, false, ℕ, zero, suc, nat_lt, if◌then◌else◌, List, [], ◌∷◌, Option, Some, None, find, length, drop}
 use Rattle.std.specs.Option.{is_some}
 use Rattle.dcsctp_tlv.specs.Number.{number32}
 use Rattle.dcsctp_chunk.specs.Flags.{is_set}

@@ -1,6 +1,6 @@
 -- Whether a packet's Verification Tag is right for an association (RFC 9260 sections 8.5 and
 -- 8.5.1).
-use Rattle.std.specs.Prelude.{◌==◌, ◌&&◌, Bool, true, false, ℕ, if◌then◌else◌, List, Option, Some, None}
+use Rattle.std.specs.Prelude.{◌==◌, ◌&&◌, Bool, false, ℕ, if◌then◌else◌, List, Option, Some, None}
 use Rattle.dcsctp_borrowed.specs.Part.{Item}
 use Rattle.dcsctp_receive.specs.Chunks.{has_header, tag_of, chunks_of, contains, begins_with, is_only, t_bit}
 use Rattle.dcsctp_receive.specs.declared.verification_tag.Association.{Association}

@@ -7,7 +7,7 @@ pub returns-clause-items : goal.returns-clause-items
 returns-clause-items c = are_items
 
 pub returns-clause-packet : goal.returns-clause-packet
-returns-clause-packet c = λ bytes word policy p fits answer.
-    let p12 = after 12 (whole bytes) in
-    let found = packet_items bytes word policy p fits answer in
-    (found.0, one_list p12 (items_of p12) (items_of_frames found.0) (are_items p12) found.1, found.2)
+returns-clause-packet c = λ bytes word policy packet fits answer.
+    let p = after 12 (whole bytes) in
+    let found = packet_items bytes word policy packet fits answer in
+    (found.0, one_list p (items_of p) (items_of_frames found.0) (are_items p) found.1, found.2)

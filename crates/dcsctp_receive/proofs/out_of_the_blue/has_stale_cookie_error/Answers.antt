@@ -1,7 +1,7 @@
 use Rattle.std.proofs.Common.{sym, ap, ◌∙◌}
 use Rattle.std.specs.Prelude.{find}
 use Rattle.dcsctp_borrowed.specs.Part.{item_of}
-use Rattle.dcsctp_receive.specs.{Chunks.{items_of, has}, OutOfTheBlue.{is_stale_cookie_error}}
+use Rattle.dcsctp_receive.specs.{Chunks.{items_of}, OutOfTheBlue.{is_stale_cookie_error}}
 use Rattle.std.specs.Option.{is_some}
 use Rattle.dcsctp_receive.proofs.ItemLists.{items_end, first_met, first_on}
 use Rattle.dcsctp_receive.proofs.out_of_the_blue.has_stale_cookie_error.Goals as goal

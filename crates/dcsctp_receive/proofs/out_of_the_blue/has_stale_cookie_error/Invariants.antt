@@ -6,8 +6,8 @@ use Rattle.dcsctp_receive.proofs.out_of_the_blue.has_stale_cookie_error.Given as
 
 abbrev pub invariant-loop-chunk : goal.invariant-loop-chunk
 invariant-loop-chunk l =
-    find is_stale_cookie_error (items_of l.initial.items) ≡ find is_stale_cookie_error
-    (items_of l.items)
+    find is_stale_cookie_error (items_of l.initial.items)
+    ≡ find is_stale_cookie_error (items_of l.items)
 
 abbrev pub decreases-loop-chunk : goal.decreases-loop-chunk
 decreases-loop-chunk l = length l.items.bytes

@@ -1,4 +1,4 @@
-use Rattle.std.proofs.Common.{◌≡◌, ℕ, ◌+◌, ◌<◌, ◌≤◌, ◌^◌, Bool, List, [], ◌∷◌, length, sym, ap, subst, ◌∙◌}
+use Rattle.std.proofs.Common.{ℕ, ◌<◌, ◌≤◌, ◌^◌, Bool, [], ◌∷◌, length, sym, ap, subst, ◌∙◌}
 use Rattle.dcsctp_chunk.specs.Flags.{flag_byte}
 use Rattle.dcsctp_receive.proofs.Aborts.{encodable, in_width, size_is, written_abort}
 use Rattle.dcsctp_receive.proofs.initiation.InitFaultWritableChunk.write_to.Goals as goal
