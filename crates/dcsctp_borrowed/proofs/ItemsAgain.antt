@@ -1,11 +1,11 @@
 -- The items that lie in bytes are written again one after the other, as what they mean is written.
-use Rattle.std.{proofs.Common.{◌≡◌, ◌≢◌, ℕ, zero, suc, ◌+◌, ◌^◌, ◌<◌, ◌≤◌, Bool, true, false, Option, List, [], ◌∷◌, ◌++◌, length, get_or, take, drop, refl, sym, ap, ap₂, subst, ◌∙◌, arith, add-one, take_all, length-drop}, specs.List.{AllByRecursion}, proofs.lemmas.Bool.Decides.{nat_tests}}
-use Rattle.dcsctp_tlv.{specs.Frame.{Item, PaddingRule, AreItems, BeginsWithFrame, frame_rest, round_up_to_4}, specs.Image.{Tlv, solid, size_of, image_of, written, list_image, list_size, listed_tlv, IsListEncodable}, specs.Level.{Level, ItemsMean, MeansTrees}, specs.Number.{AreBytes}, proofs.Items.{front_item}, proofs.Checks.{first_item, frame_shrinks}, proofs.Images.{room_for, total_more, written_more}, proofs.Listed.{list_encodable}}
-use Rattle.dcsctp_borrowed.{specs.Grammar.{whole}, specs.Part.{begins_with_item}, specs.Rewritten.{IsByteItem, Again, item_again, first_items, items_of, again_size, listed_again}, proofs.FrameItems.{begins, bytes_after}, proofs.Rewritten.{first_bytes}}
+use Rattle.std.{proofs.Common.{◌≡◌, ◌≢◌, ℕ, zero, suc, ◌+◌, ◌^◌, ◌<◌, ◌≤◌, Bool, true, false, Option, List, [], ◌∷◌, ◌++◌, length, map, get_or, take, drop, refl, sym, ap, ap₂, subst, ◌∙◌, arith, add-one, take_all, length-drop}, specs.List.{AllByRecursion}, proofs.lemmas.Bool.Decides.{nat_tests}}
+use Rattle.dcsctp_tlv.{specs.Frame.{Item, PaddingRule, AreItems, BeginsWithFrame, frame_rest, round_up_to_4}, specs.Image.{Tlv, solid, size_of, image_of, written, list_image, list_size, listed_tlv, IsListEncodable}, specs.Level.{Level, ItemsMean, MeansTrees}, specs.Number.{AreBytes}, proofs.Items.{front_item}, proofs.Checks.{first_item, frame_shrinks}, proofs.Images.{list_image-map, list_size-map, room_for, total_more, written_more}, proofs.Listed.{list_encodable}}
+use Rattle.dcsctp_borrowed.{specs.Grammar.{whole}, specs.Part.{begins_with_item}, specs.Rewritten.{IsByteItem, Again, item_again, first_items, items_of, all_again, again_size, listed_again}, proofs.FrameItems.{begins, bytes_after}, proofs.Rewritten.{first_bytes}}
 
 -- ---- the items that lie in bytes
 
-begins_back : (bytes : List ℕ) → begins_with_item (whole bytes) ≡ true → BeginsWithFrame bytes
+pub begins_back : (bytes : List ℕ) → begins_with_item (whole bytes) ≡ true → BeginsWithFrame bytes
 begins_back bytes e = record {
   header = grind (arith, nat_tests);
   low = grind (arith, nat_tests);
@@ -70,37 +70,32 @@ byte_items rule (i ∷ is) bytes fits are =
 module _ {T : Type 0} (level : Level T) (tlv : T → Tlv) (again : Again)
     (each : (i : Item) (t : T) → IsByteItem i → (level.row i.first i.second).means i.value t
     → tlv t ≡ item_again again i) where
-  image_is : (items : List Item) (trees : List T) → AllByRecursion IsByteItem items
-      → ItemsMean level items trees → list_image tlv trees ≡ list_image (item_again again) items
-  image_is [] [] fits mean = refl
-  image_is [] (t ∷ ts) fits mean = absurd mean
-  image_is (i ∷ is) [] fits mean = absurd mean
-  image_is (i ∷ []) (t ∷ []) fits mean = rw (each i t fits.0 mean.0) refl
-  image_is (i ∷ []) (t ∷ u ∷ ts) fits mean = absurd mean.1
-  image_is (i ∷ j ∷ is) (t ∷ []) fits mean = absurd mean.1
-  image_is (i ∷ j ∷ is) (t ∷ u ∷ ts) fits mean =
-      rw (each i t fits.0 mean.0, image_is (j ∷ is) (u ∷ ts) fits.1 mean.1) refl
+  each_again : (items : List Item) (trees : List T) → AllByRecursion IsByteItem items
+      → ItemsMean level items trees → map tlv trees ≡ map (item_again again) items
+  each_again [] [] fits mean = refl
+  each_again [] (t ∷ ts) fits mean = absurd mean
+  each_again (i ∷ is) [] fits mean = absurd mean
+  each_again (i ∷ is) (t ∷ ts) fits mean =
+      rw (each i t fits.0 mean.0, each_again is ts fits.1 mean.1) refl
 
-  size_is : (items : List Item) (trees : List T) → AllByRecursion IsByteItem items
-      → ItemsMean level items trees → list_size tlv trees ≡ list_size (item_again again) items
-  size_is [] [] fits mean = refl
-  size_is [] (t ∷ ts) fits mean = absurd mean
-  size_is (i ∷ is) [] fits mean = absurd mean
-  size_is (i ∷ []) (t ∷ []) fits mean = rw (each i t fits.0 mean.0) refl
-  size_is (i ∷ []) (t ∷ u ∷ ts) fits mean = absurd mean.1
-  size_is (i ∷ j ∷ is) (t ∷ []) fits mean = absurd mean.1
-  size_is (i ∷ j ∷ is) (t ∷ u ∷ ts) fits mean =
-      rw (each i t fits.0 mean.0, size_is (j ∷ is) (u ∷ ts) fits.1 mean.1) refl
+  pub trees_again : (bytes : List ℕ) (trees : List T) → AreBytes bytes
+      → MeansTrees level bytes trees → map tlv trees ≡ all_again again bytes
+  trees_again bytes trees fits m =
+      each_again m.items trees (byte_items level.padding m.items bytes fits m.are) m.mean
+      ∙ ap (map (item_again again))
+      (sym (items_are level.padding m.items (length bytes) bytes fits (omega arith) m.are))
 
   pub list_again : (bytes : List ℕ) (trees : List T) → AreBytes bytes
       → MeansTrees level bytes trees
       → (list_image tlv trees ≡ list_image (item_again again) (items_of bytes))
       × (list_size tlv trees ≡ again_size again bytes)
   list_again bytes trees fits m =
-      let same = items_are level.padding m.items (length bytes) bytes fits (omega arith) m.are in
-      let are = byte_items level.padding m.items bytes fits m.are in (
-        image_is m.items trees are m.mean ∙ ap (list_image (item_again again)) (sym same),
-        size_is m.items trees are m.mean ∙ ap (list_size (item_again again)) (sym same),
+      let same = trees_again bytes trees fits m in
+      let items = items_of bytes in (
+        list_image-map (λ t. t) tlv trees ∙ ap (list_image (λ t. t)) same
+            ∙ sym (list_image-map (λ t. t) (item_again again) items),
+        list_size-map (λ t. t) tlv trees ∙ ap (list_size (λ t. t)) same
+            ∙ sym (list_size-map (λ t. t) (item_again again) items),
       )
 
   -- a chunk with such a list, after the bytes before it

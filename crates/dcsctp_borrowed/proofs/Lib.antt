@@ -22,3 +22,5 @@ pub mod ChunksAgain
 pub mod Widths
 pub mod CanonicalAgain
 pub mod FieldWidths
+pub mod SameAgain
+pub mod Meanings

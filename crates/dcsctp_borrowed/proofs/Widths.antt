@@ -232,7 +232,7 @@ cause_fits code small =
     (λ isnt value u e fits. subst unnamed.IsInWidth (of_ok _ u e)
     (record { typ = small; value = fits }))
 
-causes_fit : (bytes : List ℕ) (cs : List cause.CauseTree) → AreBytes bytes
+pub causes_fit : (bytes : List ℕ) (cs : List cause.CauseTree) → AreBytes bytes
     → MeansTrees (cause.causes lenient) bytes cs → AllByRecursion cause.IsInWidth cs
 causes_fit = typed_list_fits cause.row cause.IsInWidth cause_fits
 
@@ -346,7 +346,7 @@ streams_fit stream_at size law value t e fits =
 abbrev ChunkFits : ℕ → List ℕ → ChunkTree → Type 0
 ChunkFits typ value t = AreBytes value → IsInWidth t
 
-chunk_fits : (typ flags : ℕ) → typ < 2 ^ 8 → flags < 2 ^ 8 → (value : List ℕ) (t : ChunkTree)
+pub chunk_fits : (typ flags : ℕ) → typ < 2 ^ 8 → flags < 2 ^ 8 → (value : List ℕ) (t : ChunkTree)
     → (chunk_row lenient typ flags).means value t → ChunkFits typ value t
 unfolding shutdown.read forward.read iforward.read unknown.read
 chunk_fits typ flags small few =

@@ -3,7 +3,7 @@
 -- I-DATA and I-FORWARD-TSN (RFC 8260 sections 2.1 and 2.3.1) and of the requests for more streams
 -- (RFC 6525 sections 4.5 and 4.6). Only private functions cite it, so nothing here has to be
 -- believed.
-use Rattle.std.specs.{Prelude.{◌≡◌, Bool, true, false, ◌<◌, ◌==◌, ◌||◌, ◌%◌, ℕ, zero, suc, List, [], ◌∷◌, ◌++◌, if◌then◌else◌, length, take, drop, slice_index}, List.{flat_map}, Int.{w16, from_be_bytes}}
+use Rattle.std.specs.{Prelude.{◌≡◌, Bool, true, false, ◌<◌, ◌==◌, ◌||◌, ◌%◌, ℕ, zero, suc, List, [], ◌∷◌, ◌++◌, if◌then◌else◌, length, map, take, drop, slice_index}, List.{flat_map}, Int.{w16, from_be_bytes}}
 use Rattle.dcsctp_tlv.{specs.Fields.{fields}, specs.Frame.{Item, frame_rest}, specs.Image.{Tlv, solid_tlv, listed_tlv, list_size}, specs.Number.{AreBytes}, specs.Length.{length-solid}, proofs.Items.{front_item}, proofs.Lengths.{length-image_of}, proofs.Listed.{listed_sized}}
 use Rattle.dcsctp_chunk.specs.SkippedStreams.{stream_count}
 use Rattle.dcsctp_cause.specs.Text.{text_or}
@@ -36,6 +36,10 @@ Again = ℕ → ℕ → List ℕ → Tlv
 
 abbrev pub item_again : Again → Item → Tlv
 item_again again i = again i.first i.second i.value
+
+-- the items that lie in bytes, as they are written again
+abbrev pub all_again : Again → List ℕ → List Tlv
+all_again again bytes = map (item_again again) (items_of bytes)
 
 -- the size of a list that is written again, without padding after its last item
 abbrev pub again_size : Again → List ℕ → ℕ
@@ -99,14 +103,17 @@ abbrev pub listed_again : Again → ℕ → ℕ → List ℕ → List ℕ → Tl
 listed_again again typ flags leading list =
     listed_tlv typ flags leading (item_again again) (items_of list)
 
-abbrev pub chunk_again : Again
-chunk_again typ flags value =
+-- a chunk with these flags
+abbrev pub chunk_with : Again
+chunk_with typ flags value =
     if typ == 1 || typ == 2 then
-    listed_again parameter_again typ (flags_again typ flags) (take 16 value) (drop 16 value) else
-    if typ == 4 || typ == 5 || typ == 130 then
-    listed_again parameter_again typ (flags_again typ flags) [] value else
-    if typ == 6 || typ == 9 then listed_again cause_again typ (flags_again typ flags) [] value else
-    solid_tlv typ (flags_again typ flags) (value_again typ value)
+    listed_again parameter_again typ flags (take 16 value) (drop 16 value) else
+    if typ == 4 || typ == 5 || typ == 130 then listed_again parameter_again typ flags [] value else
+    if typ == 6 || typ == 9 then listed_again cause_again typ flags [] value else
+    solid_tlv typ flags (value_again typ value)
+
+abbrev pub chunk_again : Again
+chunk_again typ flags value = chunk_with typ (flags_again typ flags) value
 
 -- ---- a value has the size that is counted
 
@@ -122,9 +129,10 @@ pub cause_sized : (first second : ℕ) (value : List ℕ) → IsSized (cause_aga
 cause_sized first second value =
     length-solid (cause_value (from_be_bytes w16 (first ∷ second ∷ [])) value)
 
-sized_either : (b : Bool) (x y : Tlv) → IsSized x → IsSized y → IsSized (if b then x else y)
-sized_either true x y p q = p
-sized_either false x y p q = q
+-- what holds of both holds of the one that is chosen
+pub either : (P : Tlv → Type 0) (b : Bool) (x y : Tlv) → P x → P y → P (if b then x else y)
+either P true x y p q = p
+either P false x y p q = q
 
 list_sized : (again : Again)
     → ((first second : ℕ) (value : List ℕ) → IsSized (again first second value))
@@ -137,10 +145,10 @@ list_sized again sized typ flags leading list =
 pub chunk_sized : (typ flags : ℕ) (value : List ℕ) → IsSized (chunk_again typ flags value)
 chunk_sized typ flags value =
     let kept = flags_again typ flags in
-    sized_either (typ == 1 || typ == 2) _ _
+    either IsSized (typ == 1 || typ == 2) _ _
     (list_sized parameter_again parameter_sized typ kept (take 16 value) (drop 16 value))
-    (sized_either (typ == 4 || typ == 5 || typ == 130) _ _
+    (either IsSized (typ == 4 || typ == 5 || typ == 130) _ _
     (list_sized parameter_again parameter_sized typ kept [] value)
-    (sized_either (typ == 6 || typ == 9) _ _
+    (either IsSized (typ == 6 || typ == 9) _ _
     (list_sized cause_again cause_sized typ kept [] value)
     (length-solid (value_again typ value))))

@@ -5,7 +5,7 @@ ghost use Rattle.dcsctp_tlv.specs.{Frame.{frame_length}, Image.{Tlv, Sizes, size
 ghost use Rattle.dcsctp_chunk.specs.SkippedStreams.{stream_count};
 ghost use Rattle.dcsctp_cause.specs.Text.{text_or};
 ghost use Rattle.dcsctp_wire.specs.{Canonical.{canonical, Fits, IsCanonicalOf}, Packet.{PacketTree}};
-ghost use Rattle.dcsctp_borrowed.specs.{PacketRef.{RefersTo}, Rewritten.{Again, IsSized, item_again, items_of, again_size, listed_again, parameter_again, cause_again, chunk_again, parameter_sized, cause_sized, chunk_sized, without_reserved, cause_value, flags_again, value_again, streams_again}};
+ghost use Rattle.dcsctp_borrowed.specs.{PacketRef.{RefersTo}, Rewritten.{Again, IsSized, item_again, items_of, again_size, listed_again, parameter_again, cause_again, chunk_again, parameter_sized, cause_sized, chunk_sized, without_reserved, cause_value, flags_again, value_again, stream_again, streams_again}};
 ghost use Rattle.dcsctp_borrowed.specs.declared.canonical.CanonicalError.TheVariants.{DoesNotFit, NoRoom};
 
 use crate::laws::has_canonical;
@@ -224,7 +224,7 @@ fn put_unreserved(first: u8, second: u8, value: &[u8], output: &mut [u8])
 }
 
 /// Returns the value of a cause, or the fixed text in place of one that isn't UTF-8.
-fn cause_text(code: u16, value: &[u8]) -> &[u8]
+pub(crate) fn cause_text(code: u16, value: &[u8]) -> &[u8]
     ensures { result.now ≡ cause_value code value.now }
 {
     match code {
@@ -342,7 +342,7 @@ impl Rewrite for Chunks {
 }
 
 /// Returns the flags that the type has.
-fn kept_flags(typ: u8, flags: u8) -> u8
+pub(crate) fn kept_flags(typ: u8, flags: u8) -> u8
     ensures { result ≡ flags_again typ flags }
 {
     match typ {
@@ -398,7 +398,7 @@ fn streams_size(value: &[u8]) -> usize
 }
 
 /// Returns how many skipped streams the value of I-FORWARD-TSN has.
-fn stream_count(value: &[u8]) -> usize
+pub(crate) fn stream_count(value: &[u8]) -> usize
     ensures { result ≡ stream_count 8 value.now }
 {
     value.len().saturating_sub(4) / 8
@@ -426,17 +426,23 @@ fn put_each(place: usize, count: usize, streams: &[u8], output: &mut [u8])
     ensures { output.new ≡ put output.old place (streams_again count streams.now) }
 {
     for i in 0..count {
-        let stream = &streams[8 * i..];
-        let kept = [
-            stream[0],
-            stream[1],
-            0,
-            stream[3] % 2,
-            stream[4],
-            stream[5],
-            stream[6],
-            stream[7],
-        ];
-        put_bytes(output, place + 8 * i, &kept);
+        put_bytes(output, place + 8 * i, &kept_stream(&streams[8 * i..]));
     }
+}
+
+/// Returns the skipped stream at the front as it is written.
+pub(crate) fn kept_stream(stream: &[u8]) -> [u8; 8]
+    requires { 8 ≤ length stream.now }
+    ensures { result ≡ stream_again stream.now }
+{
+    [
+        stream[0],
+        stream[1],
+        0,
+        stream[3] % 2,
+        stream[4],
+        stream[5],
+        stream[6],
+        stream[7],
+    ]
 }

@@ -5,8 +5,9 @@
 //! missing parameters, a cookie and a heartbeat's info are read where they lie. What is read here
 //! is what `dcsctp_wire` builds, by the same clauses. `canonical` writes the canonical packet of a
 //! packet in place, which is that of what `dcsctp_wire` builds of it, and the same for two packets
-//! if and only if they mean the same. Of a packet that may have been cut off, `part` reads the
-//! items that are there. `packet_buf` has a packet that owns its bytes, which alone takes memory.
+//! if and only if they mean the same, which `meaning` returns without writing any. Of a packet that
+//! may have been cut off, `part` reads the items that are there. `packet_buf` has a packet that
+//! owns its bytes, which alone takes memory.
 #![tactic(auto)]
 
 pub mod canonical;
@@ -17,6 +18,7 @@ pub mod forward_tsn_ref;
 pub mod heartbeat_info;
 pub mod in_place;
 pub mod laws;
+pub mod meaning;
 pub mod missing_parameters;
 pub mod numbers;
 pub mod packet_buf;
