@@ -41,6 +41,8 @@ FRAGMENTS = [
      'Ok((types, bytes))\n}'),
     ('let size = write_canonical(&packet, output)?;',
      "pub fn normal(packet: SctpPacketRef<'_>, output: &mut [u8]) -> Result<usize, CanonicalError> {", 'Ok(canonical.len())\n}'),
+    ('if means_same(&packet, &other) {',
+     "pub fn newer<'a>(packet: SctpPacketRef<'a>, other: SctpPacketRef<'a>) -> Option<SctpPacketRef<'a>> {", 'Some(packet)\n}'),
     ('set_verification_tag(packet, tag);', 'pub fn retag(packet: &mut [u8], tag: u32) {', '}'),
     ('let mut parameters = Vec::new(alloc);', 'pub fn parameters(alloc: Global) -> Result<Vec<Parameter>, AllocError> {',
      'Ok(parameters)\n}'),
@@ -50,6 +52,7 @@ FRAGMENTS = [
 ]
 FRAGMENTS_USE = '''use dcsctp_borrowed::canonical::{CanonicalError, write_canonical};
 use dcsctp_borrowed::in_place::{set_checksum_word, set_verification_tag};
+use dcsctp_borrowed::meaning::means_same;
 use dcsctp_borrowed::packet_buf::PacketBuf;
 use dcsctp_borrowed::packet_ref::SctpPacketRef;
 use dcsctp_borrowed::user_data::UserData;
