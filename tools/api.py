@@ -24,7 +24,8 @@ PAGE = os.path.join(ROOT, 'docs', 'API.md')
 
 # The libraries, in the order in which their items come within a section.
 LIBRARIES = [
-    'dcsctp_wire', 'dcsctp_borrowed', 'dcsctp_registry', 'dcsctp_buffer', 'dcsctp_receive', 'dcsctp_crc32c', 'dcsctp_chunk', 'dcsctp_tlv',
+    'dcsctp_wire', 'dcsctp_borrowed', 'dcsctp_registry', 'dcsctp_buffer', 'dcsctp_receive', 'dcsctp_crc32c', 'dcsctp_auth', 'dcsctp_chunk',
+    'dcsctp_tlv',
     'dcsctp_cause', 'dcsctp_types',
 ]
 
@@ -42,6 +43,7 @@ SECTIONS = [
     ("Packets written into the caller's buffer", r'dcsctp_buffer'),
     ('What a receiver is asked', r'dcsctp_receive'),
     ('The checksum', r'dcsctp_crc32c'),
+    ('Authentication and cookies', r'dcsctp_auth'),
 ]
 
 # Traits that say nothing to a caller: what every type has, what the proofs see of a type, and those of the libraries themselves.
@@ -57,8 +59,8 @@ HEAD = '''# The public items
 
 Made from the sources by `tools/api.py --write`; the gate compares it. A heading is the path to write in a `use`: the items below it
 are at that path, and `fn Tsn::add_to` is the method `add_to` of `Tsn`. A program needs the crate `dcsctp_wire`, and `dcsctp_borrowed`,
-`dcsctp_registry`, `dcsctp_buffer`, `dcsctp_receive` and `dcsctp_crc32c` where it uses them. What the caller has to prove (`requires`)
-comes after the signature, after *needs*:
+`dcsctp_registry`, `dcsctp_buffer`, `dcsctp_receive`, `dcsctp_crc32c` and `dcsctp_auth` where it uses them. What the caller has to prove
+(`requires`) comes after the signature, after *needs*:
 
 | *needs* | the caller proves that |
 |---|---|
@@ -264,7 +266,7 @@ def paths_of():
 def path_in_program(name, paths):
     """The path of a module or an item in a program, or nothing if it has none."""
     parts = name.split('::')
-    if parts[0] in ('dcsctp_wire', 'dcsctp_borrowed', 'dcsctp_registry', 'dcsctp_buffer', 'dcsctp_receive', 'dcsctp_crc32c'):
+    if parts[0] in LIBRARIES[:7]:
         return name
     for size in range(len(parts), 1, -1):
         front = '::'.join(parts[:size])

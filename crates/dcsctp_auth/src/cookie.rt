@@ -88,7 +88,7 @@ pub fn seal_cookie(buffer: &mut [u8], key: &[u8], cookie: &StateCookie) -> Optio
     Some(MIN_COOKIE_SIZE + addresses.len())
 }
 
-/// Opens a cookie that was sealed under the key, at a time in microseconds on the same clock.
+/// Reads a cookie that was sealed under the key, at a time in microseconds on the same clock.
 ///
 /// Returns `Valid` up to the end of its lifespan, then `Stale`; and `Invalid` if and only if the
 /// bytes aren't those of any cookie that was sealed under the key. No byte after the MAC is looked

@@ -9,6 +9,7 @@
 //! The table that is printed has to be the table that was read: `stdin` and `stdout` are one text.
 #![tactic(auto)]
 
+mod auth;
 mod buffers;
 mod built;
 mod bytes;

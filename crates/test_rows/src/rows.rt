@@ -2,8 +2,8 @@
 
 use crate::bytes::add_words;
 use crate::{
-    buffers, built, captures, checksums, frames, hostile, in_place, kept, kinds, made, packets,
-    receive, registry, sack,
+    auth, buffers, built, captures, checksums, frames, hostile, in_place, kept, kinds, made,
+    packets, receive, registry, sack,
 };
 use std::alloc::{AllocError, Global};
 
@@ -31,7 +31,8 @@ fn write_answer(
         || hostile::write_answer(alloc, call, (bytes, other), out)?
         || buffers::write_answer(alloc, call, bytes, out)?
         || captures::write_answer(alloc, call, bytes, out)?
-        || checksums::write_answer(call, (bytes, other), out)?;
+        || checksums::write_answer(call, (bytes, other), out)?
+        || auth::write_answer(alloc, call, (bytes, other), out)?;
     if is_known {
         Ok(())
     } else {
