@@ -1,5 +1,5 @@
 -- Key vectors as numbers: of one size they are ordered as their first difference.
-use Rattle.std.proofs.Common.{◌≡◌, ◌∙◌, ℕ, zero, suc, ◌+◌, ◌-◌, ◌*◌, ◌<◌, ◌≤◌, true, false, ◌&&◌, List, [], ◌∷◌, ◌++◌, length, get_or, get_or-drop, length-drop, take, drop, refl, subst, sym, ap, ap₂, arith, inl, inr, add-one}
+use Rattle.std.proofs.Common.{◌≡◌, ◌∙◌, ℕ, zero, suc, ◌+◌, ◌-◌, ◌*◌, ◌<◌, true, false, ◌&&◌, List, [], ◌∷◌, ◌++◌, length, get_or, get_or-drop, length-drop, take, drop, refl, sym, ap, ap₂, arith, inl, inr}
 use lib.Dec.{eqb-suc-zero}
 use Rattle.std.specs.List.{fold}
 use Rattle.std.proofs.lemmas.List.{take-append-drop}

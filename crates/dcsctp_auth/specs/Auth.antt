@@ -1,7 +1,7 @@
 -- Authenticated chunks (RFC 4895 sections 3.2, 5.1, 6.2 and 6.3).
-use Rattle.std.specs.Prelude.{◌≡◌, ◌≢◌, ℕ, ◌+◌, ◌*◌, ◌<◌, ◌≤◌, Contains, List, [], ◌∷◌, ◌++◌, drop, length, replicate, slice_index, take}
+use Rattle.std.specs.Prelude.{◌≡◌, ◌≢◌, ℕ, ◌+◌, ◌≤◌, Contains, List, ◌++◌, drop, length, replicate, slice_index, take}
 use Rattle.dcsctp_tlv.specs.Number.{number16}
-use Rattle.dcsctp_auth.specs.declared.hmac.{HashFunction.{HashFunction}, HashFunction.TheVariants.{Sha1, Sha256}}
+use Rattle.dcsctp_auth.specs.declared.hmac.{HashFunction.{HashFunction}}
 use Rattle.dcsctp_auth.specs.Hmac.{digest_size, hmac, hmac_identifier}
 
 -- ---- section 3.2: the Chunk List

@@ -2,7 +2,7 @@
 --
 --   | MAC, 32 bytes | created u64 | lifespan u64 | tags u32 u32 | initial TSNs u32 u32
 --   | ports u16 u16 | streams u16 u16 | addresses .. |
-use Rattle.std.specs.Prelude.{◌≡◌, ℕ, ◌+◌, ◌<◌, ◌≤◌, ◌^◌, List, [], ◌∷◌, ◌++◌, drop, take, length}
+use Rattle.std.specs.Prelude.{◌≡◌, ℕ, ◌+◌, ◌<◌, ◌≤◌, ◌^◌, List, [], ◌∷◌, ◌++◌, drop, take}
 use Rattle.std.specs.Int.{w16, w32, w64}
 use Rattle.dcsctp_tlv.specs.Number.{number16, number32, number64, numbers}
 use Rattle.dcsctp_auth.specs.declared.cookie.{StateCookie.{StateCookie}, OpenedCookie.{OpenedCookie}, OpenedCookie.TheVariants.{Valid, Stale, Invalid}}

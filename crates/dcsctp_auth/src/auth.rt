@@ -1,5 +1,4 @@
-//! Authenticated chunks (RFC 4895): the Chunk List, the association shared key, and the HMAC of an
-//! AUTH chunk.
+//! Authenticated chunks (RFC 4895): the Chunk List, and the HMAC of an AUTH chunk.
 
 ghost use Rattle.std.specs.{Prelude.{◌≡◌, ◌↔◌, ◌+◌, ◌≤◌, ◌++◌, List, ℕ, Some, None, MatchOption, IsTrue, length, drop, take}};
 ghost use Rattle.dcsctp_tlv.specs.Image.{put};

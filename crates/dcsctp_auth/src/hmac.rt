@@ -17,7 +17,7 @@ const IPAD: u8 = 0x36;
 /// The byte that is repeated in opad (RFC 2104 section 2).
 const OPAD: u8 = 0x5C;
 
-/// A hash function that an HMAC is made with: H of RFC 2104.
+/// A hash function that an HMAC is made with, which RFC 2104 calls H.
 #[derive(Clone, Copy, Debug, PartialEq, Eq)]
 pub enum HashFunction {
     /// SHA-1: its HMAC has 20 bytes.
@@ -27,7 +27,7 @@ pub enum HashFunction {
 }
 
 impl HashFunction {
-    /// Returns the number of bytes of a digest, and so of an HMAC: L of RFC 2104.
+    /// Returns the number of bytes of a digest, and so of an HMAC.
     pub fn digest_size(self) -> usize
         ensures { result ≡ digest_size self }
     {

@@ -1,4 +1,4 @@
-use Rattle.std.proofs.Common.{◌≡◌, ◌∙◌, [], ap}
+use Rattle.std.proofs.Common.{◌∙◌, [], ap}
 use Rattle.dcsctp_auth.specs.Hmac.{hmac}
 use Rattle.dcsctp_auth.proofs.Signatures.{data_is}
 use Rattle.dcsctp_auth.proofs.auth.auth_mac.Goals as goal

@@ -1,5 +1,4 @@
-use Rattle.std.proofs.Common.{◌≡◌, ◌∙◌, length, refl, ap, subst, sym, arith}
-use Rattle.dcsctp_auth.specs.Hmac.{hmac}
+use Rattle.std.proofs.Common.{◌∙◌, length, refl, ap, subst, sym, arith}
 use Rattle.dcsctp_auth.specs.Auth.{BeginsWithAuth, auth_data, IsSigned}
 use Rattle.dcsctp_auth.proofs.{Hmacs.{length-hmac}, Signatures.{signed}}
 use Rattle.dcsctp_auth.proofs.auth.sign.Goals as goal

@@ -1,5 +1,5 @@
-use Rattle.std.proofs.Common.{◌≡◌, ◌≢◌, ◌≤◌, ◌<◌, ◌+◌, ◌-◌, ℕ, length, ap, refl, arith}
-use Rattle.dcsctp_auth.specs.Cookie.{CookieTree, view, IsInWidth, cookie_bytes}
+use Rattle.std.proofs.Common.{◌≡◌, ap, refl, arith}
+use Rattle.dcsctp_auth.specs.Cookie.{view}
 use Rattle.dcsctp_auth.proofs.Cookies.{cookie_is_sealed, was_sealed, same_cookie}
 use Rattle.dcsctp_auth.proofs.cookie.open_cookie.Goals as goal
 

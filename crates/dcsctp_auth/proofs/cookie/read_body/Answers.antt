@@ -1,4 +1,4 @@
-use Rattle.std.proofs.Common.{◌≡◌, ◌∙◌, ap}
+use Rattle.std.proofs.Common.{◌∙◌, ap}
 use Rattle.std.proofs.lemmas.List.{take_rest}
 use Rattle.dcsctp_tlv.specs.Number.{number16, number32, number64}
 use Rattle.dcsctp_auth.proofs.cookie.read_body.Goals as goal

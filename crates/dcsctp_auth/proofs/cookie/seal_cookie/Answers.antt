@@ -1,4 +1,4 @@
-use Rattle.std.proofs.Common.{◌≡◌, ◌∙◌, ◌++◌, ◌≤◌, ◌+◌, length, ap, ap₂, arith}
+use Rattle.std.proofs.Common.{◌∙◌, ◌++◌, length, ap, ap₂, arith}
 use Rattle.dcsctp_tlv.specs.Image.{put}
 use Rattle.dcsctp_auth.specs.declared.hmac.HashFunction.TheVariants.{Sha256}
 use Rattle.dcsctp_auth.specs.Hmac.{hmac}

@@ -1,4 +1,4 @@
-use Rattle.std.proofs.Common.{◌≡◌, ◌<◌, ◌+◌, ℕ, get_or, refl, arith, ap, below_more}
+use Rattle.std.proofs.Common.{◌≡◌, get_or, refl, arith, ap, below_more}
 use Rattle.std.proofs.lemmas.Grind.{same_number_lists}
 use borrow.Author.Tests.{eqb-true}
 use lib.Bits.{xor_self}

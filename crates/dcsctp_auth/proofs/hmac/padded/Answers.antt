@@ -1,8 +1,7 @@
-use Rattle.std.proofs.Common.{◌≡◌, ◌≢◌, ◌<◌, ℕ, length, get_or, bit_xor, map, arith, ◌∙◌, sym, get_or-set_other, get_or-set_same, below_more}
+use Rattle.std.proofs.Common.{◌≡◌, ◌≢◌, ◌<◌, ℕ, length, bit_xor, map, arith, ◌∙◌, sym, get_or-set_other, get_or-set_same, below_more}
 use Rattle.std.proofs.lemmas.Grind.{same_number_lists}
 use Rattle.std.proofs.lemmas.List.{length-map, get_or-map}
 use Rattle.std.proofs.Math.ListN.{length-set}
-use Rattle.dcsctp_auth.specs.Hmac.{padded}
 use Rattle.dcsctp_auth.proofs.hmac.padded.Goals as goal
 
 pub loop-i-preserved : goal.loop-i-preserved

@@ -1,6 +1,6 @@
-use Rattle.std.proofs.Common.{◌≡◌, ◌∙◌, ap, sym}
+use Rattle.std.proofs.Common.{◌∙◌, ap, sym}
 use Rattle.dcsctp_tlv.specs.Frame.{are_zeros}
-use Rattle.dcsctp_auth.specs.SharedKey.{Orders, vector_number}
+use Rattle.dcsctp_auth.specs.SharedKey.{vector_number}
 use Rattle.dcsctp_auth.proofs.Vectors.{longer_is_greater, same_rest, same_order}
 use Rattle.dcsctp_auth.proofs.shared_key.compare_vectors.Goals as goal
 

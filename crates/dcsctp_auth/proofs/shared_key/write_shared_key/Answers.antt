@@ -1,4 +1,4 @@
-use Rattle.std.proofs.Common.{◌≡◌, ◌∙◌, ◌++◌, ap₂, refl, sym}
+use Rattle.std.proofs.Common.{◌∙◌, ◌++◌, ap₂, refl, sym}
 use Rattle.dcsctp_tlv.specs.Image.{put}
 use Rattle.dcsctp_auth.proofs.Vectors.{both_first}
 use Rattle.dcsctp_auth.proofs.shared_key.write_shared_key.Goals as goal
