@@ -24,9 +24,8 @@ PAGE = os.path.join(ROOT, 'docs', 'API.md')
 
 # The libraries, in the order in which their items come within a section.
 LIBRARIES = [
-    'dcsctp_wire', 'dcsctp_borrowed', 'dcsctp_registry', 'dcsctp_buffer', 'dcsctp_receive', 'dcsctp_crc32c', 'dcsctp_auth', 'dcsctp_chunk',
-    'dcsctp_tlv',
-    'dcsctp_cause', 'dcsctp_types',
+    'dcsctp_wire', 'dcsctp_borrowed', 'dcsctp_registry', 'dcsctp_buffer', 'dcsctp_receive', 'dcsctp_crc32c', 'dcsctp_auth',
+    'dcsctp_chunk', 'dcsctp_tlv', 'dcsctp_cause', 'dcsctp_types',
 ]
 
 # The sections of the page, and which modules each has, by their paths in a program: the first that matches.

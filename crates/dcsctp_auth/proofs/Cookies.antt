@@ -109,7 +109,8 @@ pub authentic_is_cookie : (key bytes : List ℕ) → AreBytes bytes → 72 ≤ l
 authentic_is_cookie key bytes fits size authentic =
     let rest = drop 32 bytes in
     let same : body (body_read rest) ≡ rest =
-    written_of_read rest (λ k. rw get_or-drop (fits (32 + k))) (omega (arith, length-drop 32 bytes)) in
+    written_of_read rest (λ k. rw get_or-drop (fits (32 + k)))
+    (omega (arith, length-drop 32 bytes)) in
     sym (take-append-drop 32 bytes) ∙ ap (λ front. front ++ rest) authentic
     ∙ ap (λ text. hmac Sha256 key text ++ text) (sym same)
 

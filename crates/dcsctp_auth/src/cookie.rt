@@ -17,10 +17,10 @@ use dcsctp_tlv::number::{put_u16, put_u32, read_u16_be, read_u32_be, read_u64_be
 const MAC_SIZE: usize = 32;
 
 /// The bytes of the numbers after the MAC.
-const FIXED_SIZE: usize = 40;
+const NUMBERS_SIZE: usize = 40;
 
 /// The bytes of a cookie without addresses.
-pub const MIN_COOKIE_SIZE: usize = MAC_SIZE + FIXED_SIZE;
+pub const MIN_COOKIE_SIZE: usize = MAC_SIZE + NUMBERS_SIZE;
 
 /// What a State Cookie says: what its sender needs to set up the association, when it was created,
 /// and for how long it is good (RFC 9260 section 5.1.3).
@@ -135,11 +135,11 @@ fn body_mac(key: &[u8], fixed: &[u8], addresses: &[u8]) -> Mac
 }
 
 /// Returns the numbers of a cookie as they are written.
-fn fixed_bytes(cookie: &StateCookie) -> [u8; FIXED_SIZE]
+fn fixed_bytes(cookie: &StateCookie) -> [u8; NUMBERS_SIZE]
     ensures bytes { result ≡ fixed_bytes (view cookie.now) }
     ensures width { IsInWidth (view cookie.now) }
 {
-    let mut bytes = [0; FIXED_SIZE];
+    let mut bytes = [0; NUMBERS_SIZE];
     put_bytes(&mut bytes, 0, &cookie.created.to_be_bytes());
     put_bytes(&mut bytes, 8, &cookie.lifespan.to_be_bytes());
     put_u32(&mut bytes, 16, cookie.local_tag);
@@ -170,6 +170,6 @@ fn read_body(body: &[u8]) -> StateCookie
         peer_port: read_u16_be(&body[34..]),
         outbound_streams: read_u16_be(&body[36..]),
         inbound_streams: read_u16_be(&body[38..]),
-        addresses: &body[FIXED_SIZE..],
+        addresses: &body[NUMBERS_SIZE..],
     }
 }

@@ -18,7 +18,8 @@ returns-then-elapsed-cookie-clause-sealed c = λ cookie fits is.
     same_cookie c.args.key.now cookie (view c.read_body-cookie.result) c.args.bytes.now fits is
     c.read_body-cookie.ensures.value in
     let created : c.read_body-cookie.result.created ≡ cookie.created = ap (λ t. t.created) same in
-    let lifespan : c.read_body-cookie.result.lifespan ≡ cookie.lifespan = ap (λ t. t.lifespan) same in
+    let lifespan : c.read_body-cookie.result.lifespan ≡ cookie.lifespan =
+    ap (λ t. t.lifespan) same in
     (omega arith, omega (arith, created, lifespan))
 
 pub returns-then-elapsed-cookie-clause-invalid : goal.returns-then-elapsed-cookie-clause-invalid
@@ -42,7 +43,8 @@ returns-clause-sealed c = λ cookie fits is.
     same_cookie c.args.key.now cookie (view c.read_body-cookie.result) c.args.bytes.now fits is
     c.read_body-cookie.ensures.value in
     let created : c.read_body-cookie.result.created ≡ cookie.created = ap (λ t. t.created) same in
-    let lifespan : c.read_body-cookie.result.lifespan ≡ cookie.lifespan = ap (λ t. t.lifespan) same in
+    let lifespan : c.read_body-cookie.result.lifespan ≡ cookie.lifespan =
+    ap (λ t. t.lifespan) same in
     (same, omega (arith, created, lifespan))
 
 pub returns-clause-invalid : goal.returns-clause-invalid

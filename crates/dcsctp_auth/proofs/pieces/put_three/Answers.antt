@@ -8,7 +8,8 @@ three_put : (old a b c : List ℕ) → length a + length b + length c ≤ length
 three_put old a b c room =
     ap (λ out. put out (length a + length b) c)
     (put-put old 0 (length a) a b (omega arith) (omega arith))
-    ∙ put-put old 0 (length a + length b) (a ++ b) c (omega arith) (omega (arith, length-append a b))
+    ∙ put-put old 0 (length a + length b) (a ++ b) c (omega arith)
+    (omega (arith, length-append a b))
     ∙ ap (put old 0) (append_assoc a b c)
 
 pub returns : goal.returns
