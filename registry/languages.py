@@ -22,6 +22,54 @@ def reference(row):
     return f'RFC {number} {"appendix" if section.isalpha() else "section"} {section}' if section else f'RFC {number}'
 
 
+LISTS = {'chunk': 'chunks', 'parameter': 'parameters', 'cause': 'error causes'}
+"""The levels that have a `value`, and what they number."""
+
+
+# ---- the fields of a value that is bytes to the readers of the kinds
+
+# What isn't one number, in the table's words: its name, and its form.
+PARTS = {
+    **dict.fromkeys(('an address', '4 bytes', '16 bytes'), ('address', 'address')),
+    **dict.fromkeys(('a parameter', 'parameters', 'addresses'), ('parameters', 'parameters')),
+    'error causes': ('causes', 'causes'),
+    'types of parameters u16': ('types', 'short numbers'),
+    'HMACs u16': ('HMACs', 'short numbers'),
+    'types of chunks u8': ('types', 'bytes'),
+    'blocks': ('lists', 'bytes'),
+}
+
+
+def fields_of(value):
+    """The name and the form of each field of a value, in order: numbers with a name, an address, and what ends the value."""
+    fields = []
+    for part in value.split(', ') if value != '-' else []:
+        name, sizes = re.fullmatch(r'(.*?)((?: ?\bu(?:16|32)\b)*)', part).groups()
+        if part not in PARTS and sizes:
+            fields += [(name, size) for size in sizes.split() if name]
+            continue
+        fields.append(PARTS.get(part) or (re.sub('^(a|an|any) ', '', part), 'bytes'))
+        if fields[-1][1] != 'address':
+            break
+    return fields
+
+
+def registered(table, level):
+    """The rows of a level whose values are bytes to the readers of the kinds, and the fields of each."""
+    return [(row, fields_of(row.value)) for row in table[level] if row.read != 'kind']
+
+
+NO_BREAK = '\0'
+"""A blank at which a line doesn't break."""
+
+
+def wrapped(begin, fields, end, indent, more):
+    """A line of a table whose fields follow one another: more than one line, where it is long."""
+    text = begin + ', '.join(field.replace(' ', NO_BREAK) for field in fields) + end
+    lines = textwrap.wrap(text, 110, initial_indent=indent, subsequent_indent=more, break_on_hyphens=False)
+    return '\n'.join(lines).replace(NO_BREAK, ' ')
+
+
 # ---- Rattle
 
 def rattle_names(rows, argument, form):
@@ -269,8 +317,8 @@ GO_WORDS |= {'IPV4': 'IPv4', 'IPV6': 'IPv6'}
 
 def go_values(level, rows):
     """The constants of a level, and the method that names them."""
-    name, receiver, prefix, about = GO_TYPES[level]
-    constants = [prefix + ''.join(GO_WORDS.get(word, word.capitalize()) for word in row.identifier.split('_')) for row in rows]
+    name, receiver, _, about = GO_TYPES[level]
+    constants = [go_constant(row) for row in rows]
     width = max(map(len, constants))
     values = [f'\t{constant:{width}} {name} = {digits(row)}' for constant, row in zip(constants, rows)]
     cases = [f'\tcase {constant}:\n\t\treturn "{row.name}"' for constant, row in zip(constants, rows)]
@@ -278,8 +326,22 @@ def go_values(level, rows):
                       f'\tswitch {receiver} {{', *cases, '\t}', '\treturn ""', '}', ''])
 
 
+def go_constant(row):
+    return GO_TYPES[row.level][2] + ''.join(GO_WORDS.get(word, word.capitalize()) for word in row.identifier.split('_'))
+
+
+def go_layouts(table, level):
+    """The types of a level that Registered reads, and the fields of each."""
+    lines = []
+    for row, fields in registered(table, level):
+        parts = [f'{{"{name}", of{form.title().replace(" ", "")}}}' for name, form in fields]
+        lines.append(wrapped(f'{{uint16({go_constant(row)}), []field{{', parts, '}},', '\t', '\t\t'))
+    return '\n'.join(['', f'// The fields of each {level} that Registered reads, in the order of its value.',
+                      f'var registered{level.capitalize()}s = layouts{{', *lines, '}', ''])
+
+
 def go(table):
-    return GO + ''.join(go_values(level, table[level]) for level in GO_TYPES)
+    return ''.join([GO, *(go_values(level, table[level]) for level in GO_TYPES), *(go_layouts(table, level) for level in LISTS)])
 
 
 # ---- JavaScript
@@ -292,24 +354,66 @@ JS_OBJECTS = {
 }
 
 
+def js_name(name):
+    """A field's name as JavaScript writes it."""
+    first, *others = re.split('[ _]', name.lower())
+    return first + ''.join(map(str.capitalize, others))
+
+
+def js_fields(fields):
+    """The names of fields, each with its form, or with those of its numbers."""
+    forms = {}
+    for name, form in fields:
+        forms.setdefault(js_name(name), []).append('shorts' if form == 'short numbers' else form)
+    return forms
+
+
 def javascript(table):
-    objects, names = [], []
+    objects, names, layouts = [], [], []
     for level, (name, _) in JS_OBJECTS.items():
         members = [f'  {row.identifier}: {digits(row)},' for row in table[level]]
         objects.append('\n'.join([f'const {name} = Object.freeze({{', *members, '});', '']))
         if level != 'result':
             members = [f"  [{name}.{row.identifier}, '{row.name}']," for row in table[level]]
             names.append('\n'.join([f'const {level.upper()}_NAMES = new Map([', *members, ']);', '']))
-    return ['\n'.join(objects + names)]
+            members = []
+            for row, fields in registered(table, level):
+                parts = ', '.join(f"['{field}', {', '.join(map(repr, forms))}]" for field, forms in js_fields(fields).items())
+                members.append(f'  [{name}.{row.identifier}, [{parts}]],')
+            layouts.append('\n'.join([f'const {level.upper()}_FIELDS = new Map([', *members, ']);', '']))
+    return ['\n'.join(objects + names + layouts)]
+
+
+TS_FORMS = {
+    **dict.fromkeys(('u32', 'u16'), 'number'),
+    'address': 'string; addressBytes: Uint8Array',
+    'parameters': 'Parameter[]',
+    'causes': 'Cause[]',
+    'shorts': 'number[]',
+    'bytes': 'Uint8Array',
+}
+TS_FIELDS = {
+    'chunk': 'What a chunk of these types holds.',
+    'parameter': 'What a parameter of these types holds.',
+    'cause': 'What an error cause of these codes holds.',
+}
 
 
 def typescript(table):
+    def fields_by_type(level):
+        members = []
+        for row, fields in registered(table, level):
+            types = {name: [TS_FORMS[form] for form in forms] for name, forms in js_fields(fields).items()}
+            parts = '; '.join(f'{name}: {of[0] if len(of) == 1 else "[" + ", ".join(of) + "]"}' for name, of in types.items())
+            members.append(f'  /** {row.name} ({reference(row)}). */\n  {digits(row)}: {f"{{ {parts} }}" if parts else "{}"};')
+        return '\n'.join([f'/** {TS_FIELDS[level]} */', f'export interface {level.capitalize()}Fields {{', *members, '}', ''])
+
     def declared(level):
         name, about = JS_OBJECTS[level]
         members = [f'  readonly {row.identifier}: {digits(row)};' for row in table[level]]
         return '\n'.join([f'/** {about} */', f'export const {name}: {{', *members, '};',
                           f'export type {name} = Of<typeof {name}>;', ''])
-    return [''.join(map(declared, JS_OBJECTS))]
+    return [''.join([*map(declared, JS_OBJECTS), *map(fields_by_type, TS_FIELDS)])]
 
 
 # ---- C++
@@ -328,7 +432,14 @@ def cpp(table):
     for level, (name, about) in CPP_ENUMS.items():
         members = ',\n'.join(f'    {row.identifier.lower()} = {C_ENUMS[level][1]}{row.identifier}' for row in table[level])
         enums.append('\n'.join([f'/// {about}', f'enum class {name} {{', members, '};', '']))
-    return ['\n'.join(enums)]
+    layouts = []
+    for level in LISTS:
+        lines = []
+        for row, fields in registered(table, level):
+            parts = [f'{{"{name}", form::{form.replace(" ", "_")}}}' for name, form in fields]
+            lines.append(wrapped(f'{{{C_ENUMS[level][1]}{row.identifier}, {{', parts, '}},', '    ', '     '))
+        layouts.append('\n'.join([f'inline constexpr layout {level}_layouts[] = {{', *lines, '};', '']))
+    return ['\n'.join(enums), '\n'.join(layouts)]
 
 
 # ---- the page for browsers
@@ -355,9 +466,6 @@ def page(table):
 
 # ---- the pages
 
-LISTS = {'chunk': 'chunks', 'parameter': 'parameters', 'cause': 'error causes'}
-
-
 def readme(table):
     kinds = {level: [row for row in table[level] if row.read == 'kind'] for level in LISTS}
     standards = sorted({row.standard[:4] for rows in kinds.values() for row in rows})
@@ -365,25 +473,14 @@ def readme(table):
     return ['\n'.join([f'| | with their fields (RFC {", ".join(standards)}) |', '|---|---|', *rows, ''])]
 
 
-# The fields of C's struct dcsctp_registered, for numbers of each size in their order; and what isn't one number but a list.
+# The fields of C's struct dcsctp_registered, for numbers of each size in their order.
 C_NUMBERS = {'u32': ('number', 'second_number'), 'u16': ('short_number', 'second_short_number', 'third_short_number')}
-C_LISTS = ('types of parameters u16', 'HMACs u16')
-C_ADDRESSES = ('an address', '4 bytes', '16 bytes')
 
 
 def c_registered(value):
     """The fields of struct dcsctp_registered that a value of bytes has: numbers with a name, an address, and the rest."""
     left = {size: list(names) for size, names in C_NUMBERS.items()}
-    fields = []
-    for part in value.split(', ') if value != '-' else []:
-        name, sizes = re.fullmatch(r'(.*?)((?: ?\bu(?:16|32)\b)*)', part).groups()
-        if part in C_ADDRESSES:
-            fields.append('address')
-        elif part in C_LISTS or not sizes:
-            return [*fields, 'rest']
-        elif name:
-            fields += [left[size].pop(0) for size in sizes.split()]
-    return fields
+    return [left[form].pop(0) if form in left else 'address' if form == 'address' else 'rest' for _, form in fields_of(value)]
 
 
 def c_page(table):

@@ -910,6 +910,26 @@ void touch(bytes_view bytes)
         touched += byte;
 }
 
+// The rest of the registry, down to the items in items.
+void read_all(const std::optional<registered> &it)
+{
+    if (!it)
+        return;
+    touch(it->address);
+    touch(it->rest);
+    touched += it->number("request").value_or(0) + it->numbers[4];
+    for (std::uint16_t number : it->short_numbers())
+        touched += number;
+    for (parameter parameter : it->parameters()) {
+        touch(parameter.bytes());
+        read_all(parameter.as_registered());
+    }
+    for (cause cause : it->causes()) {
+        touch(cause.bytes());
+        read_all(cause.as_registered());
+    }
+}
+
 // Reads all that there is in any bytes.
 void read_all(bytes_view bytes)
 {
@@ -926,14 +946,17 @@ void read_all(bytes_view bytes)
             touched += tsn;
         for (skipped_stream stream : chunk.skipped_streams())
             touched += stream.mid;
+        read_all(chunk.as_registered());
         for (parameter parameter : chunk.parameters()) {
             touch(parameter.value());
             touched += parameter.as_number().has_value() + parameter.as_re_config().has_value();
+            read_all(parameter.as_registered());
             for (std::uint16_t stream : parameter.reset_streams())
                 touched += stream;
         }
         for (cause cause : chunk.causes()) {
             touch(cause.value());
+            read_all(cause.as_registered());
             for (std::uint16_t type : cause.missing_parameters())
                 touched += type;
         }
@@ -949,7 +972,11 @@ void any_bytes()
                                "000b0013 01020304 0005 0006 00000033 616263 00"
                                "82000018 000d 0014 00000001 00000002 00000003 0004 0005"
                                "0900002b  0002 000a 00000001 0007 0000  0009 0008 00000005  0006 0008 7f000004"
-                               "000a 0004  000d 0007 626164 00 c2000010 0000000a 0001 0001 00000002");
+                               "000a 0004  000d 0007 626164 00 c2000010 0000000a 0001 0001 00000002"
+                               "8000002c 08090a0b c0050008 00000001 c003001c 00000002 00a10014 c0010010 00000002 00050008"
+                               "c0000201 c1000020 08090a0b 00050008 c0000201 c0020010 00000001 00050008 c0000202 0f00000c"
+                               "0102 0003 01020304 01000020 00000001 00000002 0003 0004 00000005 8004 0008 0003 0001"
+                               "0005 0008 c0000201");
     for (std::size_t size = 0; size <= whole.size(); size++)
         for (int round = 0; round < 20; round++) {
             std::unique_ptr<std::uint8_t[]> part(new std::uint8_t[size]);
@@ -1145,6 +1172,267 @@ void rows()
     CHECK(!dcsctp::packet().read(all) && dcsctp::packet().read(all).first_fault()->offset == 0);
 }
 
+// ---- the rest of IANA's registry
+
+enum class level { chunk, parameter, cause };
+
+// An item of a level, how many items and numbers are in it, and its fields.
+struct registered_row {
+    level of;
+    const char *hex;
+    std::vector<std::uint32_t> numbers;
+    const char *address, *rest;
+    std::size_t parameters, causes, short_numbers;
+};
+
+// The packet that has the item alone: a chunk, or a chunk with it as its list.
+bytes packet_of(level of, const bytes &item)
+{
+    static const char digits[] = "0123456789abcdef";
+    std::string text;
+    for (std::uint8_t byte : item)
+        text += {digits[byte >> 4], digits[byte & 15]};
+    const std::size_t size = 4 + item.size();
+    if (of != level::chunk) {
+        const std::string length = {digits[size >> 12 & 15], digits[size >> 8 & 15], digits[size >> 4 & 15], digits[size & 15]};
+        text = (of == level::parameter ? "8200" : "0900") + length + text;
+    }
+    while (text.size() % 8 != 0)
+        text += '0';
+    return sealed(text);
+}
+
+std::optional<registered> read_of(level of, const chunk &chunk)
+{
+    switch (of) {
+    case level::chunk: return chunk.as_registered();
+    case level::parameter: return chunk.parameters().begin()->as_registered();
+    default: return chunk.causes().begin()->as_registered();
+    }
+}
+
+// Writes the item with these fields as `packet_of` has it.
+result write_of(level of, builder &to, const bytes &item, const registered &it)
+{
+    const auto number = static_cast<std::uint16_t>(item[0] << 8 | item[1]);
+    switch (of) {
+    case level::chunk: return to.add_registered(static_cast<chunk_type>(item[0]), it);
+    case level::parameter:
+        if (const result added = to.add_chunk(chunk_type::re_config); !added)
+            return added;
+        return to.add_registered(static_cast<parameter_type>(number), it);
+    default:
+        if (const result added = to.add_chunk(chunk_type::error); !added)
+            return added;
+        return to.add_registered(static_cast<cause_code>(number), it);
+    }
+}
+
+void registered_values()
+{
+    const char *const v4 = "c0000201", *const v6 = "20010db8000000000000000000000001";
+    const registered_row rows[] = {
+        // ECNE and CWR, RFC 4960 appendix A; AUTH, RFC 4895 section 5.1; NR-SACK, draft-tuexen-tsvwg-sctp-multipath
+        {level::chunk, "0c00 0008 01020304", {0x01020304}, "", "", 0, 0, 0},
+        {level::chunk, "0d00 0008 01020304", {0x01020304}, "", "", 0, 0, 0},
+        {level::chunk, "0f00 000c 0102 0003 01020304", {0x0102, 3}, "", "01020304", 0, 0, 0},
+        {level::chunk, "1000 0028 01020304 00050607 0001 0002 0002 0000 0002 0103 0205 0206 0408 0509 01020303 01020204",
+         {0x01020304, 0x00050607, 1, 2, 2}, "", "0002 0103 0205 0206 0408 0509 01020303 01020204", 0, 0, 0},
+        // ASCONF ACK and ASCONF, RFC 5061 section 4.1; PKTDROP, draft-stewart-sctp-pktdrprep; PAD, RFC 4820 section 3
+        {level::chunk, "8000 0024 08090a0b c005 0008 00000001 c003 0014 00000002 00a3 0004 0105 0006 0003 0000", {0x08090a0b},
+         "", "c005 0008 00000001 c003 0014 00000002 00a3 0004 0105 0006 0003 0000", 2, 0, 0},
+        {level::chunk, "8000 0008 08090a0b", {0x08090a0b}, "", "", 0, 0, 0},
+        {level::chunk, "c100 0028 08090a0b 0005 0008 c0000201 c001 0010 00000001 0005 0008 c0000202 c006 0008 00000001",
+         {0x08090a0b}, v4, "c001 0010 00000001 0005 0008 c0000202 c006 0008 00000001", 2, 0, 0},
+        {level::chunk, "c100 001c 08090a0b 0006 0014 20010db8 00000000 00000000 00000001", {0x08090a0b}, v6, "", 0, 0, 0},
+        {level::chunk, "8100 0020 0c0d0e0f 000007d0 05dc 0000 13881389 01020304 00000000 0b000004", {0x0c0d0e0f, 2000, 1500}, "",
+         "13881389 01020304 00000000 0b000004", 0, 0, 0},
+        {level::chunk, "8400 0007 000000", {}, "", "000000", 0, 0, 0},
+        // RFC 9260 sections 3.3.2.1.1 to 3.3.2.1.5 and 3.3.3.1.2
+        {level::parameter, "0005 0008 c0000201", {}, v4, "", 0, 0, 0},
+        {level::parameter, "0006 0014 20010db8 00000000 00000000 00000001", {}, v6, "", 0, 0, 0},
+        {level::parameter, "0008 0009 8008 0005 0f", {}, "", "8008 0005 0f", 1, 0, 0},
+        {level::parameter, "0009 0008 0000ea60", {60000}, "", "", 0, 0, 0},
+        {level::parameter, "000b 000e 612e6578616d706c6500", {}, "", "612e6578616d706c6500", 0, 0, 0},
+        {level::parameter, "000c 0008 0005 0006", {}, "", "0005 0006", 0, 0, 2},
+        // RFC 4960 appendix A; RFC 4895 section 3; RFC 4820 section 4
+        {level::parameter, "8000 0004", {}, "", "", 0, 0, 0},
+        {level::parameter, "8002 000c 0123456789abcdef", {}, "", "0123456789abcdef", 0, 0, 0},
+        {level::parameter, "8003 0006 c180", {}, "", "c180", 0, 0, 0},
+        {level::parameter, "8004 0008 0003 0001", {}, "", "0003 0001", 0, 0, 2},
+        {level::parameter, "8005 000a 000000000000", {}, "", "000000000000", 0, 0, 0},
+        // RFC 5061 section 4.2
+        {level::parameter, "c001 0010 01023474 0005 0008 c0000201", {0x01023474}, v4, "", 0, 0, 0},
+        {level::parameter, "c001 001c 01023474 0006 0014 20010db8 00000000 00000000 00000001", {0x01023474}, v6, "", 0, 0, 0},
+        {level::parameter, "c002 0010 01023476 0005 0008 c0000201", {0x01023476}, v4, "", 0, 0, 0},
+        {level::parameter, "c003 001c 01023476 00a0 0014 c002 0010 01023476 0005 0008 c0000201", {0x01023476}, "",
+         "00a0 0014 c002 0010 01023476 0005 0008 c0000201", 0, 1, 0},
+        {level::parameter, "c004 0010 01023479 0005 0008 c0000201", {0x01023479}, v4, "", 0, 0, 0},
+        {level::parameter, "c005 0008 01023474", {0x01023474}, "", "", 0, 0, 0},
+        {level::parameter, "c006 0008 01020304", {0x01020304}, "", "", 0, 0, 0},
+        // RFC 9260 section 3.3.10, RFC 5061 section 4.3, RFC 4895 section 4.1
+        {level::cause, "0001 0008 0201 0000", {0x0201}, "", "", 0, 0, 0},
+        {level::cause, "0003 0008 0001e240", {123456}, "", "", 0, 0, 0},
+        {level::cause, "0004 0004", {}, "", "", 0, 0, 0},
+        {level::cause, "0005 000e 000b 000a 612e62632e00", {}, "", "000b 000a 612e62632e00", 1, 0, 0},
+        {level::cause, "0007 0004", {}, "", "", 0, 0, 0},
+        {level::cause, "0008 0014 0008 0009 8008 0005 0f000000 c000 0004", {}, "", "0008 0009 8008 0005 0f000000 c000 0004", 2, 0, 0},
+        {level::cause, "000b 000c 0005 0008 c0000201", {}, "", "0005 0008 c0000201", 1, 0, 0},
+        {level::cause, "00a0 0014 c002 0010 00000001 0005 0008 c0000201", {}, "", "c002 0010 00000001 0005 0008 c0000201", 1, 0, 0},
+        {level::cause, "00a1 0014 c001 0010 00000002 0005 0008 c0000201", {}, "", "c001 0010 00000002 0005 0008 c0000201", 1, 0, 0},
+        {level::cause, "00a2 0014 c002 0010 00000003 0005 0008 c0000201", {}, "", "c002 0010 00000003 0005 0008 c0000201", 1, 0, 0},
+        {level::cause, "00a3 0004", {}, "", "", 0, 0, 0},
+        {level::cause, "00a4 0014 c004 0010 00000004 0005 0008 c0000201", {}, "", "c004 0010 00000004 0005 0008 c0000201", 1, 0, 0},
+        {level::cause, "0105 0006 0002", {2}, "", "", 0, 0, 0},
+    };
+    for (const registered_row &row : rows) {
+        const bytes item = of_hex(row.hex), packet = packet_of(row.of, item), address = of_hex(row.address), rest = of_hex(row.rest);
+        const auto read = read_of(row.of, only(packet));
+        registered own({}, address, rest);
+        std::copy(row.numbers.begin(), row.numbers.end(), own.numbers.begin());
+        CHECK(read && read->numbers == own.numbers && same(read->address, address) && same(read->rest, rest)
+              && read->address.size() == address.size() && read->rest.size() == rest.size());
+        CHECK(read->parameters().size() == row.parameters && read->causes().size() == row.causes
+              && read->short_numbers().size() == row.short_numbers);
+        CHECK(read->parameters().to_vector().size() == row.parameters && read->causes().to_vector().size() == row.causes
+              && read->short_numbers().to_vector().size() == row.short_numbers);
+        CHECK(writes(packet, [&](builder &to) { return write_of(row.of, to, item, *read); }));
+        CHECK(writes(packet, [&](builder &to) { return write_of(row.of, to, item, own); }));
+        if (address.empty()) // what isn't carried is ignored
+            own.address = packet;
+        if (!row.numbers.empty())
+            own.numbers[row.numbers.size() == 5 ? 4 : row.numbers.size()] += row.numbers.size() < 5;
+        CHECK(writes(packet, [&](builder &to) { return write_of(row.of, to, item, own); }));
+    }
+
+    // by their names
+    const bytes with_auth = sealed("0f00 0008 0102 0003");
+    const auto auth = only(with_auth).as_registered();
+    CHECK(auth->number("key") == 0x0102u && auth->number("HMAC identifier") == 3u && !auth->number("HMAC") && !auth->number(""));
+    CHECK(!registered({1}).number("key") && registered({1, 2, 3, 4, 5, 6}).numbers[4] == 5);
+    CHECK(registered().parameters().empty() && registered().causes().empty() && registered().short_numbers().empty());
+
+    // another size, a broken list, a type of a kind, or none
+    for (const char *text : {"0c00 0004", "0d00 000c 01020304 00000000", "0f00 0007 0102 00", "1000 0013 01020304 00050607 0000 0000 0000 00",
+                             "1000 0014 01020304 00050607 ffff ffff ffff 0000", "8000 000b 08090a0b c005 00", "8100 000f 0c0d0e0f 000007d0 0000 00",
+                             "c100 0008 08090a0b", "c100 0010 08090a0b c006 0008 00000001", "c100 0016 08090a0b 0005 0008 c0000201 c006 0008 0000",
+                             "0b00 0004", "3e00 0008 01020304"})
+        CHECK(!read_of(level::chunk, only(packet_of(level::chunk, of_hex(text)))));
+    for (const char *text : {"0005 0007 c00002", "0005 0009 c000020100", "0006 0008 c0000201", "0008 0008 8008 0003", "0009 0007 00ea60",
+                             "000c 0007 0005 00", "8000 0005 00", "8004 0005 00", "c001 0008 01023474", "c001 000e 01023474 000b 0006 6100",
+                             "c001 0011 01023474 0005 0008 c0000201 00", "c003 000b 01023476 00a0 00", "c005 0004", "0007 0008 01020304", "8006 0004"})
+        CHECK(!read_of(level::parameter, only(packet_of(level::parameter, of_hex(text)))));
+    for (const char *text : {"0001 0006 0201", "0003 0007 0001e2", "0004 0005 00", "0005 0007 000b 00", "00a0 0013 c002 0010 00000001 0005 0008 c00002",
+                             "00a3 000c c005 0008 00000001", "0105 0008 0002 0000", "0009 0008 00000001", "0010 0004"})
+        CHECK(!read_of(level::cause, only(packet_of(level::cause, of_hex(text)))));
+}
+
+void registered_lists()
+{
+    // A refusal in an ASCONF ACK: the places are in the packet, and what is in an item is read of the item.
+    const bytes packet = sealed("8000 0034 08090a0b c003 0024 00000002 00a1 0014 c001 0010 00000002 0005 0008 c0000201"
+                                "0007 0004 0004 0004 c005 0008 00000001");
+    const auto responses = only(packet).as_registered()->parameters();
+    CHECK(responses.size() == 2 && responses.begin()->offset() == 20 && responses.begin()->next_offset() == 56);
+    CHECK(responses.at(56)->type() == parameter_type::success_indication && !responses.at(64));
+    const auto causes = responses.begin()->as_registered()->causes();
+    std::vector<cause_code> codes;
+    for (cause cause : causes)
+        codes.push_back(cause.code());
+    CHECK(codes == std::vector{cause_code::operation_refused, cause_code::invalid_mandatory_parameter, cause_code::out_of_resource});
+    CHECK(causes.begin()->offset() == 28 && !causes.at(56));
+    const auto refused = *causes.begin()->as_registered()->parameters().begin();
+    CHECK(refused.offset() == 32 && refused.as_registered()->number("request") == 2u
+          && same(refused.as_registered()->address, of_hex("c0000201")));
+    CHECK(causes.begin()->as_registered()->causes().empty() && responses.begin()->as_registered()->parameters().empty());
+
+    // of a type and bytes; numbers by index, of an odd value none
+    const bytes value = of_hex("0003 0001 ffff");
+    const auto hmacs = parameter(parameter_type::requested_hmac_algorithm, value).as_registered()->short_numbers();
+    CHECK(hmacs.to_vector() == std::vector<std::uint16_t>{3, 1, 0xffff} && hmacs.at(1) == 1 && !hmacs.at(3));
+    CHECK(cause(cause_code::stale_cookie, of_hex("0001e240")).as_registered()->numbers[0] == 123456);
+
+    // As many lists in one another as a parameter has room for: each read goes one level deeper.
+    bytes deep;
+    for (std::size_t size = 65528; size >= 4; size -= 4)
+        deep.insert(deep.end(), {0, 8, static_cast<std::uint8_t>(size >> 8), static_cast<std::uint8_t>(size)});
+    std::size_t depth = 0;
+    for (auto it = std::optional(parameter(parameter_type::unrecognized_parameter, deep)); it;) {
+        const auto inside = it->as_registered()->parameters();
+        it = inside.empty() ? std::nullopt : std::optional(*inside.begin());
+        depth++;
+    }
+    CHECK(depth == 65528 / 4 + 1);
+}
+
+void registered_refusals()
+{
+    const bytes v4 = of_hex("c0000201"), v6(16), odd(5), broken = of_hex("c006 0008 0000"), one(1), many(65532);
+    std::array<std::uint8_t, 200> buffer{};
+    builder to(buffer, 1, 2, 3);
+    CHECK(to.add_registered(parameter_type::ipv4_address, {{}, v4}).code() == result_code::bad_place);
+    CHECK(to.add_registered(cause_code::out_of_resource, {}).code() == result_code::bad_place);
+    CHECK(to.add_init({1, 2, 3, 4, 5}));
+    const auto before = buffer;
+    for (const result refused :
+         {to.add_registered(chunk_type::data, {}), to.add_registered(static_cast<chunk_type>(63), {}),
+          to.add_registered(parameter_type::state_cookie, {}), to.add_registered(static_cast<parameter_type>(0xffff), {}),
+          to.add_registered(cause_code::no_user_data, {}), to.add_registered(static_cast<cause_code>(0xffff), {}),
+          // a number that has no room; an address that is missing or of another size
+          to.add_registered(chunk_type::auth, {0x10000, 1}), to.add_registered(chunk_type::auth, {1, 0x10000}),
+          to.add_registered(cause_code::invalid_stream_identifier, {0x10000}), to.add_registered(chunk_type::asconf, {1}),
+          to.add_registered(chunk_type::asconf, {{1}, odd}), to.add_registered(parameter_type::ipv4_address, {}),
+          to.add_registered(parameter_type::ipv4_address, {{}, v6}), to.add_registered(parameter_type::ipv6_address, {{}, v4}),
+          to.add_registered(parameter_type::add_ip_address, {{1}, odd}),
+          // a rest that isn't allowed; what lies in the buffer
+          to.add_registered(chunk_type::asconf_ack, {{1}, {}, one}), to.add_registered(chunk_type::asconf, {{1}, v4, broken}),
+          to.add_registered(chunk_type::nr_sack, {1, 2, 1}), to.add_registered(parameter_type::supported_address_types, {{}, {}, one}),
+          to.add_registered(parameter_type::padding, {{}, {}, many}),
+          to.add_registered(parameter_type::random, {{}, {}, view<std::uint8_t>(buffer).subspan(4, 4)}),
+          to.add_registered(parameter_type::ipv4_address, {{}, view<std::uint8_t>(buffer).subspan(4, 4)})})
+        CHECK(refused.code() == result_code::bad_value);
+    CHECK(to.add_registered(parameter_type::padding, {{}, {}, bytes_view(many).subspan(0, 165)}).code() == result_code::no_room);
+    CHECK(to.add_registered(chunk_type::pad, {{}, {}, bytes_view(many).subspan(0, 165)}).code() == result_code::no_room);
+    CHECK(buffer == before && to.size() == 32);
+    CHECK(to.add_registered(chunk_type::pad, {{}, {}, bytes_view(many).subspan(0, 164)}) && to.last_chunk()->type() == chunk_type::pad);
+}
+
+// The bytes are those that Python's struct and hmac give for the layouts of RFC 4895 section 5.1, RFC 5061 sections 4.1.1 and 4.2.1,
+// and RFC 9260 section 3.3.2: the HMAC is by SHA-256, under the key "a shared key".
+void addresses()
+{
+    const bytes own = of_hex("c0000201"), added = of_hex("20010db8 00000000 00000000 00000002"),
+                mac = of_hex("676613796471a04ebc5a838c4550c8b885649ca97e836d58111df6a5351d06e7");
+    bytes packet;
+    builder asconf(packet, 5000, 5000, 0x4d2df52d);
+    CHECK(asconf.add_registered(chunk_type::auth, {{0, 3}, {}, bytes(32)}));
+    CHECK(asconf.add_registered(chunk_type::asconf, {{0x66e387ab}, own}));
+    CHECK(asconf.add_registered(parameter_type::add_ip_address, {{1}, added}));
+    CHECK(same(asconf.bytes().subspan(12, 40), of_hex("0f000028 00000003" + std::string(64, '0'))));
+    const auto auth = dcsctp::packet(asconf.bytes()).chunk_at(DCSCTP_FIRST_CHUNK)->as_registered();
+    std::copy(mac.begin(), mac.end(), asconf.bytes().data() + (auth->rest.data() - asconf.bytes().data()));
+    CHECK(asconf.seal() && packet == of_hex(
+        "138813884d2df52deb004beb0f00002800000003676613796471a04ebc5a838c4550c8b885649ca97e836d58111df6a5351d06e7c100002c"
+        "66e387ab00050008c0000201c001001c000000010006001420010db8000000000000000000000002"));
+    const auto chunks = dcsctp::packet(packet).chunks();
+    const auto request = *chunks.at(52)->as_registered()->parameters().begin();
+    CHECK(same(chunks.begin()->as_registered()->rest, mac) && chunks.at(52)->as_registered()->number("sequence number") == 0x66e387abu);
+    CHECK(request.type() == parameter_type::add_ip_address && same(request.as_registered()->address, added));
+
+    builder init(packet, 5000, 5000, 0);
+    const std::vector<bytes> all = {own, of_hex("c6336401"), of_hex("20010db8 00000000 00000000 00000001"), added};
+    CHECK(init.add_init({0x0da73798, 0x20000, 4, 4, 0x66e387ab}));
+    for (const bytes &it : all)
+        CHECK(init.add_registered(it.size() == 4 ? parameter_type::ipv4_address : parameter_type::ipv6_address, {{}, it}));
+    CHECK(init.seal() && packet == of_hex(
+        "13881388000000001284eab20100004c0da73798000200000004000466e387ab00050008c000020100050008c63364010006001420010db8"
+        "0000000000000000000000010006001420010db8000000000000000000000002"));
+    std::size_t i = 0;
+    for (parameter it : only(packet).parameters())
+        CHECK(same(it.as_registered()->address, all[i++]));
+    CHECK(i == 4);
+}
+
 } // namespace
 
 int main()
@@ -1171,6 +1459,10 @@ int main()
     unchecked();
     stacks();
     rows();
+    registered_values();
+    registered_lists();
+    registered_refusals();
+    addresses();
     any_bytes();
     std::printf("cpp: %d passed, %d failed\n", passed, failed);
     return failed != 0;

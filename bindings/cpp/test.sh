@@ -20,9 +20,9 @@ done
 work=$(mktemp -d)
 trap 'rm -rf "$work"' EXIT
 
-# Comments and the names of structs aside, each function has to be called, but for one that the texts alone need,
-# dcsctp_read_many, whose rows are read as those of dcsctp_read, and what reads the rest of the registry.
-left_out='named|read_many|item_at|items|short_numbers|registered_chunk|registered_parameter|registered_cause'
+# Comments and the names of structs aside, each function has to be called, but for one that the texts alone need, and
+# dcsctp_read_many, whose rows are read as those of dcsctp_read.
+left_out='named|read_many'
 functions=$(sed -E ':a; s%/\*.*\*/%%; /\/\*/{N; ba}' "$dist/dcsctp.h" | grep -oE '\bdcsctp_[a-z_]+\(' | grep -vE "^dcsctp_($left_out)\(" | sort -u)
 [ "$(wc -l <<<"$functions")" -ge 50 ] || { echo "bindings/cpp: $dist/dcsctp.h has too few functions" >&2 && exit 1; }
 sed 's%//.*%%' dcsctp.hpp >"$work/code"
@@ -36,7 +36,7 @@ done
     sed -n '/^```cpp$/,/^```$/{/^```/!p}' README.md
     printf '}\n'
 } >"$work/readme.cc"
-printf 'INIT ACK: State Cookie\n' >"$work/readme.expected"
+printf 'INIT ACK: State Cookie\nAdd IP Address: 1\n' >"$work/readme.expected"
 
 flags=(-Wall -Wextra -Wpedantic -Wconversion -Wshadow -Werror -I . -I "$dist")
 sanitizers=(-g -fsanitize=address,undefined -fno-sanitize-recover=all)

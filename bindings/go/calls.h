@@ -141,6 +141,30 @@ LISTS(skipped_streams, dcsctp_chunk)
 LISTS(parameters, dcsctp_chunk)
 LISTS(reset_streams, dcsctp_parameter)
 LISTS(missing_parameters, dcsctp_parameter)
+LISTS(short_numbers, dcsctp_parameter)
+
+/* The parameters or error causes from an offset up to the end of some bytes, likewise. */
+static inline size_t go_items(const uint8_t *bytes, size_t end, size_t offset, void *items, size_t count)
+{
+    return dcsctp_items(bytes, end, offset, items, count);
+}
+
+/* What the rest of the registry has, if it is there. */
+struct go_registered {
+    bool is_there;
+    struct dcsctp_registered it;
+};
+
+#define READS_REGISTERED(level, owner)                                                                                 \
+    static inline struct go_registered go_registered_##level(const uint8_t *bytes, size_t length, struct owner of)     \
+    {                                                                                                                  \
+        struct go_registered result = {0};                                                                             \
+        result.is_there = dcsctp_registered_##level(bytes, length, &of, &result.it);                                   \
+        return result;                                                                                                 \
+    }
+READS_REGISTERED(chunk, dcsctp_chunk)
+READS_REGISTERED(parameter, dcsctp_parameter)
+READS_REGISTERED(cause, dcsctp_parameter)
 
 struct go_header {
     bool is_there;
@@ -201,5 +225,14 @@ ADD(add_number, (TO, size_t start, uint16_t type, uint32_t number), start, type,
 ADD(add_re_config, (TO, size_t start, const struct dcsctp_re_config *re_config, const uint16_t *streams, size_t count),
     start, re_config, streams, count)
 ADD(add_missing_parameters, (TO, size_t start, const uint16_t *types, size_t count), start, types, count)
+ADD(add_registered_chunk,
+    (TO, uint8_t type, struct dcsctp_registered registered, const uint8_t *bytes, size_t count), type, &registered, bytes,
+    count)
+#define ADD_REGISTERED_ITEM(level)                                                                                     \
+    ADD(add_registered_##level,                                                                                        \
+        (TO, size_t start, uint16_t type, struct dcsctp_registered registered, const uint8_t *bytes, size_t count),    \
+        start, type, &registered, bytes, count)
+ADD_REGISTERED_ITEM(parameter)
+ADD_REGISTERED_ITEM(cause)
 
 #endif

@@ -43,6 +43,8 @@
 //   - HEARTBEAT: AddHeartbeatAck of its Heartbeat Info's Value
 //   - RE-CONFIG: AddChunk(ChunkReConfig, 0, nil), and AddReConfig of a response to each request in it; a response has no
 //     answer
+//   - ASCONF, after an AUTH whose HMAC is right: AddRegisteredChunk(ChunkASCONFAck, ..) with its sequence number, and
+//     AddRegisteredParameter of a Success Indication or an Error Cause Indication
 //   - SHUTDOWN: AddShutdownAck, once all that was sent is acknowledged
 //   - SHUTDOWN ACK: AddShutdownComplete
 //   - ABORT, SHUTDOWN COMPLETE: nothing

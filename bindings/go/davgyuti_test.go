@@ -642,7 +642,7 @@ func TestReadme(t *testing.T) {
 		t.Fatal(err)
 	}
 	programs := regexp.MustCompile("(?s)```go\n(.*?)```").FindAllSubmatch(readme, -1)
-	equal(t, "programs", len(programs), 2)
+	equal(t, "programs", len(programs), 3)
 	for _, program := range programs {
 		if !bytes.Contains(example, program[1]) {
 			t.Errorf("README.md has another program: %s", program[1])

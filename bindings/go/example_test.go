@@ -3,10 +3,13 @@
 package davgyuti_test
 
 import (
+	"crypto/hmac"
+	"crypto/sha256"
 	"encoding/base64"
 	"encoding/hex"
 	"errors"
 	"fmt"
+	"net/netip"
 
 	"davgyuti.example/davgyuti"
 )
@@ -58,6 +61,88 @@ func ExampleReadChunk() {
 	init, parameters, err := initOf(bytes)
 	fmt.Printf("%#x %v %v\n", init.InitiateTag, parameters, err)
 	// Output: 0x55841275 [Forward-TSN-Supported size=0 Supported Extensions size=2] <nil>
+}
+
+// asconf returns an ASCONF that adds an address, after an AUTH with its HMAC (RFC 5061 section 4.1.1, RFC 4895 section 6.2).
+func asconf(tag, serial uint32, own, added netip.Addr, key []byte) ([]byte, error) {
+	packet, err := davgyuti.Begin(make([]byte, 1200), 5000, 5000, tag)
+	if err == nil { // SHA-256; the HMAC is computed with zeros in its place
+		auth := davgyuti.Registered{Numbers: []uint32{0, 3}, Rest: make([]byte, sha256.Size)}
+		err = packet.AddRegisteredChunk(davgyuti.ChunkAuth, auth)
+	}
+	if err == nil {
+		err = packet.AddRegisteredChunk(davgyuti.ChunkASCONF, davgyuti.Registered{Numbers: []uint32{serial}, Address: own})
+	}
+	if err == nil {
+		request := davgyuti.Registered{Numbers: []uint32{1}, Address: added}
+		err = packet.AddRegisteredParameter(davgyuti.ParameterAddIPAddress, request)
+	}
+	if err != nil {
+		return nil, err
+	}
+	sum := hmac.New(sha256.New, key)
+	sum.Write(packet.Bytes()[davgyuti.FirstChunk:])
+	first, _ := davgyuti.Packet(packet.Bytes()).ChunkAt(davgyuti.FirstChunk)
+	auth, _ := first.Registered()
+	copy(auth.Rest, sum.Sum(nil)) // where it lies in the packet
+	return packet.Bytes(), packet.Seal()
+}
+
+// addresses returns those of an INIT or an INIT ACK, and of the requests of an ASCONF.
+func addresses(chunk davgyuti.Chunk) (all []netip.Addr) {
+	parameters := chunk.Parameters()
+	if it, ok := chunk.Registered(); ok {
+		parameters = it.Parameters()
+	}
+	for parameters.Next() {
+		if it, ok := parameters.Value().Registered(); ok && it.Address.IsValid() {
+			all = append(all, it.Address)
+		}
+	}
+	return all
+}
+
+// The bytes are those that Python's struct and hmac give for the layouts of RFC 4895 section 5.1 and RFC 5061 sections 4.1.1
+// and 4.2.1.
+func ExampleBuilder_AddRegisteredChunk() {
+	own, added := netip.MustParseAddr("192.0.2.1"), netip.MustParseAddr("2001:db8::2")
+	packet, err := asconf(0x4d2df52d, 0x66e387ab, own, added, []byte("a shared key"))
+	fmt.Printf("%x %v\n", packet, err)
+	for chunks := davgyuti.Packet(packet).Chunks(); chunks.Next(); {
+		it, _ := chunks.Value().Registered()
+		fmt.Println(chunks.Value().Type, it, addresses(chunks.Value()))
+	}
+	// Output:
+	// 138813884d2df52deb004beb0f00002800000003676613796471a04ebc5a838c4550c8b885649ca97e836d58111df6a5351d06e7c100002c66e387ab00050008c0000201c001001c000000010006001420010db8000000000000000000000002 <nil>
+	// AUTH key=0 HMAC identifier=3 HMAC=32 bytes []
+	// ASCONF sequence number=1726187435 address=192.0.2.1 parameters=28 bytes [2001:db8::2]
+}
+
+// An INIT with the addresses of its sender (RFC 9260 section 3.3.2.1).
+func ExampleBuilder_AddRegisteredParameter() {
+	packet, err := davgyuti.Begin(make([]byte, 1200), 5000, 5000, 0)
+	if err == nil {
+		err = packet.AddInit(davgyuti.Init{InitiateTag: 0x0da73798, ARwnd: 1 << 17, OutboundStreams: 4, InboundStreams: 4,
+			InitialTSN: 0x66e387ab})
+	}
+	for _, text := range []string{"192.0.2.1", "198.51.100.1", "2001:db8::1", "2001:db8::2"} {
+		it := davgyuti.Registered{Address: netip.MustParseAddr(text)}
+		parameterType := davgyuti.ParameterIPv6Address
+		if it.Address.Is4() {
+			parameterType = davgyuti.ParameterIPv4Address
+		}
+		if err == nil {
+			err = packet.AddRegisteredParameter(parameterType, it)
+		}
+	}
+	if err == nil {
+		err = packet.Seal()
+	}
+	init, _ := packet.LastChunk()
+	fmt.Printf("%x %v\n%v\n", packet.Bytes(), err, addresses(init))
+	// Output:
+	// 13881388000000001284eab20100004c0da73798000200000004000466e387ab00050008c000020100050008c63364010006001420010db80000000000000000000000010006001420010db8000000000000000000000002 <nil>
+	// [192.0.2.1 198.51.100.1 2001:db8::1 2001:db8::2]
 }
 
 func ExamplePacket_Check() {

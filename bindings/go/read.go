@@ -487,19 +487,24 @@ type item struct {
 
 // items goes over the parameters, or the error causes, if this is what the chunk has.
 func items[T any](chunk Chunk, areThere bool, value func(item, int) T) *Iterator[T] {
+	bytes, length, c := chunk.inC()
+	return itemsOf(chunk.packet, areThere, func(to unsafe.Pointer, room C.size_t) C.size_t {
+		return C.go_parameters(bytes, length, c, to, room)
+	}, value)
+}
+
+// itemsOf goes over the items of a list of a packet that C writes, if they are there.
+func itemsOf[T any](packet Packet, areThere bool, fill func(unsafe.Pointer, C.size_t) C.size_t, value func(item, int) T) *Iterator[T] {
 	if !areThere {
 		return &Iterator[T]{}
 	}
-	bytes, length, c := chunk.inC()
-	all := listed[C.struct_dcsctp_parameter](func(to unsafe.Pointer, room C.size_t) C.size_t {
-		return C.go_parameters(bytes, length, c, to, room)
-	})
+	all := listed[C.struct_dcsctp_parameter](fill)
 	return &Iterator[T]{read: func() (none T, isThere bool) {
 		if !all.Next() {
 			return none, false
 		}
 		it := all.Value()
-		return value(item{chunk.packet, it}, int(it.value_offset)-4), true
+		return value(item{packet, it}, int(it.value_offset)-4), true
 	}}
 }
 

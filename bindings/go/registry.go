@@ -282,3 +282,56 @@ func (r ReConfigResult) name() string {
 	}
 	return ""
 }
+
+// The fields of each chunk that Registered reads, in the order of its value.
+var registeredChunks = layouts{
+	{uint16(ChunkECNE), []field{{"lowest TSN", ofU32}}},
+	{uint16(ChunkCWR), []field{{"lowest TSN", ofU32}}},
+	{uint16(ChunkAuth), []field{{"key", ofU16}, {"HMAC identifier", ofU16}, {"HMAC", ofBytes}}},
+	{uint16(ChunkNRSACK), []field{{"TSN", ofU32}, {"a_rwnd", ofU32}, {"counts", ofU16}, {"counts", ofU16},
+		{"counts", ofU16}, {"lists", ofBytes}}},
+	{uint16(ChunkASCONFAck), []field{{"sequence number", ofU32}, {"parameters", ofParameters}}},
+	{uint16(ChunkPKTDROP), []field{{"bandwidth", ofU32}, {"queued", ofU32}, {"size", ofU16},
+		{"packet", ofBytes}}},
+	{uint16(ChunkPad), []field{{"bytes", ofBytes}}},
+	{uint16(ChunkASCONF), []field{{"sequence number", ofU32}, {"address", ofAddress},
+		{"parameters", ofParameters}}},
+}
+
+// The fields of each parameter that Registered reads, in the order of its value.
+var registeredParameters = layouts{
+	{uint16(ParameterIPv4Address), []field{{"address", ofAddress}}},
+	{uint16(ParameterIPv6Address), []field{{"address", ofAddress}}},
+	{uint16(ParameterUnrecognizedParameter), []field{{"parameters", ofParameters}}},
+	{uint16(ParameterCookiePreservative), []field{{"milliseconds", ofU32}}},
+	{uint16(ParameterHostNameAddress), []field{{"name", ofBytes}}},
+	{uint16(ParameterSupportedAddressTypes), []field{{"types", ofShortNumbers}}},
+	{uint16(ParameterECNCapable), []field{}},
+	{uint16(ParameterRandom), []field{{"bytes", ofBytes}}},
+	{uint16(ParameterChunkList), []field{{"types", ofBytes}}},
+	{uint16(ParameterRequestedHMACAlgorithm), []field{{"HMACs", ofShortNumbers}}},
+	{uint16(ParameterPadding), []field{{"bytes", ofBytes}}},
+	{uint16(ParameterAddIPAddress), []field{{"request", ofU32}, {"address", ofAddress}}},
+	{uint16(ParameterDeleteIPAddress), []field{{"request", ofU32}, {"address", ofAddress}}},
+	{uint16(ParameterErrorCauseIndication), []field{{"request", ofU32}, {"causes", ofCauses}}},
+	{uint16(ParameterSetPrimaryAddress), []field{{"request", ofU32}, {"address", ofAddress}}},
+	{uint16(ParameterSuccessIndication), []field{{"request", ofU32}}},
+	{uint16(ParameterAdaptationLayerIndication), []field{{"code", ofU32}}},
+}
+
+// The fields of each cause that Registered reads, in the order of its value.
+var registeredCauses = layouts{
+	{uint16(CauseInvalidStreamIdentifier), []field{{"stream", ofU16}}},
+	{uint16(CauseStaleCookie), []field{{"microseconds", ofU32}}},
+	{uint16(CauseOutOfResource), []field{}},
+	{uint16(CauseUnresolvableAddress), []field{{"parameters", ofParameters}}},
+	{uint16(CauseInvalidMandatoryParameter), []field{}},
+	{uint16(CauseUnrecognizedParameters), []field{{"parameters", ofParameters}}},
+	{uint16(CauseRestartWithNewAddresses), []field{{"parameters", ofParameters}}},
+	{uint16(CauseDeleteLastRemainingIPAddress), []field{{"parameters", ofParameters}}},
+	{uint16(CauseOperationRefused), []field{{"parameters", ofParameters}}},
+	{uint16(CauseDeleteSourceIPAddress), []field{{"parameters", ofParameters}}},
+	{uint16(CauseIllegalASCONFAck), []field{}},
+	{uint16(CauseRequestRefused), []field{{"parameters", ofParameters}}},
+	{uint16(CauseUnsupportedHMACIdentifier), []field{{"HMAC", ofU16}}},
+}

@@ -7,8 +7,9 @@ import "C"
 
 import "unsafe"
 
-// A Builder writes a packet into a buffer of the caller: AddParameter, AddCause, AddNumber, AddCauseNumber, AddReConfig and
-// AddMissingParameters add to the last chunk's list, and each other Add function adds a chunk. Each returns nil; or it changes
+// A Builder writes a packet into a buffer of the caller: AddParameter, AddCause, AddNumber, AddCauseNumber, AddReConfig,
+// AddMissingParameters, AddRegisteredParameter and AddRegisteredCause add to the last chunk's list, and each other Add function
+// adds a chunk. Each returns nil; or it changes
 // nothing, and returns why:
 //
 //	ErrBadPlace  there is no chunk to add to

@@ -143,6 +143,91 @@ export const ReConfigResult: {
   readonly IN_PROGRESS: 6;
 };
 export type ReConfigResult = Of<typeof ReConfigResult>;
+/** What a chunk of these types holds. */
+export interface ChunkFields {
+  /** ECNE (RFC 4960 appendix A). */
+  12: { lowestTsn: number };
+  /** CWR (RFC 4960 appendix A). */
+  13: { lowestTsn: number };
+  /** AUTH (RFC 4895 section 5.1). */
+  15: { key: number; hmacIdentifier: number; hmac: Uint8Array };
+  /** NR-SACK (draft-tuexen-tsvwg-sctp-multipath). */
+  16: { tsn: number; aRwnd: number; counts: [number, number, number]; lists: Uint8Array };
+  /** ASCONF ACK (RFC 5061 section 4.1.2). */
+  128: { sequenceNumber: number; parameters: Parameter[] };
+  /** PKTDROP (draft-stewart-sctp-pktdrprep). */
+  129: { bandwidth: number; queued: number; size: number; packet: Uint8Array };
+  /** PAD (RFC 4820 section 3). */
+  132: { bytes: Uint8Array };
+  /** ASCONF (RFC 5061 section 4.1.1). */
+  193: { sequenceNumber: number; address: string; addressBytes: Uint8Array; parameters: Parameter[] };
+}
+/** What a parameter of these types holds. */
+export interface ParameterFields {
+  /** IPv4 Address (RFC 9260 section 3.3.2.1.1). */
+  5: { address: string; addressBytes: Uint8Array };
+  /** IPv6 Address (RFC 9260 section 3.3.2.1.2). */
+  6: { address: string; addressBytes: Uint8Array };
+  /** Unrecognized Parameter (RFC 9260 section 3.3.3.1.2). */
+  8: { parameters: Parameter[] };
+  /** Cookie Preservative (RFC 9260 section 3.3.2.1.3). */
+  9: { milliseconds: number };
+  /** Host Name Address (RFC 9260 section 3.3.2.1.4). */
+  11: { name: Uint8Array };
+  /** Supported Address Types (RFC 9260 section 3.3.2.1.5). */
+  12: { types: number[] };
+  /** ECN Capable (RFC 4960 appendix A). */
+  0x8000: {};
+  /** Random (RFC 4895 section 3.1). */
+  0x8002: { bytes: Uint8Array };
+  /** Chunk List (RFC 4895 section 3.2). */
+  0x8003: { types: Uint8Array };
+  /** Requested HMAC Algorithm (RFC 4895 section 3.3). */
+  0x8004: { hmacs: number[] };
+  /** Padding (RFC 4820 section 4). */
+  0x8005: { bytes: Uint8Array };
+  /** Add IP Address (RFC 5061 section 4.2.1). */
+  0xc001: { request: number; address: string; addressBytes: Uint8Array };
+  /** Delete IP Address (RFC 5061 section 4.2.2). */
+  0xc002: { request: number; address: string; addressBytes: Uint8Array };
+  /** Error Cause Indication (RFC 5061 section 4.2.3). */
+  0xc003: { request: number; causes: Cause[] };
+  /** Set Primary Address (RFC 5061 section 4.2.4). */
+  0xc004: { request: number; address: string; addressBytes: Uint8Array };
+  /** Success Indication (RFC 5061 section 4.2.5). */
+  0xc005: { request: number };
+  /** Adaptation Layer Indication (RFC 5061 section 4.2.6). */
+  0xc006: { code: number };
+}
+/** What an error cause of these codes holds. */
+export interface CauseFields {
+  /** Invalid Stream Identifier (RFC 9260 section 3.3.10.1). */
+  1: { stream: number };
+  /** Stale Cookie (RFC 9260 section 3.3.10.3). */
+  3: { microseconds: number };
+  /** Out of Resource (RFC 9260 section 3.3.10.4). */
+  4: {};
+  /** Unresolvable Address (RFC 9260 section 3.3.10.5). */
+  5: { parameters: Parameter[] };
+  /** Invalid Mandatory Parameter (RFC 9260 section 3.3.10.7). */
+  7: {};
+  /** Unrecognized Parameters (RFC 9260 section 3.3.10.8). */
+  8: { parameters: Parameter[] };
+  /** Restart of an Association with New Addresses (RFC 9260 section 3.3.10.11). */
+  11: { parameters: Parameter[] };
+  /** Request to Delete Last Remaining IP Address (RFC 5061 section 4.3.1). */
+  0xa0: { parameters: Parameter[] };
+  /** Operation Refused Due to Resource Shortage (RFC 5061 section 4.3.2). */
+  0xa1: { parameters: Parameter[] };
+  /** Request to Delete Source IP Address (RFC 5061 section 4.3.3). */
+  0xa2: { parameters: Parameter[] };
+  /** Association Aborted due to illegal ASCONF-ACK (RFC 5061 section 4.3.4). */
+  0xa3: {};
+  /** Request refused - no authorization (RFC 5061 section 4.3.5). */
+  0xa4: { parameters: Parameter[] };
+  /** Unsupported HMAC Identifier (RFC 4895 section 4.1). */
+  0x105: { hmac: number };
+}
 // end of what registry/make.py generates
 /** What a result means, in a few words. */
 export function resultText(code: number): string;

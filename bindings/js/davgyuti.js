@@ -200,6 +200,53 @@ const CAUSE_NAMES = new Map([
   [CauseCode.REQUEST_REFUSED, 'Request refused - no authorization'],
   [CauseCode.UNSUPPORTED_HMAC_IDENTIFIER, 'Unsupported HMAC Identifier'],
 ]);
+
+const CHUNK_FIELDS = new Map([
+  [ChunkType.ECNE, [['lowestTsn', 'u32']]],
+  [ChunkType.CWR, [['lowestTsn', 'u32']]],
+  [ChunkType.AUTH, [['key', 'u16'], ['hmacIdentifier', 'u16'], ['hmac', 'bytes']]],
+  [ChunkType.NR_SACK, [['tsn', 'u32'], ['aRwnd', 'u32'], ['counts', 'u16', 'u16', 'u16'], ['lists', 'bytes']]],
+  [ChunkType.ASCONF_ACK, [['sequenceNumber', 'u32'], ['parameters', 'parameters']]],
+  [ChunkType.PKTDROP, [['bandwidth', 'u32'], ['queued', 'u32'], ['size', 'u16'], ['packet', 'bytes']]],
+  [ChunkType.PAD, [['bytes', 'bytes']]],
+  [ChunkType.ASCONF, [['sequenceNumber', 'u32'], ['address', 'address'], ['parameters', 'parameters']]],
+]);
+
+const PARAMETER_FIELDS = new Map([
+  [ParameterType.IPV4_ADDRESS, [['address', 'address']]],
+  [ParameterType.IPV6_ADDRESS, [['address', 'address']]],
+  [ParameterType.UNRECOGNIZED_PARAMETER, [['parameters', 'parameters']]],
+  [ParameterType.COOKIE_PRESERVATIVE, [['milliseconds', 'u32']]],
+  [ParameterType.HOST_NAME_ADDRESS, [['name', 'bytes']]],
+  [ParameterType.SUPPORTED_ADDRESS_TYPES, [['types', 'shorts']]],
+  [ParameterType.ECN_CAPABLE, []],
+  [ParameterType.RANDOM, [['bytes', 'bytes']]],
+  [ParameterType.CHUNK_LIST, [['types', 'bytes']]],
+  [ParameterType.REQUESTED_HMAC_ALGORITHM, [['hmacs', 'shorts']]],
+  [ParameterType.PADDING, [['bytes', 'bytes']]],
+  [ParameterType.ADD_IP_ADDRESS, [['request', 'u32'], ['address', 'address']]],
+  [ParameterType.DELETE_IP_ADDRESS, [['request', 'u32'], ['address', 'address']]],
+  [ParameterType.ERROR_CAUSE_INDICATION, [['request', 'u32'], ['causes', 'causes']]],
+  [ParameterType.SET_PRIMARY_ADDRESS, [['request', 'u32'], ['address', 'address']]],
+  [ParameterType.SUCCESS_INDICATION, [['request', 'u32']]],
+  [ParameterType.ADAPTATION_LAYER_INDICATION, [['code', 'u32']]],
+]);
+
+const CAUSE_FIELDS = new Map([
+  [CauseCode.INVALID_STREAM_IDENTIFIER, [['stream', 'u16']]],
+  [CauseCode.STALE_COOKIE, [['microseconds', 'u32']]],
+  [CauseCode.OUT_OF_RESOURCE, []],
+  [CauseCode.UNRESOLVABLE_ADDRESS, [['parameters', 'parameters']]],
+  [CauseCode.INVALID_MANDATORY_PARAMETER, []],
+  [CauseCode.UNRECOGNIZED_PARAMETERS, [['parameters', 'parameters']]],
+  [CauseCode.RESTART_WITH_NEW_ADDRESSES, [['parameters', 'parameters']]],
+  [CauseCode.DELETE_LAST_REMAINING_IP_ADDRESS, [['parameters', 'parameters']]],
+  [CauseCode.OPERATION_REFUSED, [['parameters', 'parameters']]],
+  [CauseCode.DELETE_SOURCE_IP_ADDRESS, [['parameters', 'parameters']]],
+  [CauseCode.ILLEGAL_ASCONF_ACK, []],
+  [CauseCode.REQUEST_REFUSED, [['parameters', 'parameters']]],
+  [CauseCode.UNSUPPORTED_HMAC_IDENTIFIER, [['hmac', 'u16']]],
+]);
 // end of what registry/make.py generates
 
 const RESULT_TEXTS = [
