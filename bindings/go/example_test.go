@@ -107,13 +107,14 @@ func addresses(chunk davgyuti.Chunk) (all []netip.Addr) {
 func ExampleBuilder_AddRegisteredChunk() {
 	own, added := netip.MustParseAddr("192.0.2.1"), netip.MustParseAddr("2001:db8::2")
 	packet, err := asconf(0x4d2df52d, 0x66e387ab, own, added, []byte("a shared key"))
-	fmt.Printf("%x %v\n", packet, err)
+	fmt.Printf("%x\n%x %v\n", packet[:52], packet[52:], err)
 	for chunks := davgyuti.Packet(packet).Chunks(); chunks.Next(); {
 		it, _ := chunks.Value().Registered()
 		fmt.Println(chunks.Value().Type, it, addresses(chunks.Value()))
 	}
 	// Output:
-	// 138813884d2df52deb004beb0f00002800000003676613796471a04ebc5a838c4550c8b885649ca97e836d58111df6a5351d06e7c100002c66e387ab00050008c0000201c001001c000000010006001420010db8000000000000000000000002 <nil>
+	// 138813884d2df52deb004beb0f00002800000003676613796471a04ebc5a838c4550c8b885649ca97e836d58111df6a5351d06e7
+	// c100002c66e387ab00050008c0000201c001001c000000010006001420010db8000000000000000000000002 <nil>
 	// AUTH key=0 HMAC identifier=3 HMAC=32 bytes []
 	// ASCONF sequence number=1726187435 address=192.0.2.1 parameters=28 bytes [2001:db8::2]
 }
@@ -139,9 +140,10 @@ func ExampleBuilder_AddRegisteredParameter() {
 		err = packet.Seal()
 	}
 	init, _ := packet.LastChunk()
-	fmt.Printf("%x %v\n%v\n", packet.Bytes(), err, addresses(init))
+	fmt.Printf("%x\n%x %v\n%v\n", packet.Bytes()[:48], packet.Bytes()[48:], err, addresses(init))
 	// Output:
-	// 13881388000000001284eab20100004c0da73798000200000004000466e387ab00050008c000020100050008c63364010006001420010db80000000000000000000000010006001420010db8000000000000000000000002 <nil>
+	// 13881388000000001284eab20100004c0da73798000200000004000466e387ab00050008c000020100050008c6336401
+	// 0006001420010db80000000000000000000000010006001420010db8000000000000000000000002 <nil>
 	// [192.0.2.1 198.51.100.1 2001:db8::1 2001:db8::2]
 }
 

@@ -496,6 +496,8 @@ export function parameters(chunk: UncheckedChunk): IterableIterator<Parameter>;
 /** A parameter of this type with a copy of this value, as one that was read; its offset is 0. Throws a WriteError of BAD_VALUE
     where it would have more than 65,535 bytes. */
 export function parameter(type: number, value?: Uint8Array): Parameter;
+/** The same of the fields of its value, as `addRegisteredParameter` takes them. */
+export function parameter<T extends keyof ParameterFields>(type: T, fields: Given<ParameterFields[T]>): Parameter;
 
 /** An error cause (section 3.3.10). */
 export type Cause = Item & (
@@ -510,6 +512,24 @@ export function causes(chunk: UncheckedChunk): IterableIterator<Cause>;
 
 /** An error cause of this code with a copy of this value, likewise. */
 export function cause(code: number, value?: Uint8Array): Cause;
+/** The same of the fields of its value, as `addRegisteredCause` takes them. */
+export function cause<T extends keyof CauseFields>(code: T, fields: Given<CauseFields[T]>): Cause;
+
+/** What a chunk of a type in ChunkFields holds, whose names are those of registry/sctp.txt: an `address` is text, and its octets
+    are `addressBytes`; the items of a list are read one level deep, and each by `registeredParameter` or `registeredCause`. Null
+    for another type than that, and where the value has a size that its type doesn't allow, or a list that is broken: `check`
+    looks at none of these values. Views are of the chunk's value. */
+export function registeredChunk<T extends keyof ChunkFields>(chunk: UncheckedChunk, type: T): ChunkFields[T] | null;
+/** The same of a chunk of any type. */
+export function registeredChunk(chunk: UncheckedChunk): ChunkFields[keyof ChunkFields] | null;
+/** The same of a parameter of a type in ParameterFields. */
+export function registeredParameter<T extends keyof ParameterFields>(parameter: Parameter, type: T): ParameterFields[T] | null;
+/** The same of a parameter of any type. */
+export function registeredParameter(parameter: Parameter): ParameterFields[keyof ParameterFields] | null;
+/** The same of an error cause of a code in CauseFields. */
+export function registeredCause<T extends keyof CauseFields>(cause: Cause, code: T): CauseFields[T] | null;
+/** The same of an error cause of any code. */
+export function registeredCause(cause: Cause): CauseFields[keyof CauseFields] | null;
 
 // ---- changing a packet in place
 
@@ -522,6 +542,13 @@ export function setTag(bytes: Uint8Array, verificationTag: number): Uint8Array;
 // ---- writing a packet
 
 type Needed<T, K extends keyof T> = Pick<T, K> & Partial<T>;
+type Fixed = number | string | [number, number, number];
+type AsGiven<T> = T extends string ? string | Uint8Array
+  : T extends Item[] ? Iterable<Pick<Item, 'bytes'>> : T extends Fixed | Uint8Array ? T : Iterable<number>;
+/** Fields of a value that is written: an address is text or its octets, and of the items of a list the `bytes` are taken. What ends
+    the value is empty if it is left out. */
+export type Given<F> = { [K in keyof F as F[K] extends Fixed ? K : never]: AsGiven<F[K]> }
+  & { [K in keyof F as F[K] extends Fixed ? never : K]?: AsGiven<F[K]> };
 
 /** Builds a packet, chunk by chunk. A call that can't add throws a WriteError, NO_ROOM or BAD_VALUE, and changes nothing.
     The values are written as they are: whether RFC 9260 lets them be sent, or `check` would accept the packet, isn't
@@ -568,7 +595,7 @@ export class Builder {
   /** Adds I-FORWARD-TSN (RFC 8260 section 2.3.1). */
   addIForwardTsn(forwardTsn: { newCumulativeTsn: number; streams?: Needed<SkippedStream, 'stream' | 'mid'>[] }): this;
 
-  /** Adds a parameter to the last chunk. As the next four it throws BAD_PLACE where there is no chunk. */
+  /** Adds a parameter to the last chunk. As all that adds to it this throws BAD_PLACE where there is no chunk. */
   addParameter(type: number, value?: Uint8Array): this;
   /** Adds an error cause to the last chunk. */
   addCause(code: number, value?: Uint8Array): this;
@@ -579,6 +606,14 @@ export class Builder {
   addReConfig(reConfig: Needed<Omit<ReConfig, 'result'> & { result: ReConfigResult }, 'type'>): this;
   /** Adds the cause Missing Mandatory Parameter. */
   addMissingParameters(types: Iterable<number>): this;
+
+  /** Adds a chunk of a type in ChunkFields, with its flags 0. As the next two it throws BAD_VALUE for another type, an address of
+      another size, and a list that is broken. */
+  addRegisteredChunk<T extends keyof ChunkFields>(type: T, fields: Given<ChunkFields[T]>): this;
+  /** Adds a parameter of a type in ParameterFields to the last chunk: to an INIT, or to the requests of an ASCONF. */
+  addRegisteredParameter<T extends keyof ParameterFields>(type: T, fields: Given<ParameterFields[T]>): this;
+  /** Adds an error cause of a code in CauseFields to the last chunk. */
+  addRegisteredCause<T extends keyof CauseFields>(code: T, fields: Given<CauseFields[T]>): this;
 
   /** Takes the last chunk back, with what was added to it. Throws BAD_PLACE where there is none. */
   removeLast(): this;

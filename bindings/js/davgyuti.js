@@ -3,7 +3,7 @@
 'use strict';
 
 // (`this` is a CommonJS module's exports; in a module of a browser it is undefined)
-const { load, call, calls, instance, view, big, setSize, number, truth, record, isList, isBytes, Block, Struct, structs } =
+const { load, call, calls, instance, view, big, setSize, refuse, number, truth, record, isList, isBytes, Block, Struct, structs } =
   this ? require('./library.js') : globalThis[Symbol.for('davgyuti')];
 
 const version = '0.1.0';
@@ -821,11 +821,21 @@ function parametersOf(size, [start, length, chunk]) {
 
 /** The parameters or error causes of a chunk, read from its value alone. */
 function itemsOf(chunk, make) {
-  const { value, flags } = chunk, size = isBytes(value, 'value').length, type = number(chunk.type, 'u8', 'type');
-  const base = number(chunk.valueOffset, 'size', 'valueOffset');
+  const words = wordsOf(chunk);
+  return itemsIn(chunk.value, number(chunk.valueOffset, 'size', 'valueOffset'), parametersOf(chunk.value.length, words), make, words);
+}
+
+/** The words for a chunk that is read from its value alone. */
+function wordsOf({ type, flags, value }) {
+  const size = isBytes(value, 'value').length;
+  number(type, 'u8', 'type');
   number(flags, 'u8', 'flags');
-  const words = [...put(input, value), head(type, flags, 0, size, size)];
-  return Array.from({ length: parametersOf(size, words) }, (_, i) => {
+  return [...put(input, value), head(type, flags, 0, size, size)];
+}
+
+/** As many items as were read of a value, which begins at a place of its packet. */
+function itemsIn(value, base, count, make, words) {
+  return Array.from({ length: count }, (_, i) => {
     const memory = view(), at = items.from + i * PARAMETER_SIZE;
     const valueOffset = memory.getUint32(at + PARAMETER.valueOffset, true), valueSize = memory.getUint32(at + PARAMETER.valueSize, true);
     const offset = valueOffset - HEADER, next = base + memory.getUint32(at + PARAMETER.next, true);
@@ -888,10 +898,16 @@ function causes(chunk) {
   return (RowChunk.is(chunk) ? RowChunk.items(chunk, completeCause) : itemsOf(chunk, causeOf)).values();
 }
 
-/** A chunk that has one item of a type and a value as its list. */
+/** A chunk that has one item of a type and a value, or the fields of one, as its list. */
 function around(kind, type, value, name) {
-  const size = 4 + isBytes(value, 'value').length, bytes = new Uint8Array(size);
   number(type, 'u16', name);
+  const isCause = kind === ChunkType.ERROR;
+  if ((isCause ? CAUSE_FIELDS : PARAMETER_FIELDS).has(type) && !ArrayBuffer.isView(value)) {
+    const builder = new Builder({ sourcePort: 0, destinationPort: 0, verificationTag: 0 }).addChunk(kind);
+    builder[isCause ? 'addRegisteredCause' : 'addRegisteredParameter'](type, value);
+    return { ...builder.lastChunk(), valueOffset: 0 };
+  }
+  const size = 4 + isBytes(value, 'value').length, bytes = new Uint8Array(size);
   if (size > 65_535)
     throw new WriteError(Result.BAD_VALUE);
   bytes.set([type >> 8, type & 255, size >> 8, size & 255]);
@@ -901,6 +917,150 @@ function around(kind, type, value, name) {
 
 const parameter = (type, value = NOTHING) => parameters(around(ChunkType.RE_CONFIG, type, value, 'type')).next().value;
 const cause = (code, value = NOTHING) => causes(around(ChunkType.ERROR, code, value, 'code')).next().value;
+
+// ---- the rest of IANA's registry
+
+/** The fields that C's struct has for numbers of each size, in the order of a value. */
+const NUMBER_FIELDS = { u32: ['number', 'secondNumber'], u16: ['shortNumber', 'secondShortNumber', 'thirdShortNumber'] };
+
+/** Goes over the fields of a value: a name and a form, and of a number the names that C's struct has for it. */
+function eachField(fields, visit) {
+  const left = { u32: [...NUMBER_FIELDS.u32], u16: [...NUMBER_FIELDS.u16] };
+  for (const [name, ...forms] of fields)
+    visit(name, forms[0], forms.map(form => left[form]?.shift()));
+}
+
+/** A value whose fields a function reads of the words for it; null where they aren't there. It begins at a place of its packet. */
+function registeredOf(fields, name, value, base, words) {
+  const it = fields ? found(structs.registered, name, ...words) : null;
+  if (it === null)
+    return null;
+  const read = {}, end = it.restOffset + it.restSize;
+  eachField(fields, (name, form, names) => {
+    switch (form) {
+      case 'u32':
+      case 'u16':
+        read[name] = names.length === 1 ? it[names[0]] : names.map(each => it[each]);
+        break;
+      case 'address':
+        read.addressBytes = part(value, it.addressOffset, it.addressSize);
+        read[name] = addressText(read.addressBytes);
+        break;
+      case 'parameters':
+      case 'causes': {
+        const most = room(items, it.restSize >> 2, PARAMETER_SIZE);
+        const count = Number(call('dcsctp_items', words[0], big(end), big(it.restOffset), items.at, most));
+        read[name] = itemsIn(value, base, count, form === 'causes' ? causeOf : parameterOf, words);
+        break;
+      }
+      case 'shorts':
+        place(taken);
+        structs.parameter.write(taken.from, [0, it.restOffset, it.restSize, end]);
+        read[name] = shortsOf('dcsctp_short_numbers', words, taken.from);
+        break;
+      default:
+        read[name] = part(value, it.restOffset, it.restSize);
+    }
+  });
+  return read;
+}
+
+function registeredChunk(chunk, type = record(chunk, 'chunk').type) {
+  if (record(chunk, 'chunk').type !== type)
+    return null;
+  const words = wordsOf(chunk), base = number(chunk.valueOffset, 'size', 'valueOffset');
+  return registeredOf(CHUNK_FIELDS.get(type), 'dcsctp_registered_chunk', chunk.value, base, words);
+}
+
+/** The same of a parameter or an error cause, of this type or code. */
+function registeredItem(fields, name, item, type) {
+  const { value, offset } = item, size = isBytes(value, 'value').length, base = number(offset, 'size', 'offset') + HEADER;
+  const words = [...put(input, value), place(taken)];
+  structs.parameter.write(taken.from, [number(type, 'u16', 'type'), 0, size, size]);
+  return registeredOf(fields.get(type), name, value, base, words);
+}
+
+function registeredParameter(parameter, type = record(parameter, 'parameter').type) {
+  const isOne = record(parameter, 'parameter').type === type;
+  return isOne ? registeredItem(PARAMETER_FIELDS, 'dcsctp_registered_parameter', parameter, type) : null;
+}
+
+function registeredCause(cause, code = record(cause, 'cause').code) {
+  return record(cause, 'cause').code === code ? registeredItem(CAUSE_FIELDS, 'dcsctp_registered_cause', cause, code) : null;
+}
+
+/** The text of an address's octets: in IPv6 as RFC 5952 has it, which is how URLs are written. */
+function addressText(octets) {
+  if (octets.length === 4)
+    return octets.join('.');
+  const groups = Array.from({ length: 8 }, (_, i) => (octets[2 * i] << 8 | octets[2 * i + 1]).toString(16));
+  return new URL(`http://[${groups.join(':')}]`).hostname.slice(1, -1);
+}
+
+/** The octets of an address that is text or bytes; refuses what is none. */
+function addressOf(address, name) {
+  if (typeof address !== 'string')
+    return isBytes(address, name);
+  const octets = address.split('.').map(Number);
+  if (octets.length === 4 && octets.every(it => it < 256) && octets.join('.') === address)
+    return Uint8Array.from(octets);
+  let host = null;
+  try {
+    host = new URL(`http://[${address.replace(/[^0-9a-f:.]/gi, '%')}]`).hostname.slice(1, -1);
+  } catch {
+    refuse(address, name, 'an address');
+  }
+  const [front, back] = host.split('::').map(it => (it === '' ? [] : it.split(':')));
+  const groups = back === undefined ? front : [...front, ...Array(8 - front.length - back.length).fill('0'), ...back];
+  return Uint8Array.from(groups.map(it => parseInt(it, 16)).flatMap(it => [it >> 8, it & 255]));
+}
+
+/** Bytes one after the other, each with its padding up to a multiple of 4, but the last one. */
+function joined(all) {
+  const bytes = new Uint8Array(all.reduce((sum, it) => (sum + 3 & ~3) + it.length, 0));
+  let at = 0;
+  for (const it of all) {
+    at = at + 3 & ~3;
+    bytes.set(it, at);
+    at += it.length;
+  }
+  return bytes;
+}
+
+/** What a function takes of the fields of a value: the values of its struct, and the bytes that the address and the rest lie in. */
+function registeredValues(fields, given) {
+  record(given, 'fields');
+  const it = Object.fromEntries(structs.registered.fields.map(({ name }) => [name, 0]));
+  let address = NOTHING, rest = NOTHING;
+  eachField(fields, (name, form, names) => {
+    const value = given[name];
+    switch (form) {
+      case 'u32':
+      case 'u16': {
+        const all = names.length === 1 ? [value] : Array.from(isList(value, name));
+        names.forEach((each, i) => { it[each] = number(all[i], form, name); });
+        break;
+      }
+      case 'address':
+        address = addressOf(value, name);
+        break;
+      case 'parameters':
+      case 'causes':
+        rest = joined(Array.from(isList(value ?? [], name), each => isBytes(record(each, `an item of ${name}`).bytes, 'bytes')));
+        break;
+      case 'shorts':
+        rest = Uint8Array.from(numbersOf(U16, value ?? [], name).flatMap(([each]) => [each >> 8, each & 255]));
+        break;
+      default:
+        rest = isBytes(value ?? NOTHING, name);
+    }
+  });
+  Object.assign(it, { addressSize: address.length, restOffset: address.length, restSize: rest.length });
+  const bytes = new Uint8Array(address.length + rest.length);
+  bytes.set(address);
+  bytes.set(rest, address.length);
+  return [it, bytes];
+}
 
 // ---- changing a packet in place
 
@@ -1120,6 +1280,24 @@ class Builder {
     return this.#item('dcsctp_add_missing_parameters', ...putAll(input, U16, numbersOf(U16, types, 'types')));
   }
 
+  /** The words for the type and the fields of a value. */
+  #registered(fields, type, given) {
+    const [it, bytes] = registeredValues(fields.get(type) ?? [], given);
+    return [type, this.#struct(structs.registered, it), ...put(input, bytes)];
+  }
+
+  addRegisteredChunk(type, fields) {
+    return this.#chunk('dcsctp_add_registered_chunk', ...this.#registered(CHUNK_FIELDS, number(type, 'u8', 'type'), fields));
+  }
+
+  addRegisteredParameter(type, fields) {
+    return this.#item('dcsctp_add_registered_parameter', ...this.#registered(PARAMETER_FIELDS, number(type, 'u16', 'type'), fields));
+  }
+
+  addRegisteredCause(code, fields) {
+    return this.#item('dcsctp_add_registered_cause', ...this.#registered(CAUSE_FIELDS, number(code, 'u16', 'code'), fields));
+  }
+
   removeLast() {
     if (this.#starts.length === 0)
       throw new WriteError(Result.BAD_PLACE, 'no chunk to remove');
@@ -1167,7 +1345,7 @@ const davgyuti = {
   version, versionNumber, Result, FIRST_CHUNK, ChunkType, TAG_REFLECTED, ParameterType, CauseCode, ReConfigResult, resultText,
   chunkName, parameterName, causeName, isKnownChunk, isKnownParameter, isKnownCause, Fault, WriteError, check, firstFault,
   canonical, text, report, word, needsChecksum, header, chunks, read, readChunk, dataFlags, withFlags, parameters, parameter, causes,
-  cause, seal, setTag, Builder, cleanBlocks,
+  cause, registeredChunk, registeredParameter, registeredCause, seal, setTag, Builder, cleanBlocks,
 };
 if (this) {
   const wasm = new WebAssembly.Module(require('node:fs').readFileSync(`${__dirname}/dcsctp.wasm`));

@@ -17,5 +17,5 @@ export const {
   version, versionNumber, Result, FIRST_CHUNK, ChunkType, TAG_REFLECTED, ParameterType, CauseCode, ReConfigResult, resultText,
   chunkName, parameterName, causeName, isKnownChunk, isKnownParameter, isKnownCause, Fault, WriteError, check, firstFault,
   canonical, text, report, word, needsChecksum, header, chunks, read, readChunk, dataFlags, withFlags, parameters, parameter, causes,
-  cause, seal, setTag, Builder, cleanBlocks,
+  cause, registeredChunk, registeredParameter, registeredCause, seal, setTag, Builder, cleanBlocks,
 } = commonJs.default ?? await fetched();

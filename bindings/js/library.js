@@ -309,10 +309,14 @@ const structs = {
     type: 'u16', requestNumber: 'u32', responseNumber: 'u32', lastTsn: 'u32', result: 'u32', hasNextTsns: 'bool',
     senderNextTsn: 'u32', receiverNextTsn: 'u32', newStreams: 'u16', streamCount: 'size',
   }),
+  registered: new Struct({
+    number: 'u32', secondNumber: 'u32', shortNumber: 'u16', secondShortNumber: 'u16', thirdShortNumber: 'u16', addressOffset: 'size',
+    addressSize: 'size', restOffset: 'size', restSize: 'size',
+  }),
 };
 
 // davgyuti.mjs says who takes it from where.
-const library = { load, call, calls, instance, view, big, setSize, number, truth, record, isList, isBytes, Block, Struct, structs };
+const library = { load, call, calls, instance, view, big, setSize, refuse, number, truth, record, isList, isBytes, Block, Struct, structs };
 if (this)
   module.exports = library;
 else

@@ -7,12 +7,10 @@ import * as davgyuti from '../davgyuti.mjs';
 import library from '../library.js';
 
 const file = name => readFileSync(new URL(name, import.meta.url), 'utf8');
-// (the package reads a list in one call, without those that read one item, and packets one by one; it leaves out what reads the
-// rest of the registry)
-const OTHERS = 'gap_ack_block|duplicate_tsn|skipped_stream|parameter_at|reset_stream|missing_parameter|list_offset|read_many'
-  + '|item_at|items|short_numbers|registered_chunk|registered_parameter|registered_cause';
+// (the package reads a list in one call, without those that read one item, and packets one by one)
+const OTHERS = 'gap_ack_block|duplicate_tsn|skipped_stream|parameter_at|item_at|reset_stream|missing_parameter|list_offset|read_many';
 const header = file('../../../include/dcsctp.h').replace(/\/\*[^]*?\*\//g, '').replace(new RegExp(`\\w+ dcsctp_(${OTHERS})\\([^)]*\\);`, 'g'), '')
-  .replace(/struct dcsctp_(placed_packet|registered) \{[^}]*\};/g, '');
+  .replace(/struct dcsctp_placed_packet \{[^}]*\};/g, '');
 const code = file('../davgyuti.js');
 const camel = name => name.replace(/_(\w)/g, (_, letter) => letter.toUpperCase());
 

@@ -3,7 +3,7 @@
 import {
   Builder, CauseCode, Chunk, ChunkType, Fault, FaultCode, Packet, Parameter, ParameterType, ReConfigResult, ReConfigType, Result,
   UncheckedChunk, WriteError, cause as causeOf, causes, check, chunks, dataFlags, firstFault, header, isKnownChunk, needsChecksum, parameter,
-  parameters, readChunk, withFlags,
+  parameters, readChunk, registeredCause, registeredChunk, registeredParameter, withFlags,
 } from 'davgyuti';
 // @ts-expect-error it is no part of the interface
 import { Needed } from 'davgyuti';
@@ -133,3 +133,32 @@ const data = withFlags({ tsn: 1, stream: 2, payload: bytes }, 3);
 new Builder({ sourcePort: 1, destinationPort: 2, verificationTag: 3 }).addData(data).lastChunk()?.bytes;
 if (!needsChecksum(bytes))
   check(bytes, { allowedZeroChecksum: true });
+
+// The rest of the registry: a type says which fields there are.
+for (const chunk of chunks(packet)) {
+  const asconf = registeredChunk(chunk, ChunkType.ASCONF), sack = registeredChunk(chunk, ChunkType.NR_SACK);
+  // @ts-expect-error it may be of another type
+  numbers.push(asconf.sequenceNumber);
+  // @ts-expect-error an ASCONF has no HMAC
+  numbers.push(asconf?.hmac.length);
+  for (const request of asconf?.parameters ?? []) {
+    const { address, addressBytes }: { address: string; addressBytes: Uint8Array } =
+      registeredParameter(request, ParameterType.ADD_IP_ADDRESS) ?? { address: '', addressBytes: bytes };
+    numbers.push(address.length, ...addressBytes, ...registeredParameter(request, ParameterType.SUPPORTED_ADDRESS_TYPES)?.types ?? []);
+    for (const refused of registeredParameter(request, ParameterType.ERROR_CAUSE_INDICATION)?.causes ?? [])
+      numbers.push(registeredCause(refused, CauseCode.STALE_COOKIE)?.microseconds ?? 0);
+  }
+  numbers.push(sack?.counts[2] ?? 0, Object.keys(registeredChunk(chunk) ?? {}).length);
+  // @ts-expect-error DATA has a kind of its own
+  registeredChunk(chunk, ChunkType.DATA);
+  if (asconf)
+    builder.addRegisteredChunk(ChunkType.ASCONF, asconf);
+}
+builder.addRegisteredChunk(ChunkType.ASCONF, { sequenceNumber: 1, address: bytes, parameters: [
+  parameter(ParameterType.ADD_IP_ADDRESS, { request: 1, address: '192.0.2.1' }),
+] }).addRegisteredParameter(ParameterType.SUPPORTED_ADDRESS_TYPES, { types: new Set([5, 6]) }).addRegisteredCause(CauseCode.OUT_OF_RESOURCE, {});
+builder.addRegisteredChunk(ChunkType.AUTH, { key: 1, hmacIdentifier: 3 });
+// @ts-expect-error an address is missing
+builder.addRegisteredChunk(ChunkType.ASCONF, { sequenceNumber: 1 });
+// @ts-expect-error a State Cookie has no fields
+parameter(ParameterType.STATE_COOKIE, { name: bytes });
