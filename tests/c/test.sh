@@ -39,6 +39,7 @@ try() {
     if "$@" >"$work/log" 2>&1; then
         passed=$((passed + 1))
         printf 'c: %s: passed\n' "$name"
+        grep 'left out, since' "$work/log"
     else
         failed=$((failed + 1))
         printf 'c: %s: failed\n' "$name"
@@ -208,6 +209,14 @@ receive() {
     compile_sanitized -pedantic -Werror -o "$work/receive" tests/c/receive.c "$prefix/lib/libdcsctp.a" && "$work/receive"
 }
 
+# By the Python that has scapy: that of Debian's package may not be the first on PATH.
+multihomed() {
+    local python=python3
+    python3 -c 'import scapy' 2>/dev/null || ! /usr/bin/python3 -c 'import scapy' 2>/dev/null || python=/usr/bin/python3
+    compile_sanitized -pedantic -Werror -o "$work/multihomed" examples/c/multihomed.c "$prefix/lib/libdcsctp.a" &&
+        "$python" tests/c/multihomed.py "$work/multihomed"
+}
+
 has_usrsctp() {
     echo '#include <usrsctp.h>' | "$cc" -fsyntax-only -x c - 2>"$work/log"
 }
@@ -273,6 +282,11 @@ try "the processor's CRC32c, on 3,000 packets" processor
 try 'calls on captured packets and at the edges, and each allocation refused' edge
 try "what IANA's registry has beyond the kinds, field by field" registered
 try "what is asked of whoever receives a packet, sentence by sentence" receive
+if has python3; then
+    try 'the example with several addresses, beside Python, scapy and tshark' multihomed
+else
+    left_out python3 'the example with several addresses'
+fi
 if has_usrsctp; then
     try 'two sockets of usrsctp with the filter between them, and one that calls the responder' interop
 else
