@@ -1313,18 +1313,26 @@ void registered_values()
     CHECK(registered().parameters().empty() && registered().causes().empty() && registered().short_numbers().empty());
 
     // another size, a broken list, a type of a kind, or none
-    for (const char *text : {"0c00 0004", "0d00 000c 01020304 00000000", "0f00 0007 0102 00", "1000 0013 01020304 00050607 0000 0000 0000 00",
-                             "1000 0014 01020304 00050607 ffff ffff ffff 0000", "8000 000b 08090a0b c005 00", "8100 000f 0c0d0e0f 000007d0 0000 00",
-                             "c100 0008 08090a0b", "c100 0010 08090a0b c006 0008 00000001", "c100 0016 08090a0b 0005 0008 c0000201 c006 0008 0000",
-                             "0b00 0004", "3e00 0008 01020304"})
-        CHECK(!read_of(level::chunk, only(packet_of(level::chunk, of_hex(text)))));
-    for (const char *text : {"0005 0007 c00002", "0005 0009 c000020100", "0006 0008 c0000201", "0008 0008 8008 0003", "0009 0007 00ea60",
-                             "000c 0007 0005 00", "8000 0005 00", "8004 0005 00", "c001 0008 01023474", "c001 000e 01023474 000b 0006 6100",
-                             "c001 0011 01023474 0005 0008 c0000201 00", "c003 000b 01023476 00a0 00", "c005 0004", "0007 0008 01020304", "8006 0004"})
-        CHECK(!read_of(level::parameter, only(packet_of(level::parameter, of_hex(text)))));
-    for (const char *text : {"0001 0006 0201", "0003 0007 0001e2", "0004 0005 00", "0005 0007 000b 00", "00a0 0013 c002 0010 00000001 0005 0008 c00002",
-                             "00a3 000c c005 0008 00000001", "0105 0008 0002 0000", "0009 0008 00000001", "0010 0004"})
-        CHECK(!read_of(level::cause, only(packet_of(level::cause, of_hex(text)))));
+    const std::pair<level, const char *> others[] = {
+        {level::chunk, "0c00 0004"}, {level::chunk, "0d00 000c 01020304 00000000"}, {level::chunk, "0f00 0007 0102 00"},
+        {level::chunk, "1000 0013 01020304 00050607 0000 0000 0000 00"},
+        {level::chunk, "1000 0014 01020304 00050607 ffff ffff ffff 0000"}, {level::chunk, "8000 000b 08090a0b c005 00"},
+        {level::chunk, "8100 000f 0c0d0e0f 000007d0 0000 00"}, {level::chunk, "c100 0008 08090a0b"},
+        {level::chunk, "c100 0010 08090a0b c006 0008 00000001"}, {level::chunk, "0b00 0004"},
+        {level::chunk, "c100 0016 08090a0b 0005 0008 c0000201 c006 0008 0000"}, {level::chunk, "3e00 0008 01020304"},
+        {level::parameter, "0005 0007 c00002"}, {level::parameter, "0005 0009 c000020100"},
+        {level::parameter, "0006 0008 c0000201"}, {level::parameter, "0008 0008 8008 0003"},
+        {level::parameter, "0009 0007 00ea60"}, {level::parameter, "000c 0007 0005 00"}, {level::parameter, "8000 0005 00"},
+        {level::parameter, "8004 0005 00"}, {level::parameter, "c001 0008 01023474"},
+        {level::parameter, "c001 000e 01023474 000b 0006 6100"}, {level::parameter, "c003 000b 01023476 00a0 00"},
+        {level::parameter, "c001 0011 01023474 0005 0008 c0000201 00"}, {level::parameter, "c005 0004"},
+        {level::parameter, "0007 0008 01020304"}, {level::parameter, "8006 0004"}, {level::cause, "0001 0006 0201"},
+        {level::cause, "0003 0007 0001e2"}, {level::cause, "0004 0005 00"}, {level::cause, "0005 0007 000b 00"},
+        {level::cause, "00a0 0013 c002 0010 00000001 0005 0008 c00002"}, {level::cause, "00a3 000c c005 0008 00000001"},
+        {level::cause, "0105 0008 0002 0000"}, {level::cause, "0009 0008 00000001"}, {level::cause, "0010 0004"},
+    };
+    for (const auto &[of, text] : others)
+        CHECK(!read_of(of, only(packet_of(of, of_hex(text)))));
 }
 
 void registered_lists()

@@ -107,7 +107,8 @@ var registeredRows = []struct {
 	// IPv4 Address and IPv6 Address: RFC 9260 sections 3.3.2.1.1 and 3.3.2.1.2
 	{level: "parameter", bytes: "0005 0008 c0000201", text: "address=192.0.2.1", address: "192.0.2.1"},
 	{level: "parameter", bytes: "0006 0014 20010db8 00000000 00000000 00000001", text: "address=2001:db8::1", address: "2001:db8::1"},
-	{level: "parameter", bytes: "0006 0014 00000000 00000000 0000ffff c0000201", text: "address=::ffff:192.0.2.1", address: "::ffff:192.0.2.1"},
+	{level: "parameter", bytes: "0006 0014 00000000 00000000 0000ffff c0000201", text: "address=::ffff:192.0.2.1",
+		address: "::ffff:192.0.2.1"},
 	// Unrecognized Parameter: section 3.3.3.1.2
 	{level: "parameter", bytes: "0008 0009 8008 0005 0f", text: "parameters=5 bytes", rest: "8008 0005 0f", parameters: 1},
 	// Cookie Preservative, Host Name Address, Supported Address Types: sections 3.3.2.1.3 to 3.3.2.1.5
@@ -238,13 +239,15 @@ func TestNotRegistered(t *testing.T) {
 
 // What a list has is read in turn: its places are in the packet, and what is in an item is read of the item.
 func TestRegisteredLists(t *testing.T) {
-	packet := sealed("8000 0034 08090a0b c003 0024 00000002 00a1 0014 c001 0010 00000002 0005 0008 c0000201 0007 0004 0004 0004 c005 0008 00000001")
+	packet := sealed("8000 0034 08090a0b c003 0024 00000002 00a1 0014 c001 0010 00000002 0005 0008 c0000201 0007 0004 0004 0004" +
+		"c005 0008 00000001")
 	responses := there[davgyuti.Registered](t)(only(t, packet).Registered()).Parameters().Slice()
 	equal(t, "responses", fmt.Sprint(responses), "[Error Cause Indication size=32 Success Indication size=4]")
 	equal(t, "places", []int{responses[0].Offset, responses[1].Offset}, []int{20, 56})
 	equal(t, "bytes", responses[1].Bytes(), ofHex("c005 0008 00000001"))
 	causes := there[davgyuti.Registered](t)(responses[0].Registered()).Causes().Slice()
-	equal(t, "causes", fmt.Sprint(causes), "[Operation Refused Due to Resource Shortage size=16 Invalid Mandatory Parameter size=0 Out of Resource size=0]")
+	equal(t, "causes", []davgyuti.CauseCode{causes[0].Code, causes[1].Code, causes[2].Code}, []davgyuti.CauseCode{
+		davgyuti.CauseOperationRefused, davgyuti.CauseInvalidMandatoryParameter, davgyuti.CauseOutOfResource})
 	equal(t, "places", []int{causes[0].Offset, causes[1].Offset, causes[2].Offset}, []int{28, 48, 52})
 	refused := there[davgyuti.Registered](t)(causes[0].Registered()).Parameters()
 	equal(t, "refused", refused.Next(), true)
@@ -252,7 +255,8 @@ func TestRegisteredLists(t *testing.T) {
 	equal(t, "place", []interface{}{refused.Value().Offset, refused.Next()}, []interface{}{32, false})
 
 	// Items of kinds, whose padding is missing at the end.
-	parameter, err := davgyuti.NewParameter(davgyuti.ParameterUnrecognizedParameter, ofHex("000d 0012 00000001 00000002 00000003 0007 0000 8008 0005 0f"))
+	parameter, err := davgyuti.NewParameter(davgyuti.ParameterUnrecognizedParameter,
+		ofHex("000d 0012 00000001 00000002 00000003 0007 0000 8008 0005 0f"))
 	equal(t, "parameter", err, nil)
 	unrecognized := there[davgyuti.Registered](t)(parameter.Registered()).Parameters().Slice()
 	equal(t, "streams", unrecognized[0].ResetStreams().Slice(), []uint16{7})

@@ -1,8 +1,8 @@
 // SPDX-License-Identifier: Apache-2.0
 /** Reads, checks, prints and writes SCTP packets (RFC 9260), by proved functions compiled to WebAssembly.
 
-    Bytes are copied into the memory of WebAssembly and out of it; only a `value`, a `payload` and the `bytes` of a part are
-    views of the bytes that were given. Numbers are plain values. What isn't of the type that is said here throws a TypeError; a
+    Bytes are copied into the memory of WebAssembly and out of it; only a `value`, a `payload`, the `bytes` of a part and what
+    `registeredChunk` and the like give as bytes are views of the bytes that were given. Numbers are plain values. What isn't of the type that is said here throws a TypeError; a
     number that doesn't fit its field throws a RangeError. A field or an option that isn't named here is ignored, also a misspelt
     one. Each call that takes bytes or a list throws a WriteError of NO_MEMORY where WebAssembly has no memory for them. Sections
     without another name are those of RFC 9260. */
