@@ -239,7 +239,7 @@ func (it Registered) in(b *Builder, all layouts, number uint16) (c C.struct_dcsc
 			}
 			*shorts[0], shorts = C.uint16_t(value), shorts[1:]
 		case ofAddress:
-			if !it.Address.IsValid() || it.Address.Zone() != "" {
+			if it.Address.Zone() != "" {
 				return c, nil, ErrBadValue
 			}
 			bytes = it.Address.AsSlice()
