@@ -1358,6 +1358,9 @@ void registered_lists()
     const bytes value = of_hex("0003 0001 ffff");
     const auto hmacs = parameter(parameter_type::requested_hmac_algorithm, value).as_registered()->short_numbers();
     CHECK(hmacs.to_vector() == std::vector<std::uint16_t>{3, 1, 0xffff} && hmacs.at(1) == 1 && !hmacs.at(3));
+    const bytes init = sealed("01000024 00000001 00000002 0003 0004 00000005 8004 0008 0003 0001 0005 0008 c0000201");
+    const auto two = only(init).parameters().begin()->as_registered()->short_numbers();
+    CHECK(std::distance(two.begin(), two.end()) == 2 && two.at(1) == 1 && !two.at(2));
     CHECK(cause(cause_code::stale_cookie, of_hex("0001e240")).as_registered()->numbers[0] == 123456);
 
     // As many lists in one another as a parameter has room for: each read goes one level deeper.
@@ -1375,7 +1378,8 @@ void registered_lists()
 
 void registered_refusals()
 {
-    const bytes v4 = of_hex("c0000201"), v6(16), odd(5), broken = of_hex("c006 0008 0000"), one(1), many(65532);
+    const bytes v4 = of_hex("c0000201"), v6(16), odd(5), broken = of_hex("c006 0008 0000"), one(1), many(65532),
+                item = of_hex("c006 0008 00000001");
     std::array<std::uint8_t, 200> buffer{};
     builder to(buffer, 1, 2, 3);
     CHECK(to.add_registered(parameter_type::ipv4_address, {{}, v4}).code() == result_code::bad_place);
@@ -1397,7 +1401,9 @@ void registered_refusals()
           to.add_registered(chunk_type::nr_sack, {1, 2, 1}), to.add_registered(parameter_type::supported_address_types, {{}, {}, one}),
           to.add_registered(parameter_type::padding, {{}, {}, many}),
           to.add_registered(parameter_type::random, {{}, {}, view<std::uint8_t>(buffer).subspan(4, 4)}),
-          to.add_registered(parameter_type::ipv4_address, {{}, view<std::uint8_t>(buffer).subspan(4, 4)})})
+          to.add_registered(parameter_type::ipv4_address, {{}, view<std::uint8_t>(buffer).subspan(4, 4)}),
+          to.add_registered(chunk_type::asconf, {{1}, view<std::uint8_t>(buffer).subspan(4, 4), item}),
+          to.add_registered(chunk_type::asconf, {{1}, v4, view<std::uint8_t>(buffer).subspan(12, 20)})})
         CHECK(refused.code() == result_code::bad_value);
     CHECK(to.add_registered(parameter_type::padding, {{}, {}, bytes_view(many).subspan(0, 165)}).code() == result_code::no_room);
     CHECK(to.add_registered(chunk_type::pad, {{}, {}, bytes_view(many).subspan(0, 165)}).code() == result_code::no_room);
