@@ -821,16 +821,16 @@ function parametersOf(size, [start, length, chunk]) {
 
 /** The parameters or error causes of a chunk, read from its value alone. */
 function itemsOf(chunk, make) {
-  const words = wordsOf(chunk);
-  return itemsIn(chunk.value, number(chunk.valueOffset, 'size', 'valueOffset'), parametersOf(chunk.value.length, words), make, words);
+  const { value, base, words } = placed(chunk);
+  return itemsIn(value, base, parametersOf(value.length, words), make, words);
 }
 
-/** The words for a chunk that is read from its value alone. */
-function wordsOf({ type, flags, value }) {
-  const size = isBytes(value, 'value').length;
+/** A chunk that is read from its value alone: that, where it begins, and the words for it. */
+function placed({ type, flags, value, valueOffset }) {
+  const size = isBytes(value, 'value').length, base = number(valueOffset, 'size', 'valueOffset');
   number(type, 'u8', 'type');
   number(flags, 'u8', 'flags');
-  return [...put(input, value), head(type, flags, 0, size, size)];
+  return { value, base, words: [...put(input, value), head(type, flags, 0, size, size)] };
 }
 
 /** As many items as were read of a value, which begins at a place of its packet. */
@@ -968,15 +968,16 @@ function registeredOf(fields, name, value, base, words) {
 function registeredChunk(chunk, type = record(chunk, 'chunk').type) {
   if (record(chunk, 'chunk').type !== type)
     return null;
-  const words = wordsOf(chunk), base = number(chunk.valueOffset, 'size', 'valueOffset');
-  return registeredOf(CHUNK_FIELDS.get(type), 'dcsctp_registered_chunk', chunk.value, base, words);
+  const { value, base, words } = placed(chunk);
+  return registeredOf(CHUNK_FIELDS.get(type), 'dcsctp_registered_chunk', value, base, words);
 }
 
 /** The same of a parameter or an error cause, of this type or code. */
 function registeredItem(fields, name, item, type) {
   const { value, offset } = item, size = isBytes(value, 'value').length, base = number(offset, 'size', 'offset') + HEADER;
+  number(type, 'u16', 'type');
   const words = [...put(input, value), place(taken)];
-  structs.parameter.write(taken.from, [number(type, 'u16', 'type'), 0, size, size]);
+  structs.parameter.write(taken.from, [type, 0, size, size]);
   return registeredOf(fields.get(type), name, value, base, words);
 }
 
