@@ -1,6 +1,7 @@
 # SPDX-License-Identifier: Apache-2.0
 """What registry/make.py writes of the table, in each language."""
 import re
+import sys
 import textwrap
 
 HEADER_SIZE = 4
@@ -260,11 +261,14 @@ def c(table):
 
 PYTHON_ENUMS = {
     'chunk': ('ChunkType(_Numbers)',
-              'Types of chunks (RFC 9260 section 3.2). Those that have no kind of their own here are a RawChunk.'),
+              'Types of chunks (RFC 9260 section 3.2). Those that have no kind of their own here are a RawChunk, whose '
+              '`registered`\n    reads them by field.'),
     'parameter': ('ParameterType(_Numbers)',
-                  'Types of parameters (RFC 9260 section 3.2.1). Those that have no kind of their own here are a RawParameter.'),
+                  'Types of parameters (RFC 9260 section 3.2.1). Those that have no kind of their own here are a RawParameter, '
+                  'whose\n    `registered` reads them by field.'),
     'cause': ('CauseCode(_Numbers)',
-              'Codes of error causes (RFC 9260 section 3.3.10). Those that have no kind of their own here are a RawCause.'),
+              'Codes of error causes (RFC 9260 section 3.3.10). Those that have no kind of their own here are a RawCause, '
+              'whose\n    `registered` reads them by field.'),
     'result': ('ReConfigResult(IntEnum)', 'What became of a re-configuration request (RFC 6525 section 4.4).'),
 }
 
@@ -280,17 +284,127 @@ def python(table):
     return [''.join(classes + names)]
 
 
+# ---- Python and Rust: the kinds of the types that are bytes to the library's own
+
+# What each is, in both.
+REGISTERED = {'chunk': 'RegisteredChunk', 'parameter': 'RegisteredParameter', 'cause': 'RegisteredCause'}
+# The table's words that name something else in a value.
+IDENTIFIERS = {'name': 'host_name', 'bytes': 'data'}
+
+
+def kind_name(row):
+    return ''.join(word.capitalize() for word in row.identifier.split('_'))
+
+
+def kind_about(row):
+    value = '' if row.value == '-' else f' Its value: {row.value}.'
+    return f'{row.name} ({reference(row)}). {row.about}.{value}'
+
+
+def kinds(table, level):
+    """The rows of a level that have such a kind; and of each field its identifier, and its form: that of a number is the name of
+    its field in C's struct dcsctp_registered, and three of two bytes that have one name are `counts`."""
+    for row, fields in registered(table, level):
+        forms = {}
+        for (name, form), place in zip(fields, c_registered(row.value)):
+            name = IDENTIFIERS.get(name, name.lower().replace(' ', '_'))
+            forms[name] = 'counts' if name in forms else form.replace(' ', '_') if place == 'rest' else place
+        yield row, [*forms.items()]
+
+
+PYTHON_REGISTERED = '''\
+# SPDX-License-Identifier: Apache-2.0
+# registry/make.py writes this file: registry/sctp.txt is edited in its place.
+"""The types of IANA's registry that have no kind of their own in `davgyuti`, by field.
+
+    request = parameter.registered()  # None, if the type isn't one of these, or the value has a wrong size or a broken list
+    match request:
+        case registered.AddIpAddress(request=number, address=address):
+            ...
+
+A RawChunk, a RawParameter and a RawCause are read so. What is in a list is again a parameter or an error cause, which is read
+in turn. A PacketBuilder and a ChunkWriter add all of these; reserved fields are written as zeros. A builder raises BadValue for
+what the type does not allow: an address of the other version of IP in an Ipv4Address, a broken list.
+"""
+
+from dataclasses import dataclass
+from typing import ClassVar
+
+from ._values import (
+    Address,
+    Cause,
+    CauseCode,
+    ChunkType,
+    Parameter,
+    ParameterType,
+    RegisteredCause,
+    RegisteredChunk,
+    RegisteredParameter,
+)
+
+# (each `fields` has the names of the fields, with the places of numbers in dcsctp_registered, or with what the bytes are)
+'''
+PYTHON_FORMS = {'address': 'Address', 'counts': 'tuple[int, int, int]', 'parameters': 'tuple[Parameter, ...] = ()', 'causes': 'tuple[Cause, ...] = ()',
+                'short_numbers': 'tuple[int, ...] = ()', 'bytes': 'bytes = b""'}
+
+
+def python_registered(table):
+    lines = [PYTHON_REGISTERED]
+    for level, base in REGISTERED.items():
+        column, numbers = 'code' if level == 'cause' else 'type', PYTHON_ENUMS[level][0].partition('(')[0]
+        for row, fields in kinds(table, level):
+            about = textwrap.wrap(f'"""{kind_about(row)}"""', 100, initial_indent='    ', subsequent_indent='    ',
+                                  break_on_hyphens=False)
+            forms = [f'"{name}": "{form}"' for name, form in fields]
+            forms = [f'{{{", ".join(forms)}}}'] if len(forms) < 3 else ['{', *(f'        {form},' for form in forms), '    }']
+            lines += ['', '@dataclass(slots=True, unsafe_hash=True)', f'class {kind_name(row)}({base}):', *about, '',
+                      f'    {column}: ClassVar[{numbers}] = {numbers}.{row.identifier}',
+                      f'    fields: ClassVar[dict[str, str]] = {forms[0]}', *forms[1:],
+                      *(f'    {name}: {PYTHON_FORMS.get(form, "int")}' for name, form in fields), '']
+    for level, base in REGISTERED.items():
+        names = [f'    {kind_name(row)},' for row, _ in kinds(table, level)]
+        column = 'code' if level == 'cause' else 'type'
+        lines += ['', f'_{level.upper()}_KINDS: tuple[type[{base}], ...] = (', *names, ')',
+                  f'{level.upper()}S: dict[int, type[{base}]] = {{it.{column}: it for it in _{level.upper()}_KINDS}}',
+                  f'"""The kinds of {LISTS[level]} here, by their {column}s."""']
+    return '\n'.join(lines) + '\n'
+
+
 # ---- Rust
+
+def rust_docs(text):
+    return textwrap.wrap(text, 100, initial_indent='    /// ', subsequent_indent='    /// ', break_on_hyphens=False,
+                         break_long_words=False)
+
 
 def rust(table):
     def constant(row):
         about = f'{row.about} ({reference(row)}).'
-        if row.read != 'kind' and row.value != '-':
-            fields = re.sub(r'\w+_\w+', r'`\g<0>`', row.value)
-            about += f' Its value is bytes here: {fields}.'
-        lines = textwrap.wrap(about, 100, initial_indent='    /// ', subsequent_indent='    /// ', break_on_hyphens=False)
+        if row.read != 'kind':
+            about += f' By field it is [`{kind_name(row)}`](crate::{REGISTERED[row.level]}::{kind_name(row)}).'
+        lines = rust_docs(about)
         return '\n'.join([*lines, f'    {row.identifier} = {digits(row, upper=True)}, "{row.name}";', ''])
     return [''.join(map(constant, table[level])) for level in ('chunk', 'parameter', 'cause')]
+
+
+RUST_WORDS = {'tsn': 'TSN', 'hmac': 'HMAC', 'hmacs': 'HMACs'}
+
+
+def rust_registered(table):
+    def kind(row, fields):
+        forms = [form for _, form in fields]
+        after = forms[forms.index('address') + 1:] if 'address' in forms else []
+        if after not in ([], ['parameters'] if row.level == 'chunk' else []):
+            sys.exit(f'{row.name}: Rust writes no {after[0]} after an address')
+        lines = rust_docs(kind_about(row).replace('a_rwnd', '`a_rwnd`'))
+        lines.append(f'    {kind_name(row)} = {row.identifier}{" {" if fields else ","}')
+        for name, form in fields:
+            words = [RUST_WORDS.get(word, word) for word in name.split('_')]
+            words[0] = words[0][0].upper() + words[0][1:]
+            size = next((f', a number of {int(size[1:]) // 8} bytes' for size, places in C_NUMBERS.items() if form in places), '')
+            lines += [f'        /// {" ".join(words)}{size}.'.replace('A rwnd', '`a_rwnd`'), f'        {name}: {form},']
+        return '\n'.join([*lines, '    },', ''] if fields else [*lines, ''])
+    return [''.join(kind(*it) for it in kinds(table, level)) for level in REGISTERED]
 
 
 # ---- Go

@@ -131,6 +131,7 @@ def between_marks(path, texts):
 MARKED = {
     'include/dcsctp.h': languages.c,
     'bindings/python/src/davgyuti/_values.py': languages.python,
+    'bindings/rust/src/registered.rs': languages.rust_registered,
     'bindings/rust/src/types.rs': languages.rust,
     'bindings/cpp/dcsctp.hpp': languages.cpp,
     'bindings/js/davgyuti.js': languages.javascript,
@@ -145,6 +146,7 @@ def files_of(table):
     return {
         'crates/dump_text/src/registry.rt': languages.rattle(table),
         'bindings/go/registry.go': languages.go(table),
+        'bindings/python/src/davgyuti/registered.py': languages.python_registered(table),
         'page/src/registry.mjs': languages.page(table),
         **{path: between_marks(path, language(table)) for path, language in MARKED.items()},
     }

@@ -4,7 +4,9 @@
 use crate::chunk::{Chunk, Chunks};
 use crate::error::WriteError;
 use crate::ffi;
+use crate::list::Parameters;
 use crate::packet::seal;
+use crate::registered::{Raw, RegisteredCause, RegisteredChunk, RegisteredParameter};
 use crate::types::{CauseCode, ChunkType, ParameterType};
 use crate::values::{Data, GapAckBlock, Init, ReConfig, SkippedStream};
 use core::ptr;
@@ -693,6 +695,52 @@ impl<'a> PacketBuilder<'a> {
         add_chunk!(self, dcsctp_add_i_forward_tsn, new_cumulative_tsn, first, count);
         Ok(self)
     }
+
+    /// Adds a chunk of the rest of IANA's registry by its fields, without flags, and zeros in what is
+    /// reserved. More parameters can be added to an ASCONF or an ASCONF ACK (RFC 5061 section 4.1).
+    ///
+    /// ```
+    /// use davgyuti::{Parameters, RegisteredChunk, RegisteredParameter};
+    ///
+    /// # let mut buffer = [0; 100];
+    /// # let mut packet = davgyuti::PacketBuilder::begin(&mut buffer, 5000, 5001, 7)?;
+    /// let ack = RegisteredChunk::AsconfAck { sequence_number: 41, parameters: Parameters::of(&[]) };
+    /// let success = RegisteredParameter::SuccessIndication { request: 1 };
+    /// packet.registered(&ack)?.registered_parameter(&success)?;
+    /// assert_eq!(packet.as_bytes()[12..20], [128, 0, 0, 16, 0, 0, 0, 41]);
+    /// # Ok::<(), davgyuti::WriteError>(())
+    /// ```
+    ///
+    /// # Errors
+    /// [`WriteError::BadValue`], also where the type does not allow it: counts that aren't those of
+    /// the blocks, a list that is broken; or [`WriteError::NoRoom`].
+    #[doc(alias = "dcsctp_add_registered_chunk")]
+    pub fn registered(
+        &mut self,
+        chunk: &RegisteredChunk,
+    ) -> Result<ChunkBuilder<'_, 'a>, WriteError> {
+        let (raw, number) = (chunk.raw(), chunk.chunk_type().0);
+        self.all_or_nothing(|packet| {
+            let (fields, bytes, list) = raw.parts();
+            let (first, count) = (bytes.as_ptr(), bytes.len());
+            add_chunk!(
+                packet,
+                dcsctp_add_registered_chunk,
+                number,
+                &raw const fields,
+                first,
+                count
+            );
+            // (those after an address, which C would ask for in one slice with it)
+            let mut list = Parameters::of(list);
+            let mut builder = ChunkBuilder { packet };
+            for it in &mut list {
+                builder.parameter(it.parameter_type(), it.value())?;
+            }
+            if list.as_bytes().is_empty() { Ok(()) } else { Err(WriteError::BadValue) }
+        })?;
+        Ok(ChunkBuilder { packet: self })
+    }
 }
 
 /// The last chunk of a packet that is written, to add to its list: parameters (RFC 9260 section
@@ -889,6 +937,59 @@ impl ChunkBuilder<'_, '_> {
         // `ParameterType` is `#[repr(transparent)]`: the types lie there as numbers of two bytes.
         let (first, count) = (types.as_ptr().cast(), types.len());
         add!(self.packet, dcsctp_add_missing_parameters, self.packet.last, first, count)?;
+        Ok(self)
+    }
+
+    /// Adds a parameter of the rest of IANA's registry by its fields.
+    ///
+    /// ```
+    /// use davgyuti::{Init, RegisteredParameter};
+    ///
+    /// # let mut buffer = [0; 100];
+    /// # let mut packet = davgyuti::PacketBuilder::begin(&mut buffer, 5000, 5001, 0)?;
+    /// let own = RegisteredParameter::Ipv4Address { address: [192, 0, 2, 1].into() };
+    /// packet.init(&Init::default())?.registered_parameter(&own)?;
+    /// assert_eq!(packet.as_bytes()[32..], [0, 5, 0, 8, 192, 0, 2, 1]);
+    /// # Ok::<(), davgyuti::WriteError>(())
+    /// ```
+    ///
+    /// # Errors
+    /// Any [`WriteError`]; [`WriteError::BadValue`] also where the type does not allow it: an address
+    /// of the other version of IP in [`RegisteredParameter::Ipv4Address`], a list that is broken.
+    #[doc(alias = "dcsctp_add_registered_parameter")]
+    pub fn registered_parameter(
+        &mut self,
+        parameter: &RegisteredParameter,
+    ) -> Result<&mut Self, WriteError> {
+        let (raw, number): (Raw, u16) = (parameter.raw(), parameter.parameter_type().0);
+        let (fields, bytes, _) = raw.parts();
+        let (fields, first, count) = (&raw const fields, bytes.as_ptr(), bytes.len());
+        let start = self.packet.last;
+        add!(self.packet, dcsctp_add_registered_parameter, start, number, fields, first, count)?;
+        Ok(self)
+    }
+
+    /// Adds an error cause of the rest of IANA's registry by its fields.
+    ///
+    /// ```
+    /// use davgyuti::RegisteredCause;
+    ///
+    /// # let mut buffer = [0; 100];
+    /// # let mut packet = davgyuti::PacketBuilder::begin(&mut buffer, 5000, 5001, 7)?;
+    /// packet.error()?.registered_cause(&RegisteredCause::StaleCookie { microseconds: 256 })?;
+    /// assert_eq!(packet.as_bytes()[16..], [0, 3, 0, 8, 0, 0, 1, 0]);
+    /// # Ok::<(), davgyuti::WriteError>(())
+    /// ```
+    ///
+    /// # Errors
+    /// Any [`WriteError`]; [`WriteError::BadValue`] also where a list is broken.
+    #[doc(alias = "dcsctp_add_registered_cause")]
+    pub fn registered_cause(&mut self, cause: &RegisteredCause) -> Result<&mut Self, WriteError> {
+        let (raw, number): (Raw, u16) = (cause.raw(), cause.code().0);
+        let (fields, bytes, _) = raw.parts();
+        let (fields, first, count) = (&raw const fields, bytes.as_ptr(), bytes.len());
+        let start = self.packet.last;
+        add!(self.packet, dcsctp_add_registered_cause, start, number, fields, first, count)?;
         Ok(self)
     }
 

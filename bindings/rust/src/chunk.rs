@@ -10,6 +10,7 @@ use crate::list::{Causes, Parameters};
 use crate::owned::OwnedChunk;
 #[cfg(feature = "alloc")]
 use crate::packet::first_fault;
+use crate::registered::RegisteredChunk;
 use crate::types::ChunkType;
 #[cfg(feature = "alloc")]
 use crate::values::Policy;
@@ -145,7 +146,7 @@ pub enum Content<'a> {
     /// I-FORWARD-TSN (RFC 8260 section 2.3.1).
     IForwardTsn(ForwardTsn<'a>),
     /// Any other type; and, in bytes that weren't checked, what its type doesn't allow. The
-    /// [value](Chunk::value) has it.
+    /// [value](Chunk::value) has it, and [`registered`](Chunk::registered) reads some types.
     Other,
 }
 
@@ -496,7 +497,7 @@ impl<'a> Chunk<'a> {
     #[must_use]
     #[inline]
     pub fn parameters(&self) -> Parameters<'a> {
-        Parameters::of(*self)
+        Parameters::of_chunk(*self)
     }
 
     /// Returns the error causes (RFC 9260 section 3.3.10) of ABORT and ERROR; other types have
@@ -510,7 +511,26 @@ impl<'a> Chunk<'a> {
     #[must_use]
     #[inline]
     pub fn causes(&self) -> Causes<'a> {
-        Causes::of(*self)
+        Causes::of_chunk(*self)
+    }
+
+    /// Returns the chunk by its fields, if its type is one of [`RegisteredChunk`]; none where the
+    /// value has a size that its type doesn't allow, or a list that is broken. Its flags are in no
+    /// field: none of those types has one.
+    ///
+    /// ```
+    /// # let bytes = *b"\0\x01\0\x02\0\0\0\x03\0\0\0\0\x0c\0\0\x08\0\0\0\x29";
+    /// # let chunk = davgyuti::Chunk::at(&bytes, 12).unwrap();
+    /// use davgyuti::RegisteredChunk;
+    ///
+    /// // ECNE (RFC 4960 appendix A).
+    /// assert_eq!(chunk.registered(), Some(RegisteredChunk::Ecne { lowest_tsn: 41 }));
+    /// ```
+    #[doc(alias = "dcsctp_registered_chunk")]
+    #[must_use]
+    pub fn registered(&self) -> Option<RegisteredChunk<'a>> {
+        let raw: ffi::Registered = read!(self, dcsctp_registered_chunk)?;
+        RegisteredChunk::of(self.chunk_type(), self.bytes, &raw)
     }
 
     /// Returns where the value ends.

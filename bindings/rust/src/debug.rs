@@ -14,7 +14,7 @@ use core::fmt::{Debug, Formatter, Result};
 const SHOWN: usize = 32;
 
 /// Bytes, shown as Rust writes them: `b"abc"`; of many the first, and how many they are.
-struct Bytes<'a>(&'a [u8]);
+pub(crate) struct Bytes<'a>(pub(crate) &'a [u8]);
 
 impl Debug for Bytes<'_> {
     fn fmt(&self, f: &mut Formatter<'_>) -> Result {

@@ -85,6 +85,21 @@ pub struct ReConfig {
     pub stream_count: usize,
 }
 
+/// What a chunk, a parameter or an error cause of the rest of the registry holds.
+#[repr(C)]
+#[derive(Clone, Copy, Default, Debug)]
+pub struct Registered {
+    pub number: u32,
+    pub second_number: u32,
+    pub short_number: u16,
+    pub second_short_number: u16,
+    pub third_short_number: u16,
+    pub address_offset: usize,
+    pub address_size: usize,
+    pub rest_offset: usize,
+    pub rest_size: usize,
+}
+
 /// Returns what `read` writes, if it returns true.
 #[inline]
 pub fn read<T: Default>(read: impl FnOnce(&mut T) -> bool) -> Option<T> {
@@ -178,12 +193,11 @@ unsafe extern "C" {
         forward_tsn: *mut ForwardTsn,
     ) -> bool;
     pub fn dcsctp_list_offset(chunk: *const Chunk) -> usize;
-    pub fn dcsctp_parameter_at(
+    pub fn dcsctp_item_at(
         bytes: *const u8,
         length: usize,
-        chunk: *const Chunk,
         offset: usize,
-        parameter: *mut Parameter,
+        item: *mut Parameter,
     ) -> bool;
     pub fn dcsctp_number(
         bytes: *const u8,
@@ -196,6 +210,24 @@ unsafe extern "C" {
         length: usize,
         parameter: *const Parameter,
         re_config: *mut ReConfig,
+    ) -> bool;
+    pub fn dcsctp_registered_chunk(
+        bytes: *const u8,
+        length: usize,
+        chunk: *const Chunk,
+        registered: *mut Registered,
+    ) -> bool;
+    pub fn dcsctp_registered_parameter(
+        bytes: *const u8,
+        length: usize,
+        parameter: *const Parameter,
+        registered: *mut Registered,
+    ) -> bool;
+    pub fn dcsctp_registered_cause(
+        bytes: *const u8,
+        length: usize,
+        cause: *const Parameter,
+        registered: *mut Registered,
     ) -> bool;
     pub fn dcsctp_missing_parameters(
         bytes: *const u8,
@@ -351,6 +383,35 @@ unsafe extern "C" {
         start: usize,
         types: *const u16,
         type_count: usize,
+    ) -> u32;
+    pub fn dcsctp_add_registered_chunk(
+        packet: *mut u8,
+        room: usize,
+        size: *mut usize,
+        r#type: u8,
+        registered: *const Registered,
+        bytes: *const u8,
+        length: usize,
+    ) -> u32;
+    pub fn dcsctp_add_registered_parameter(
+        packet: *mut u8,
+        room: usize,
+        size: *mut usize,
+        start: usize,
+        r#type: u16,
+        registered: *const Registered,
+        bytes: *const u8,
+        length: usize,
+    ) -> u32;
+    pub fn dcsctp_add_registered_cause(
+        packet: *mut u8,
+        room: usize,
+        size: *mut usize,
+        start: usize,
+        code: u16,
+        registered: *const Registered,
+        bytes: *const u8,
+        length: usize,
     ) -> u32;
 
     pub fn dcsctp_clean_blocks(blocks: *mut GapAckBlock, block_count: usize) -> usize;

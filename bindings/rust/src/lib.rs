@@ -19,6 +19,7 @@ mod owned;
 mod packet;
 #[cfg(feature = "processor-crc32c")]
 pub mod processor;
+mod registered;
 mod text;
 mod types;
 mod values;
@@ -29,10 +30,13 @@ pub use chunk::{
     SkippedStreams, TAG_REFLECTED,
 };
 pub use error::{Fault, FaultKind, OutputError, UnknownNumber, WriteError};
-pub use list::{Cause, Causes, MissingParameters, Parameter, Parameters, ResetStreams};
+pub use list::{
+    Cause, Causes, MissingParameters, Parameter, Parameters, ResetStreams, ShortNumbers,
+};
 #[cfg(feature = "alloc")]
 pub use owned::OwnedChunk;
 pub use packet::{Packet, check, clean_blocks, first_fault, needs_checksum, seal, set_tag, word};
+pub use registered::{RegisteredCause, RegisteredChunk, RegisteredParameter};
 pub use types::{CauseCode, ChunkType, ParameterType};
 pub use values::{
     Data, GapAckBlock, Header, Init, NextTsns, Policy, ReConfig, ReConfigResult, SkippedStream,

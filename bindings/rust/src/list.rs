@@ -5,6 +5,7 @@ use crate::chunk::{Chunk, list_of_numbers, part, read, same_bytes, u16_of};
 use crate::debug::list_of_items;
 use crate::error::WriteError;
 use crate::ffi;
+use crate::registered::{RegisteredCause, RegisteredParameter};
 use crate::types::{CauseCode, ChunkType, ParameterType};
 use crate::values::{NextTsns, ReConfig, ReConfigResult};
 use core::iter::FusedIterator;
@@ -73,35 +74,43 @@ impl<'a> Item<'a> {
 // The type and the value: the length between them is that of the value.
 same_bytes!(Item);
 
-/// The items of a chunk's list.
+/// The items of a list, which ends where the bytes end.
 #[derive(Clone)]
 struct Items<'a> {
-    chunk: Chunk<'a>,
+    bytes: &'a [u8],
     next: usize,
 }
 
 impl<'a> Items<'a> {
     /// Those of a chunk whose list has the items that are asked for; of another none.
     #[inline]
-    fn of(chunk: Chunk<'a>, has_them: bool) -> Self {
+    fn of_chunk(chunk: Chunk<'a>, has_them: bool) -> Self {
+        let bytes = part(chunk.bytes(), 0, chunk.value_end());
         let next = if has_them {
             // SAFETY: the chunk is a reference.
             unsafe { ffi::dcsctp_list_offset(chunk.raw()) }
         } else {
-            chunk.bytes().len()
+            bytes.len()
         };
-        Self { chunk, next }
+        Self { bytes, next }
     }
 
     #[inline]
     fn next(&mut self) -> Option<Item<'a>> {
-        // (no item begins where the value ends)
-        if self.next >= self.chunk.value_end() {
+        // (no item begins where the bytes end)
+        if self.next >= self.bytes.len() {
             return None;
         }
-        let raw: ffi::Parameter = read!(self.chunk, dcsctp_parameter_at, self.next)?;
+        let (start, length, at) = (self.bytes.as_ptr(), self.bytes.len(), self.next);
+        // SAFETY: `bytes` is a slice, and `item` a reference.
+        let raw = ffi::read(|item| unsafe { ffi::dcsctp_item_at(start, length, at, item) })?;
         self.next = raw.next;
-        Some(Item { bytes: self.chunk.bytes(), raw })
+        Some(Item { bytes: self.bytes, raw })
+    }
+
+    /// The bytes of those that are left.
+    fn as_bytes(&self) -> &'a [u8] {
+        self.bytes.get(self.next..).unwrap_or(&[])
     }
 }
 
@@ -111,7 +120,8 @@ const fn has_causes(chunk: &Chunk) -> bool {
     matches!(chunk.chunk_type(), ChunkType::ABORT | ChunkType::ERROR)
 }
 
-/// The parameters of a chunk (RFC 9260 section 3.2.1), up to where no whole one is.
+/// The parameters of a list (RFC 9260 section 3.2.1), up to where no whole one is: of a chunk, or of
+/// what is in a parameter or an error cause.
 ///
 /// ```
 /// # let bytes = *b"\0\x01\0\x02\0\0\0\x03\0\0\0\0\x04\0\0\x0c\0\x01\0\x08info";
@@ -127,8 +137,41 @@ list_of_items!(Parameters);
 
 impl<'a> Parameters<'a> {
     #[inline]
-    pub(crate) fn of(chunk: Chunk<'a>) -> Self {
-        Self(Items::of(chunk, !has_causes(&chunk)))
+    pub(crate) fn of_chunk(chunk: Chunk<'a>) -> Self {
+        Self(Items::of_chunk(chunk, !has_causes(&chunk)))
+    }
+
+    /// Those from an offset of the bytes on.
+    pub(crate) const fn at(bytes: &'a [u8], next: usize) -> Self {
+        Self(Items { bytes, next })
+    }
+
+    /// Returns the parameters that bytes are, one after the other, with their padding: to be read,
+    /// or to be added as those of a [`RegisteredChunk`](crate::RegisteredChunk), say.
+    ///
+    /// ```
+    /// use davgyuti::{ParameterType, Parameters};
+    ///
+    /// // ECN Capable, and a Random of a byte.
+    /// let types = Parameters::of(b"\x80\0\0\x04\x80\x02\0\x05r").map(|it| it.parameter_type());
+    /// assert!(types.eq([ParameterType::ECN_CAPABLE, ParameterType::RANDOM]));
+    /// ```
+    #[must_use]
+    pub const fn of(bytes: &'a [u8]) -> Self {
+        Self::at(bytes, 0)
+    }
+
+    /// Returns the bytes of the parameters that are left, with the padding between them; and what
+    /// follows them that is no whole one.
+    ///
+    /// ```
+    /// let mut parameters = davgyuti::Parameters::of(b"\x80\0\0\x04\x80\x02\0\x05r");
+    /// parameters.next();
+    /// assert_eq!(parameters.as_bytes(), b"\x80\x02\0\x05r");
+    /// ```
+    #[must_use]
+    pub fn as_bytes(&self) -> &'a [u8] {
+        self.0.as_bytes()
     }
 }
 
@@ -143,7 +186,8 @@ impl<'a> Iterator for Parameters<'a> {
 
 impl FusedIterator for Parameters<'_> {}
 
-/// The error causes of a chunk (RFC 9260 section 3.3.10), up to where no whole one is.
+/// The error causes of a list (RFC 9260 section 3.3.10), up to where no whole one is: of a chunk, or
+/// of what is in a parameter.
 ///
 /// ```
 /// # let bytes = *b"\0\x01\0\x02\0\0\0\x03\0\0\0\0\x09\0\0\x1c\0\x09\0\x08\0\0\0\x29\0\x02\0\x0a\0\0\0\x01\0\x07\0\0\0\x04\0\x04";
@@ -158,8 +202,36 @@ list_of_items!(Causes);
 
 impl<'a> Causes<'a> {
     #[inline]
-    pub(crate) fn of(chunk: Chunk<'a>) -> Self {
-        Self(Items::of(chunk, has_causes(&chunk)))
+    pub(crate) fn of_chunk(chunk: Chunk<'a>) -> Self {
+        Self(Items::of_chunk(chunk, has_causes(&chunk)))
+    }
+
+    /// Those from an offset of the bytes on.
+    pub(crate) const fn at(bytes: &'a [u8], next: usize) -> Self {
+        Self(Items { bytes, next })
+    }
+
+    /// Returns the error causes that bytes are, as [`Parameters::of`] does.
+    ///
+    /// ```
+    /// use davgyuti::{CauseCode, Causes};
+    ///
+    /// let codes = Causes::of(b"\0\x04\0\x04\0\x07\0\x04").map(|it| it.code());
+    /// assert!(codes.eq([CauseCode::OUT_OF_RESOURCE, CauseCode::INVALID_MANDATORY_PARAMETER]));
+    /// ```
+    #[must_use]
+    pub const fn of(bytes: &'a [u8]) -> Self {
+        Self::at(bytes, 0)
+    }
+
+    /// Returns the bytes of the causes that are left, as [`Parameters::as_bytes`] does.
+    ///
+    /// ```
+    /// assert_eq!(davgyuti::Causes::of(b"\0\x04\0\x04").as_bytes(), b"\0\x04\0\x04");
+    /// ```
+    #[must_use]
+    pub fn as_bytes(&self) -> &'a [u8] {
+        self.0.as_bytes()
     }
 }
 
@@ -375,6 +447,24 @@ impl<'a> Parameter<'a> {
             _ => return None,
         })
     }
+
+    /// Returns the parameter by its fields, if its type is one of [`RegisteredParameter`]; none where
+    /// the value has a size that its type doesn't allow, or a list that is broken.
+    ///
+    /// ```
+    /// use davgyuti::{Parameters, RegisteredParameter};
+    ///
+    /// // Success Indication (RFC 5061 section 4.2.5).
+    /// let mut parameters = Parameters::of(b"\xc0\x05\0\x08\0\0\0\x07");
+    /// let success = RegisteredParameter::SuccessIndication { request: 7 };
+    /// assert_eq!(parameters.next().unwrap().registered(), Some(success));
+    /// ```
+    #[doc(alias = "dcsctp_registered_parameter")]
+    #[must_use]
+    pub fn registered(&self) -> Option<RegisteredParameter<'a>> {
+        let raw: ffi::Registered = read!(self.0, dcsctp_registered_parameter)?;
+        RegisteredParameter::of(self.parameter_type(), self.0.bytes, &raw)
+    }
 }
 
 /// An error cause (RFC 9260 section 3.3.10), where it lies in a packet's bytes.
@@ -500,6 +590,23 @@ impl<'a> Cause<'a> {
             unsafe { ffi::dcsctp_missing_parameters(start, length, &raw const raw, none, 0) };
         MissingParameters::before(bytes, self.0.value_end(), 2, count)
     }
+
+    /// Returns the cause by its fields, if its code is one of [`RegisteredCause`]; none where the
+    /// value has a size that its code doesn't allow, or a list that is broken.
+    ///
+    /// ```
+    /// use davgyuti::{Causes, RegisteredCause};
+    ///
+    /// // Stale Cookie (RFC 9260 section 3.3.10.3).
+    /// let cause = Causes::of(b"\0\x03\0\x08\0\0\x01\0").next().unwrap();
+    /// assert_eq!(cause.registered(), Some(RegisteredCause::StaleCookie { microseconds: 256 }));
+    /// ```
+    #[doc(alias = "dcsctp_registered_cause")]
+    #[must_use]
+    pub fn registered(&self) -> Option<RegisteredCause<'a>> {
+        let raw: ffi::Registered = read!(self.0, dcsctp_registered_cause)?;
+        RegisteredCause::of(self.code(), self.0.bytes, &raw)
+    }
 }
 
 list_of_numbers! {
@@ -530,4 +637,57 @@ list_of_numbers! {
     /// ```
     #[doc(alias = "dcsctp_missing_parameter")]
     MissingParameters, ParameterType, |it| ParameterType(u16_of(it))
+}
+
+list_of_numbers! {
+    /// Numbers of two bytes: the types of Supported Address Types (RFC 9260 section 3.3.2.1.5), the
+    /// identifiers of Requested HMAC Algorithm (RFC 4895 section 3.3).
+    ///
+    /// ```
+    /// assert!(davgyuti::ShortNumbers::of(&[0, 5, 0, 6]).eq([5, 6]));
+    /// ```
+    #[doc(alias = "dcsctp_short_numbers")]
+    ShortNumbers, u16, u16_of
+}
+
+impl<'a> ShortNumbers<'a> {
+    /// Returns the numbers that bytes are, the most significant byte of each first; a last one is
+    /// ignored that has no second byte.
+    ///
+    /// ```
+    /// assert_eq!(davgyuti::ShortNumbers::of(&[0, 5, 0, 6, 0]).len(), 2);
+    /// ```
+    #[must_use]
+    pub const fn of(bytes: &'a [u8]) -> Self {
+        let count = bytes.len() / 2;
+        Self::before(bytes, 2 * count, 2, count)
+    }
+
+    /// Writes numbers to the front of `output`, and returns them, to be added to a packet.
+    ///
+    /// ```
+    /// use davgyuti::{RegisteredParameter, ShortNumbers};
+    ///
+    /// // IPv4 and IPv6 (RFC 9260 section 3.3.2.1.5).
+    /// let mut output = [0; 4];
+    /// let types = ShortNumbers::write(&mut output, &[5, 6])?;
+    /// let types = RegisteredParameter::SupportedAddressTypes { types };
+    /// # assert_eq!(output, [0, 5, 0, 6]);
+    /// # Ok::<(), davgyuti::WriteError>(())
+    /// ```
+    ///
+    /// # Errors
+    /// [`WriteError::NoRoom`].
+    pub fn write(output: &'a mut [u8], numbers: &[u16]) -> Result<Self, WriteError> {
+        let output = output.get_mut(..2 * numbers.len()).ok_or(WriteError::NoRoom)?;
+        for (two, number) in output.chunks_exact_mut(2).zip(numbers) {
+            two.copy_from_slice(&number.to_be_bytes());
+        }
+        Ok(Self::of(output))
+    }
+
+    /// The bytes of the numbers that are left.
+    pub(crate) fn as_bytes(&self) -> &'a [u8] {
+        part(self.bytes, self.size * self.indices.start, self.size * self.indices.len())
+    }
 }

@@ -15,12 +15,14 @@
 Packets begin at the source port: at what follows the IP header, or that of UDP (RFC 6951). All numbers are plain values.
 Each chunk, parameter and error cause that was read has its `offset`; `bytes(it)` is how it is written, with its header, and
 of a RawChunk, RawParameter or RawCause also how it was read. Chunks and parameters have their `type`, causes their `code`,
-and all of them a `name` and a `value`; `parameter(type, value)` and `cause(code, value)` make one of its kind.
+and all of them a `name` and a `value`; `parameter(type, value)` and `cause(code, value)` make one of its kind. Of the rest of
+IANA's registry, such as ASCONF, AUTH and addresses, `it.registered()` reads the fields: see `help(davgyuti.registered)`.
 The functions of the library are compiled from proved sources; this wrapper isn't proved. Any number of threads may call at
 once; a list that is written call by call belongs to one thread at a time. In the forked child of a process with threads, `canonical` and `text` may not be called, nor a builder that another
 thread was using. A handler of `signal` may call everything but the methods of a builder that it may have interrupted.
 """
 
+from . import registered
 from ._library import version_text as __version__
 from ._reading import (
     Buffer,
@@ -45,6 +47,7 @@ from ._values import (
     Abort,
     AddIncomingStreams,
     AddOutgoingStreams,
+    Address,
     BadPlace,
     BadValue,
     Cause,
@@ -85,6 +88,9 @@ from ._values import (
     ReConfig,
     ReConfigResponse,
     ReConfigResult,
+    RegisteredCause,
+    RegisteredChunk,
+    RegisteredParameter,
     Result,
     Sack,
     Shutdown,
@@ -111,6 +117,7 @@ __all__ = [
     "Abort",
     "AddIncomingStreams",
     "AddOutgoingStreams",
+    "Address",
     "BadPlace",
     "BadValue",
     "Buffer",
@@ -155,6 +162,9 @@ __all__ = [
     "ReConfig",
     "ReConfigResponse",
     "ReConfigResult",
+    "RegisteredCause",
+    "RegisteredChunk",
+    "RegisteredParameter",
     "Result",
     "Sack",
     "Shutdown",
@@ -186,6 +196,7 @@ __all__ = [
     "raw_chunks",
     "raw_items",
     "read_chunk",
+    "registered",
     "report",
     "seal",
     "set_tag",

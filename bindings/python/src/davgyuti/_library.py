@@ -100,6 +100,20 @@ class ReConfig(ctypes.Structure):
     ]
 
 
+class Registered(ctypes.Structure):
+    _fields_ = [
+        ("number", c_uint32),
+        ("second_number", c_uint32),
+        ("short_number", c_uint16),
+        ("second_short_number", c_uint16),
+        ("third_short_number", c_uint16),
+        ("address_offset", c_size_t),
+        ("address_size", c_size_t),
+        ("rest_offset", c_size_t),
+        ("rest_size", c_size_t),
+    ]
+
+
 class Row(ctypes.Structure):
     _fields_ = [
         ("chunk", Chunk),
@@ -144,6 +158,7 @@ _CHUNK = (*_BYTES, POINTER(Chunk))
 _PARAMETER = (*_BYTES, POINTER(Parameter))
 _LIST = (*_OUTPUT, c_size_t)
 _STREAMS = (POINTER(SkippedStream), c_size_t)
+_REGISTERED = (POINTER(Registered), *_BYTES)
 
 # What each returns, and what it takes.
 FUNCTIONS: dict[str, tuple[Any, ...]] = {
@@ -164,12 +179,17 @@ FUNCTIONS: dict[str, tuple[Any, ...]] = {
     "dcsctp_forward_tsn": (c_bool, *_CHUNK, POINTER(ForwardTsn)),
     "dcsctp_number": (c_bool, *_PARAMETER, POINTER(c_uint32)),
     "dcsctp_re_config": (c_bool, *_PARAMETER, POINTER(ReConfig)),
+    "dcsctp_registered_chunk": (c_bool, *_CHUNK, POINTER(Registered)),
+    "dcsctp_registered_parameter": (c_bool, *_PARAMETER, POINTER(Registered)),
+    "dcsctp_registered_cause": (c_bool, *_PARAMETER, POINTER(Registered)),
     "dcsctp_gap_ack_blocks": (c_size_t, *_CHUNK, POINTER(GapAckBlock), c_size_t),
     "dcsctp_duplicate_tsns": (c_size_t, *_CHUNK, POINTER(c_uint32), c_size_t),
     "dcsctp_skipped_streams": (c_size_t, *_CHUNK, POINTER(SkippedStream), c_size_t),
     "dcsctp_parameters": (c_size_t, *_CHUNK, POINTER(Parameter), c_size_t),
+    "dcsctp_items": (c_size_t, *_BYTES, c_size_t, POINTER(Parameter), c_size_t),
     "dcsctp_reset_streams": (c_size_t, *_PARAMETER, POINTER(c_uint16), c_size_t),
     "dcsctp_missing_parameters": (c_size_t, *_PARAMETER, POINTER(c_uint16), c_size_t),
+    "dcsctp_short_numbers": (c_size_t, *_PARAMETER, POINTER(c_uint16), c_size_t),
     "dcsctp_seal": (c_uint32, POINTER(c_uint8), c_size_t),
     "dcsctp_set_tag": (c_uint32, POINTER(c_uint8), c_size_t, c_uint32),
     "dcsctp_begin": (c_uint32, *_OUTPUT, c_uint16, c_uint16, c_uint32),
@@ -195,6 +215,9 @@ FUNCTIONS: dict[str, tuple[Any, ...]] = {
     "dcsctp_add_number": (c_uint32, *_LIST, c_uint16, c_uint32),
     "dcsctp_add_re_config": (c_uint32, *_LIST, POINTER(ReConfig), POINTER(c_uint16), c_size_t),
     "dcsctp_add_missing_parameters": (c_uint32, *_LIST, POINTER(c_uint16), c_size_t),
+    "dcsctp_add_registered_chunk": (c_uint32, *_OUTPUT, c_uint8, *_REGISTERED),
+    "dcsctp_add_registered_parameter": (c_uint32, *_LIST, c_uint16, *_REGISTERED),
+    "dcsctp_add_registered_cause": (c_uint32, *_LIST, c_uint16, *_REGISTERED),
     "dcsctp_clean_blocks": (c_size_t, POINTER(GapAckBlock), c_size_t),
     "dcsctp_version_number": (c_uint32,),
 }

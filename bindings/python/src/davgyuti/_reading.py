@@ -7,11 +7,13 @@ import struct
 from collections.abc import Callable, Iterator
 from ctypes import byref, c_size_t, c_uint8, c_uint16, c_uint32
 from functools import partial
+from ipaddress import ip_address
 from itertools import chain, islice, product
 from typing import Any, TypeAlias, TypeVar
 
 from . import _library as c
 from . import _values as v
+from . import registered as r
 from ._library import bare, functions
 
 try:
@@ -197,7 +199,7 @@ def chunks(data: Buffer) -> Iterator[v.Chunk]:
 
 def raw_items(data: Buffer) -> Iterator[tuple[v.RawChunk, tuple[v.RawParameter, ...]]]:
     """Returns the chunks of bytes that need not be a packet, as they are, each with its parameters or error causes, as they
-    are; of a cause the code is the type."""
+    are; of a cause the code is the type: `cause(it.type, it.value)` makes one of it."""
     data = to_bytes(data)
     for chunk in _chunks(data):
         yield _raw_chunk(data, chunk), tuple([_placed(_raw_parameter(data, it), it[1]) for it in _items(data, chunk)])
@@ -613,3 +615,49 @@ _CAUSES: _Kinds = {
 }
 _parameter, _parameters = (partial(it, _PARAMETERS, _raw_parameter) for it in (_part, _parts))
 _cause, _causes = (partial(it, _CAUSES, _raw_cause) for it in (_part, _parts))
+
+# ---- the rest of the registry
+
+
+def registered(part: Any) -> Any:
+    """What a raw chunk, parameter or error cause is by its fields, or None; what is so already, as it is."""
+    kind: Any
+    if isinstance(part, v.RawChunk):
+        kind, code, function = r.CHUNKS.get(part.type), part.type, functions.dcsctp_registered_chunk
+    elif isinstance(part, v.RawParameter):
+        kind, code, function = r.PARAMETERS.get(part.type), part.type, functions.dcsctp_registered_parameter
+    elif isinstance(part, v.RawCause):
+        kind, code, function = r.CAUSES.get(part.code), part.code, functions.dcsctp_registered_cause
+    else:
+        return part if isinstance(part, v.RegisteredChunk | v.RegisteredParameter | v.RegisteredCause) else None
+    if kind is None:
+        return None
+    data, out = to_bytes(part.value), c.Registered()
+    places = 0, len(data), len(data)
+    item = c.Chunk(code, 0, *places) if isinstance(part, v.RawChunk) else c.Parameter(code, *places)
+    if not function(data, len(data), byref(item), byref(out)):
+        return None
+    start = None if part.offset is None else part.offset + 4
+    found = {name: _field(data, out, form, start) for name, form in kind.fields.items()}
+    return kind(**found, offset=part.offset)
+
+
+def _field(data: bytes, out: c.Registered, form: str, start: int | None) -> Any:
+    """A field of what was read of a value, which begins at an offset if one is given."""
+    rest: int = out.rest_offset
+    end = rest + out.rest_size
+    if form == "address":
+        return ip_address(data[out.address_offset : out.address_offset + out.address_size])
+    if form == "bytes":
+        return data[rest:end]
+    if form == "short_numbers":
+        return _shorts(bare.dcsctp_short_numbers, data, (0, rest, out.rest_size, end))
+    if form == "counts":
+        return out.short_number, out.second_short_number, out.third_short_number
+    if form not in ("parameters", "causes"):
+        return getattr(out, form)
+    items = _list(bare.dcsctp_items, data[:end], size(rest), out.rest_size, c.PARAMETER)
+    parts = (_parameters if form == "parameters" else _causes)(data, items)
+    for it in parts:
+        it.offset = None if start is None else start + it.offset
+    return parts

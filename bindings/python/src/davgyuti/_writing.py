@@ -5,6 +5,7 @@ import struct
 import threading
 from collections.abc import Callable, Iterable, Sequence
 from ctypes import byref, c_size_t, c_uint16, c_uint32
+from ipaddress import IPv4Address, IPv6Address
 from types import TracebackType
 from typing import Any
 
@@ -58,6 +59,44 @@ def _bytes(data: Buffer) -> tuple[bytes, c_size_t]:
     data = to_bytes(data)
     return data, size(len(data))
 
+
+def _registered(part: Any) -> tuple[Any, bytes, c_size_t]:
+    """The arguments of C for what is read by field: the struct, and the bytes that its places lie in."""
+    values, data = c.Registered(), b""
+    for name, form in part.fields.items():
+        it = getattr(part, name)
+        if form == "address":
+            if not isinstance(it, IPv4Address | IPv6Address):
+                raise TypeError(f"{name} has to be an address of ipaddress, and is {it!r}")
+            values.address_size = len(it.packed)
+            data = it.packed
+        elif form in ("parameters", "causes", "short_numbers", "bytes"):
+            rest = _REST[form](it)
+            values.rest_offset, values.rest_size = len(data), len(rest)
+            data += rest
+        elif form == "counts":
+            values.short_number, values.second_short_number, values.third_short_number = [_u16(count, name) for count in it]
+        else:
+            setattr(values, form, (_u16 if "short" in form else _u32)(it, name))
+    return byref(values), *_bytes(data)
+
+
+def _parts(kind: type, name: str, parts: Iterable[Any]) -> bytes:
+    """A list of parameters or error causes, as it is written: all but the last with their padding."""
+    data = bytearray()
+    for it in parts:
+        if not isinstance(it, kind):
+            raise TypeError(f"{type(it).__name__} is no {name}")
+        data += bytes(-len(data) % 4) + bytes(it)
+    return bytes(data)
+
+
+_REST: dict[str, Callable[[Any], bytes]] = {
+    "parameters": lambda it: _parts(v._ParameterPart, "parameter", it),
+    "causes": lambda it: _parts(v._CausePart, "error cause", it),
+    "short_numbers": lambda it: b"".join([_u16(number, "a number").to_bytes(2, "big") for number in it]),
+    "bytes": to_bytes,
+}
 
 # ---- changing a packet
 
@@ -455,6 +494,7 @@ _ADD: dict[type, Callable[[PacketBuilder, Any], object]] = {
     v.ReConfig: lambda to, it: to.re_config()._parameters(it.parameters),
     v.ForwardTsn: lambda to, it: to.forward_tsn(it.new_cumulative_tsn, it.streams),
     v.IForwardTsn: lambda to, it: to.i_forward_tsn(it.new_cumulative_tsn, it.streams),
+    v.RegisteredChunk: lambda to, it: to._list(bare.dcsctp_add_registered_chunk, it.type, *_registered(it)),
     v.RawChunk: lambda to, it: to.chunk(it.type, it.flags, it.value),
 }
 
@@ -550,6 +590,8 @@ class ChunkWriter:
                 self._item(v.ParameterType.SUPPORTED_EXTENSIONS, parameter.chunk_types)
             case v.ForwardTsnSupported():
                 self._item(v.ParameterType.FORWARD_TSN_SUPPORTED)
+            case v.RegisteredParameter():
+                self._add(bare.dcsctp_add_registered_parameter, parameter.type, *_registered(parameter))
             case _:
                 raise TypeError(f"{type(parameter).__name__} is no parameter")
         return self
@@ -577,6 +619,8 @@ class ChunkWriter:
                 self._item(v.CauseCode.USER_INITIATED_ABORT, cause.reason)
             case v.ProtocolViolation():
                 self._item(v.CauseCode.PROTOCOL_VIOLATION, cause.information)
+            case v.RegisteredCause():
+                self._add(bare.dcsctp_add_registered_cause, cause.code, *_registered(cause))
             case v.RawCause():
                 self._item(cause.code, cause.value)
             case _:
