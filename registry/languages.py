@@ -356,10 +356,9 @@ def python_registered(table):
             about = textwrap.wrap(f'"""{kind_about(row)}"""', 100, initial_indent='    ', subsequent_indent='    ',
                                   break_on_hyphens=False)
             forms = [f'"{name}": "{form}"' for name, form in fields]
-            forms = [f'{{{", ".join(forms)}}}'] if len(forms) < 3 else ['{', *(f'        {form},' for form in forms), '    }']
             lines += ['', '@dataclass(slots=True, unsafe_hash=True)', f'class {kind_name(row)}({base}):', *about, '',
                       f'    {column}: ClassVar[{numbers}] = {numbers}.{row.identifier}',
-                      f'    fields: ClassVar[dict[str, str]] = {forms[0]}', *forms[1:],
+                      wrapped('fields: ClassVar[dict[str, str]] = {', forms, '}', '    ', '        '),
                       *(f'    {name}: {PYTHON_FORMS.get(form, "int")}' for name, form in fields), '']
     for level, base in REGISTERED.items():
         names = [f'    {kind_name(row)},' for row, _ in kinds(table, level)]

@@ -26,11 +26,14 @@ with open(os.path.join(HERE, "..", "README.md"), encoding="ascii") as file:
 class Readme(unittest.TestCase):
     def test_python(self) -> None:
         programs = re.findall(r"```python\n(.*?)```", README, re.DOTALL)
-        for program in (programs[0], programs[2]):
+        self.assertEqual(len(programs), 5)
+        for program in (programs[0], *programs[2:]):
             printed = io.StringIO()
             with contextlib.redirect_stdout(printed):
                 exec(program, {})
-            self.assertEqual(re.findall(r"print\(.*\)  # (.*)", program), printed.getvalue().splitlines())
+            # (what is printed stands behind the call, or where it is printed in a loop, at the end)
+            wanted = re.findall(r"(?:print\(.*\)  |^)# (.*)", program, re.MULTILINE)
+            self.assertEqual(wanted, printed.getvalue().splitlines())
 
     def test_capture(self) -> None:
         known = packets()

@@ -55,11 +55,8 @@ class Auth(RegisteredChunk):
     identifier u16, HMAC."""
 
     type: ClassVar[ChunkType] = ChunkType.AUTH
-    fields: ClassVar[dict[str, str]] = {
-        "key": "short_number",
-        "hmac_identifier": "second_short_number",
-        "hmac": "bytes",
-    }
+    fields: ClassVar[dict[str, str]] = {"key": "short_number", "hmac_identifier": "second_short_number",
+        "hmac": "bytes"}
     key: int
     hmac_identifier: int
     hmac: bytes = b""
@@ -71,12 +68,8 @@ class NrSack(RegisteredChunk):
     dropped any more. Its value: TSN u32, a_rwnd u32, counts u16 u16 u16, u16, blocks, TSNs u32."""
 
     type: ClassVar[ChunkType] = ChunkType.NR_SACK
-    fields: ClassVar[dict[str, str]] = {
-        "tsn": "number",
-        "a_rwnd": "second_number",
-        "counts": "counts",
-        "lists": "bytes",
-    }
+    fields: ClassVar[dict[str, str]] = {"tsn": "number", "a_rwnd": "second_number", "counts": "counts",
+        "lists": "bytes"}
     tsn: int
     a_rwnd: int
     counts: tuple[int, int, int]
@@ -100,12 +93,8 @@ class Pktdrop(RegisteredChunk):
     bandwidth u32, queued u32, size u16, u16, a packet."""
 
     type: ClassVar[ChunkType] = ChunkType.PKTDROP
-    fields: ClassVar[dict[str, str]] = {
-        "bandwidth": "number",
-        "queued": "second_number",
-        "size": "short_number",
-        "packet": "bytes",
-    }
+    fields: ClassVar[dict[str, str]] = {"bandwidth": "number", "queued": "second_number",
+        "size": "short_number", "packet": "bytes"}
     bandwidth: int
     queued: int
     size: int
@@ -127,11 +116,8 @@ class Asconf(RegisteredChunk):
     number u32, an address, parameters."""
 
     type: ClassVar[ChunkType] = ChunkType.ASCONF
-    fields: ClassVar[dict[str, str]] = {
-        "sequence_number": "number",
-        "address": "address",
-        "parameters": "parameters",
-    }
+    fields: ClassVar[dict[str, str]] = {"sequence_number": "number", "address": "address",
+        "parameters": "parameters"}
     sequence_number: int
     address: Address
     parameters: tuple[Parameter, ...] = ()
