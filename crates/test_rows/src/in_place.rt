@@ -6,6 +6,7 @@ use dcsctp_borrowed::checked_chunks::CheckedChunk;
 use dcsctp_borrowed::cookie_echo::cookie;
 use dcsctp_borrowed::forward_tsn_ref::ForwardTsnRef;
 use dcsctp_borrowed::heartbeat_info::heartbeat_info;
+use dcsctp_borrowed::meaning::means_same;
 use dcsctp_borrowed::packet_ref::SctpPacketRef;
 use dcsctp_borrowed::raw_causes::RawCauses;
 use dcsctp_borrowed::raw_chunks::RawChunks;
@@ -34,6 +35,18 @@ pub fn canonical_in_place(alloc: Global, bytes: &[u8]) -> Result<Vec<u8>, AllocE
     match write_canonical(&packet, &mut output) {
         Ok(_) => Ok(output),
         Err(_) => Ok(Vec::new(alloc)),
+    }
+}
+
+/// Returns whether both are packets that mean the same where they lie, or neither is a packet.
+pub fn mean_alike(bytes: &[u8], other: &[u8]) -> bool {
+    let policy = ChecksumPolicy::ANY_CHECKSUM;
+    let Ok(packet) = SctpPacketRef::from_bytes(bytes, 0, &policy) else {
+        return SctpPacketRef::from_bytes(other, 0, &policy).is_err();
+    };
+    match SctpPacketRef::from_bytes(other, 0, &policy) {
+        Ok(other) => means_same(&packet, &other),
+        Err(_) => false,
     }
 }
 

@@ -2,7 +2,7 @@
 
 use crate::built::built_of;
 use crate::bytes::{from, word_at, write_change, write_digits};
-use crate::in_place::{canonical_in_place, write_otherwise};
+use crate::in_place::{canonical_in_place, mean_alike, write_otherwise};
 use crate::values::{chunk_of, image_of, write_value};
 use dcsctp_borrowed::canonical::CanonicalError;
 use dcsctp_wire::api::ZERO_CHECKSUM_ALTERNATE_ERROR_DETECTION_METHOD_LOWER_LAYER_DTLS as DTLS;
@@ -239,6 +239,25 @@ fn is_one_by_one(alloc: Global, chunks: &[u8], answer: &str) -> Result<bool, All
     }
 }
 
+/// Returns whether the other packet means the same as the canonical packet, and with a bit changed
+/// in one of its first bytes the same as the packet if and only if both have one canonical packet.
+fn is_compared(alloc: Global, bytes: &[u8], other: &[u8]) -> Result<bool, AllocError> {
+    let canonical = written_over(alloc, bytes)?;
+    if canonical.is_empty() || other.len() > 1000 {
+        return Ok(true);
+    }
+    let mut changed = Vec::from_slice(alloc, other)?;
+    let mut alike = mean_alike(other, &canonical);
+    for i in 0..other.len().min(40) {
+        changed[i] = other[i] ^ 1;
+        let written = written_over(alloc, &changed)?;
+        let same = written.as_slice() == canonical.as_slice();
+        alike = alike && (written.is_empty() || mean_alike(&changed, bytes) == same);
+        changed[i] = other[i];
+    }
+    Ok(alike)
+}
+
 /// Writes what the packet of these chunks is answered with; and where it is answered otherwise.
 fn write_packet_row(
     alloc: Global,
@@ -255,6 +274,9 @@ fn write_packet_row(
     }
     if written_over(alloc, &others)?.as_slice() != canonical_in_place(alloc, &others)?.as_slice() {
         out.push_str("; the canonical packet is written otherwise in place")?;
+    }
+    if !is_compared(alloc, &bytes, &others)? {
+        out.push_str("; it is compared otherwise in place")?;
     }
     if !is_one_by_one(alloc, other, &answer)? {
         out.push_str("; the chunks by themselves are answered otherwise")?;
