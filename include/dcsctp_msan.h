@@ -244,6 +244,30 @@ DCSCTP_MSAN(uint32_t, dcsctp_init_abort,
             DCSCTP_MSAN_READS_FIELDS(header, source_port, verification_tag),
             DCSCTP_MSAN_WRITES(returned == DCSCTP_OK, size, 1); DCSCTP_MSAN_WRITES(returned == DCSCTP_OK, packet, *size))
 
+DCSCTP_MSAN(uint32_t, dcsctp_shared_key,
+            (uint8_t *output, size_t room, size_t *size, const uint8_t *pair_key, size_t pair_key_size, const uint8_t *one,
+             size_t one_size, const uint8_t *other, size_t other_size),
+            (output, room, size, pair_key, pair_key_size, one, one_size, other, other_size),
+            DCSCTP_MSAN_READS(pair_key, pair_key_size); DCSCTP_MSAN_READS(one, one_size); DCSCTP_MSAN_READS(other, other_size),
+            DCSCTP_MSAN_WRITES(returned == DCSCTP_OK, size, 1); DCSCTP_MSAN_WRITES(returned == DCSCTP_OK, output, *size))
+DCSCTP_MSAN(bool, dcsctp_sign_auth, (const uint8_t *key, size_t key_size, uint8_t *bytes, size_t length),
+            (key, key_size, bytes, length), DCSCTP_MSAN_READS(key, key_size); DCSCTP_MSAN_READS(bytes, length < 8 ? length : 8),
+            DCSCTP_MSAN_WRITES(returned, bytes + 8, (size_t)(bytes[2] * 256 + bytes[3] - 8)))
+DCSCTP_MSAN(uint32_t, dcsctp_seal_cookie,
+            (uint8_t *output, size_t room, size_t *size, const uint8_t *key, size_t key_size, const struct dcsctp_cookie *cookie,
+             const uint8_t *addresses, size_t addresses_size),
+            (output, room, size, key, key_size, cookie, addresses, addresses_size),
+            DCSCTP_MSAN_READS(key, key_size); DCSCTP_MSAN_READS(addresses, addresses_size);
+            DCSCTP_MSAN_READS_FIELDS(cookie, created, inbound_streams),
+            DCSCTP_MSAN_WRITES(returned == DCSCTP_OK, size, 1); DCSCTP_MSAN_WRITES(returned == DCSCTP_OK, output, *size))
+DCSCTP_MSAN(uint32_t, dcsctp_open_cookie,
+            (const uint8_t *key, size_t key_size, const uint8_t *bytes, size_t length, uint64_t now, struct dcsctp_cookie *cookie,
+             uint64_t *staleness),
+            (key, key_size, bytes, length, now, cookie, staleness), DCSCTP_MSAN_READS(key, key_size);
+            DCSCTP_MSAN_READS(bytes, length); DCSCTP_MSAN_READS(&now, 1),
+            DCSCTP_MSAN_WRITES(returned == DCSCTP_COOKIE_GOOD, cookie, 1);
+            DCSCTP_MSAN_WRITES(returned == DCSCTP_COOKIE_STALE, staleness, 1))
+
 DCSCTP_MSAN(size_t, dcsctp_clean_blocks, (struct dcsctp_gap_ack_block *blocks, size_t block_count),
             (blocks, block_count), DCSCTP_MSAN_READS(blocks, block_count), DCSCTP_MSAN_NOTHING)
 

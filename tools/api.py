@@ -50,8 +50,8 @@ UNLISTED = {'Drop', 'Model', 'Field', 'Kind', 'ListedTlv', 'ReadableTlv', 'Width
 
 # What the doc comment of a public function begins with. One verb says one thing: a call returns, and doesn't give or yield.
 VERBS = set('''
-    Accepts Adds Appends Begins Brings Builds Checks Copies Counts Drops Ends Fills Finds Forgets Hands Keeps Locates Makes Notes Prints
-    Proves Puts Reads Remembers Replaces Returns Runs Sets Shows Splits Takes Verifies Waits Watches Writes
+    Accepts Adds Appends Begins Brings Builds Checks Copies Counts Drops Ends Fills Finds Forgets Hands Keeps Locates Makes Notes Opens
+    Prints Proves Puts Reads Remembers Replaces Returns Runs Sets Shows Splits Takes Verifies Waits Watches Writes
 '''.split())
 
 HEAD = '''# The public items

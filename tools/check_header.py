@@ -166,7 +166,8 @@ def constants_of_library():
     proved |= {name.upper(): code for name, code in re.findall(r'^(\w+)_code = (\d+)$', spec, flags=re.M)}
     if codes != proved:
         raise Unreadable(f'the codes of codes.rt and of Code.antt differ: {codes} and {proved}')
-    codes |= dict(re.findall(r'^pub const (\w+): u32 = (\d+);', read(f'{CRATE}/src/receive.rt'), flags=re.M))
+    for file in ('receive', 'auth'):
+        codes |= dict(re.findall(r'^pub const (\w+): u32 = (\d+);', read(f'{CRATE}/src/{file}.rt'), flags=re.M))
     wire = 'crates/dcsctp_wire/src'
     text = read(f'{wire}/laws.rt')
     # a law of the library says which number each type and each code is

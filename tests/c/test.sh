@@ -209,6 +209,10 @@ receive() {
     compile_sanitized -pedantic -Werror -o "$work/receive" tests/c/receive.c "$prefix/lib/libdcsctp.a" && "$work/receive"
 }
 
+authenticated() {
+    compile_sanitized -pedantic -Werror -o "$work/auth" tests/c/auth.c "$prefix/lib/libdcsctp.a" && "$work/auth"
+}
+
 # By the Python that has scapy: that of Debian's package may not be the first on PATH.
 multihomed() {
     local python=python3
@@ -282,6 +286,7 @@ try "the processor's CRC32c, on 3,000 packets" processor
 try 'calls on captured packets and at the edges, and each allocation refused' edge
 try "what IANA's registry has beyond the kinds, field by field" registered
 try "what is asked of whoever receives a packet, sentence by sentence" receive
+try 'State Cookies, AUTH chunks and shared keys, beside Python' authenticated
 if has python3; then
     try 'the example with several addresses, beside Python, scapy and tshark' multihomed
 else
