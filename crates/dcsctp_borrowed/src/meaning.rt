@@ -21,8 +21,8 @@ use dcsctp_wire::packet::{
 ///
 /// The checksum field, padding, and the bits and bytes that a reader ignores are no part of what a
 /// packet means, and a text that isn't UTF-8 means the fixed one that replaces it. So packets that
-/// fit and have a chunk (`laws::has_canonical`) mean the same if and only if their canonical packets
-/// are the same bytes. All others are compared too.
+/// fit and have a chunk (`laws::has_canonical`) mean the same if and only if their canonical
+/// packets are the same bytes. All others are compared too.
 pub fn means_same(left: &SctpPacketRef, right: &SctpPacketRef) -> bool
     ensures same { (p q : PacketTree) → RefersTo left.now p → RefersTo right.now q
         → IsTrue result ↔ (p.meaning ≡ q.meaning) }

@@ -1,7 +1,7 @@
 -- What a C program adds of IANA's registry beyond the kinds: of a struct the numbers, and of bytes
--- the address and the rest, which lie in them where the struct says. Chunks (RFC 4820 section 3, RFC
--- 4895 section 5.1, RFC 4960 appendix A, RFC 5061 section 4.1), parameters (RFC 4895 section 3, RFC
--- 5061 section 4.2, RFC 9260 section 3.3.2.1) and error causes (RFC 4895 section 4.1, RFC 5061
+-- the address and the rest, which lie in them where the struct says. Chunks (RFC 4820 section 3,
+-- RFC 4895 section 5.1, RFC 4960 appendix A, RFC 5061 section 4.1), parameters (RFC 4895 section 3,
+-- RFC 5061 section 4.2, RFC 9260 section 3.3.2.1) and error causes (RFC 4895 section 4.1, RFC 5061
 -- section 4.3, RFC 9260 section 3.3.10).
 use Rattle.std.specs.{Prelude.{◌==◌, ◌||◌, ◌+◌, ◌*◌, ℕ, if◌then◌else◌, List, Option, Some, None, length, drop, option_map}, Option.{option_and_then}}
 use Rattle.dcsctp_tlv.specs.{Fields.{fields}, Number.{number32}}
@@ -48,7 +48,7 @@ numbered_items bytes r = option_map (λ list. (r.number, list)) (item_list bytes
 abbrev pub number_list : List ℕ → DcsctpRegistered → Option (List ℕ)
 number_list bytes r = option_and_then short_numbers_of (rest bytes r)
 
--- ---- what is added; nothing of another type, or where its address or its rest isn't as the type has it
+-- ---- what is added: nothing of another type, or where the address or the rest isn't as it has it
 
 abbrev pub auth_with : DcsctpRegistered → List ℕ → chunk.AuthTree
 auth_with r hmac = record {

@@ -1,5 +1,5 @@
-//! What IANA's registry has beyond the kinds, as it is added to a packet: a chunk, or a parameter or
-//! an error cause of its last chunk, made of a struct's numbers and of bytes.
+//! What IANA's registry has beyond the kinds, as it is added to a packet: a chunk, or a parameter
+//! or an error cause of its last chunk, made of a struct's numbers and of bytes.
 
 ghost use Rattle.std.specs.Prelude.{◌≡◌, ◌<◌, ◌+◌, ◌^◌, Some, IfSome, length, option_map};
 ghost use Rattle.dcsctp_registry.specs.{Address.{view as address_view}, RegisteredCause.{Tree as CauseTree, view as cause_view, read as read_cause, code_of, value_of as cause_value}, RegisteredChunk.{Tree as ChunkTree, view as chunk_view, read as read_chunk, type_of as chunk_type, value_of as chunk_value, NrSack as NrSackVariant}, RegisteredParameter.{Tree as ParameterTree, view as parameter_view, read as read_parameter, type_of as parameter_type, value_of as parameter_value}};

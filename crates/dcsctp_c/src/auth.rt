@@ -1,5 +1,5 @@
-//! What is authenticated under keys of the caller's: chunks after AUTH (RFC 4895), and State Cookies
-//! (RFC 9260 section 5.1.3).
+//! What is authenticated under keys of the caller's: chunks after AUTH (RFC 4895), and State
+//! Cookies (RFC 9260 section 5.1.3).
 
 ghost use Rattle.std.specs.Prelude.{◌≡◌, ◌≢◌, ◌↔◌, ◌+◌, ◌++◌, IsTrue, length};
 ghost use Rattle.dcsctp_tlv.specs.Image.{put};
@@ -64,8 +64,8 @@ pub extern "C" fn dcsctp_shared_key(
 }
 
 /// Returns whether the HMAC of an AUTH chunk is right under an association shared key (RFC 4895
-/// section 6.3): that of SHA-1 or SHA-256, by its HMAC identifier. The bytes are those of the packet
-/// from the AUTH chunk on, up to its end.
+/// section 6.3): that of SHA-1 or SHA-256, by its HMAC identifier. The bytes are those of the
+/// packet from the AUTH chunk on, up to its end.
 #[unsafe(no_mangle)]
 pub extern "C" fn dcsctp_verify_auth(key: &[u8], bytes: &[u8]) -> bool
     ensures { IsTrue result ↔ IsAuthenticated key.now bytes.now }
@@ -123,8 +123,8 @@ pub extern "C" fn dcsctp_seal_cookie(
 /// sealed it: writes what it says, and where its addresses are in the bytes.
 ///
 /// Returns `COOKIE_GOOD`. Once its lifespan is over, writes for how many microseconds alone, the
-/// Measure of Staleness (section 3.3.10.3), and returns `COOKIE_STALE`. Changes nothing, and returns
-/// `COOKIE_INVALID`, if and only if the bytes are no cookie that was sealed under the key.
+/// Measure of Staleness (section 3.3.10.3), and returns `COOKIE_STALE`. Changes nothing, and
+/// returns `COOKIE_INVALID`, if and only if the bytes are no cookie that was sealed under the key.
 #[unsafe(no_mangle)]
 pub extern "C" fn dcsctp_open_cookie(
     key: &[u8],

@@ -139,8 +139,8 @@ pub extern "C" fn dcsctp_out_of_the_blue(packet: &[u8], is_unicast: bool) -> u32
 
 /// Writes the reply that `dcsctp_out_of_the_blue` asks for to a packet with this header: a packet
 /// of one chunk, `ANSWER_SHUTDOWN_COMPLETE` or `ANSWER_ABORT`, with the ports swapped, the tag
-/// reflected and the T bit (RFC 9260 section 8.4), at the front of the buffer. Its checksum field is
-/// zero, and the size is set to 16.
+/// reflected and the T bit (RFC 9260 section 8.4), at the front of the buffer. Its checksum field
+/// is zero, and the size is set to 16.
 ///
 /// Returns 0; or changes nothing, and returns `BAD_VALUE` where the answer has no reply, else
 /// `NO_ROOM` where the buffer has fewer than 16 bytes.

@@ -16,4 +16,5 @@ returns-in-Some-clause-reads c t is =
 pub returns-in-None-clause-added : goal.returns-in-None-clause-added
 returns-in-None-clause-added c =
     rw (← c.in-None.ensures.built)
-    (not_writable _ c.is_last_chunk.result _ c.unwritable.result c.is_last_chunk.ensures c.unwritable.ensures)
+    (not_writable _ c.is_last_chunk.result _ c.unwritable.result c.is_last_chunk.ensures
+    c.unwritable.ensures)
