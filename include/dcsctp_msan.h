@@ -265,8 +265,8 @@ DCSCTP_MSAN(uint32_t, dcsctp_open_cookie,
              uint64_t *staleness),
             (key, key_size, bytes, length, now, cookie, staleness), DCSCTP_MSAN_READS(key, key_size);
             DCSCTP_MSAN_READS(bytes, length); DCSCTP_MSAN_READS(&now, 1),
-            DCSCTP_MSAN_WRITES(returned == DCSCTP_COOKIE_GOOD, cookie, 1);
-            DCSCTP_MSAN_WRITES(returned == DCSCTP_COOKIE_STALE, staleness, 1))
+            DCSCTP_MSAN_WRITES(returned != DCSCTP_COOKIE_INVALID, cookie, 1);
+            DCSCTP_MSAN_WRITES(returned != DCSCTP_COOKIE_INVALID, staleness, 1))
 
 DCSCTP_MSAN(size_t, dcsctp_clean_blocks, (struct dcsctp_gap_ack_block *blocks, size_t block_count),
             (blocks, block_count), DCSCTP_MSAN_READS(blocks, block_count), DCSCTP_MSAN_NOTHING)

@@ -95,14 +95,15 @@ body_read bytes =
 -- lifespan, by so many microseconds (the Measure of Staleness, section 3.3.10.3).
 abbrev pub Answers : CookieTree → ℕ → OpenedCookie → Type 0
 Answers c now (Valid opened) = (view opened ≡ c) × (now ≤ c.created + c.lifespan)
-Answers c now (Stale over) = (0 < over) × (now ≡ c.created + c.lifespan + over)
+Answers c now (Stale opened over) =
+    (view opened ≡ c) × (0 < over) × (now ≡ c.created + c.lifespan + over)
 Answers c now Invalid = ⊥
 
 -- what opens, or did before it was stale, begins with the MAC over the rest of it
 abbrev pub IsAuthentic : List ℕ → List ℕ → Type 0
 IsAuthentic key bytes = take 32 bytes ≡ hmac Sha256 key (drop 32 bytes)
 
-abbrev pub IfValid : OpenedCookie → (StateCookie → Type 0) → Type 0
-IfValid (Valid cookie) holds = holds cookie
-IfValid (Stale over) holds = Unit {0}
-IfValid Invalid holds = Unit {0}
+abbrev pub IfOpened : OpenedCookie → (StateCookie → Type 0) → Type 0
+IfOpened (Valid cookie) holds = holds cookie
+IfOpened (Stale cookie over) holds = holds cookie
+IfOpened Invalid holds = Unit {0}

@@ -2,7 +2,7 @@
 
 ghost use Rattle.std.specs.{Prelude.{◌≡◌, ◌≢◌, ◌↔◌, ◌+◌, ◌≤◌, ◌++◌, ℕ, List, Some, IsSome, IfSome, IfNone, length, IsTrue, drop, take}};
 ghost use Rattle.dcsctp_tlv.specs.Image.{put};
-ghost use Rattle.dcsctp_auth.specs.Cookie.{CookieTree, view, IsInWidth, cookie_bytes, fixed_bytes, body_read, Answers, IsAuthentic, IfValid};
+ghost use Rattle.dcsctp_auth.specs.Cookie.{CookieTree, view, IsInWidth, cookie_bytes, fixed_bytes, body_read, Answers, IsAuthentic, IfOpened};
 ghost use Rattle.dcsctp_auth.specs.Hmac.{hmac, mac_bytes};
 ghost use Rattle.dcsctp_auth.specs.declared.hmac.HashFunction.TheVariants.{Sha256};
 ghost use Rattle.dcsctp_auth.specs.declared.cookie.OpenedCookie.TheVariants.{Invalid};
@@ -60,7 +60,7 @@ pub enum OpenedCookie<'a> {
     Valid(StateCookie<'a>),
     /// It was sealed under the key, and its lifespan has been over for so many microseconds, at
     /// least 1: the Measure of Staleness (RFC 9260 section 3.3.10.3), whose field has 32 bits.
-    Stale(u64),
+    Stale(StateCookie<'a>, u64),
     /// It wasn't sealed under the key.
     Invalid,
 }
@@ -96,7 +96,7 @@ pub fn seal_cookie(buffer: &mut [u8], key: &[u8], cookie: &StateCookie) -> Optio
 pub fn open_cookie<'a>(key: &[u8], bytes: &'a [u8], now: u64) -> OpenedCookie<'a>
     ensures sealed { (cookie : CookieTree) → IsInWidth cookie
         → bytes.now ≡ cookie_bytes key.now cookie → Answers cookie now result }
-    ensures valid { IfValid result (λ cookie. bytes.now ≡ cookie_bytes key.now (view cookie)) }
+    ensures opened { IfOpened result (λ cookie. bytes.now ≡ cookie_bytes key.now (view cookie)) }
     ensures authentic { result ≢ Invalid → IsAuthentic key.now bytes.now }
     ensures invalid { (result ≡ Invalid) ↔ ((cookie : CookieTree) → IsInWidth cookie
         → bytes.now ≢ cookie_bytes key.now cookie) }
@@ -107,7 +107,7 @@ pub fn open_cookie<'a>(key: &[u8], bytes: &'a [u8], now: u64) -> OpenedCookie<'a
     let cookie = read_body(&bytes[MAC_SIZE..]);
     let elapsed = now.saturating_sub(cookie.created);
     if elapsed > cookie.lifespan {
-        return OpenedCookie::Stale(elapsed - cookie.lifespan);
+        return OpenedCookie::Stale(cookie, elapsed - cookie.lifespan);
     }
     OpenedCookie::Valid(cookie)
 }

@@ -30,12 +30,11 @@ pub record HoldsCookie (bytes : List ℕ) (tree : CookieTree) (c : DcsctpCookie)
   pub numbers : cookie_tree c tree.addresses ≡ tree
   pub addresses : part_at bytes c.addresses_offset c.addresses_size ≡ Some tree.addresses
 
--- What the call wrote and returned of a cookie at a time: the cookie while it is good, 0; later for
--- how many microseconds it hasn't been, 1.
-pub data Opens (bytes : List ℕ) (tree : CookieTree) (now : ℕ) (old new : DcsctpCookie)
-    (old_staleness staleness code : ℕ) : Type 0 where
-  good : now ≤ tree.created + tree.lifespan → HoldsCookie bytes tree new
-      → staleness ≡ old_staleness → code ≡ 0
-      → Opens bytes tree now old new old_staleness staleness code
-  stale : 0 < staleness → now ≡ tree.created + tree.lifespan + staleness → new ≡ old → code ≡ 1
-      → Opens bytes tree now old new old_staleness staleness code
+-- What the call wrote and returned of a cookie at a time: the cookie, and for how many microseconds
+-- it hasn't been good; 0 while it is good, and then 1.
+pub data Opens (bytes : List ℕ) (tree : CookieTree) (now : ℕ) (new : DcsctpCookie)
+    (staleness code : ℕ) : Type 0 where
+  good : now ≤ tree.created + tree.lifespan → HoldsCookie bytes tree new → staleness ≡ 0
+      → code ≡ 0 → Opens bytes tree now new staleness code
+  stale : 0 < staleness → now ≡ tree.created + tree.lifespan + staleness
+      → HoldsCookie bytes tree new → code ≡ 1 → Opens bytes tree now new staleness code

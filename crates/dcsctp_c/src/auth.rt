@@ -120,11 +120,12 @@ pub extern "C" fn dcsctp_seal_cookie(
 }
 
 /// Opens a State Cookie (RFC 9260 section 5.1.5) at a time in microseconds, on the clock of whoever
-/// sealed it: writes what it says, and where its addresses are in the bytes.
+/// sealed it: writes what it says, where its addresses are in the bytes, and for how many
+/// microseconds its lifespan has been over, the Measure of Staleness (section 3.3.10.3).
 ///
-/// Returns `COOKIE_GOOD`. Once its lifespan is over, writes for how many microseconds alone, the
-/// Measure of Staleness (section 3.3.10.3), and returns `COOKIE_STALE`. Changes nothing, and
-/// returns `COOKIE_INVALID`, if and only if the bytes are no cookie that was sealed under the key.
+/// Returns `COOKIE_GOOD` up to the end of its lifespan, with a staleness of 0, and then
+/// `COOKIE_STALE`. Changes nothing, and returns `COOKIE_INVALID`, if and only if the bytes are no
+/// cookie that was sealed under the key.
 #[unsafe(no_mangle)]
 pub extern "C" fn dcsctp_open_cookie(
     key: &[u8],
@@ -134,7 +135,7 @@ pub extern "C" fn dcsctp_open_cookie(
     staleness: &mut u64,
 ) -> u32
     ensures sealed { (tree : CookieTree) → IsInWidth tree → bytes.now ≡ cookie_bytes key.now tree
-        → Opens bytes.now tree now cookie.old cookie.new staleness.old staleness.new result }
+        → Opens bytes.now tree now cookie.new staleness.new result }
     ensures invalid { (result ≡ 2) ↔ ((tree : CookieTree) → IsInWidth tree
         → bytes.now ≢ cookie_bytes key.now tree) }
     ensures stays { result ≡ 2 → (cookie.new ≡ cookie.old) × (staleness.new ≡ staleness.old) }
@@ -142,9 +143,11 @@ pub extern "C" fn dcsctp_open_cookie(
     match open_cookie(key, bytes, now) {
         OpenedCookie::Valid(opened) => {
             *cookie = opened_cookie(&opened);
+            *staleness = 0;
             COOKIE_GOOD
         }
-        OpenedCookie::Stale(over) => {
+        OpenedCookie::Stale(opened, over) => {
+            *cookie = opened_cookie(&opened);
             *staleness = over;
             COOKIE_STALE
         }

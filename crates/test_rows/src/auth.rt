@@ -127,7 +127,7 @@ fn cookie_of(addresses: &[u8]) -> StateCookie {
 fn write_opened(opened: &OpenedCookie, out: &mut String) -> Result<(), AllocError> {
     match opened {
         OpenedCookie::Valid(cookie) => write!(out, "{cookie:?}"),
-        OpenedCookie::Stale(over) => write!(out, "stale by {over}"),
+        OpenedCookie::Stale(_, over) => write!(out, "stale by {over}"),
         OpenedCookie::Invalid => out.push_str("invalid"),
     }
 }

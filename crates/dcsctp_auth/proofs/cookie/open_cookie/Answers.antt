@@ -20,19 +20,23 @@ returns-then-elapsed-cookie-clause-sealed c = λ cookie fits is.
     let created : c.read_body-cookie.result.created ≡ cookie.created = ap (λ t. t.created) same in
     let lifespan : c.read_body-cookie.result.lifespan ≡ cookie.lifespan =
     ap (λ t. t.lifespan) same in
-    (omega arith, omega (arith, created, lifespan))
+    (same, omega arith, omega (arith, created, lifespan))
+
+pub returns-then-elapsed-cookie-clause-opened : goal.returns-then-elapsed-cookie-clause-opened
+returns-then-elapsed-cookie-clause-opened c =
+    was_sealed c.args.key.now c.args.bytes.now (view c.read_body-cookie.result)
+    (λ i. (c.type_inv.bytes i).fits) (c.if-not-is_authentic.ensures.0 refl)
+    c.read_body-cookie.ensures.value
 
 pub returns-then-elapsed-cookie-clause-invalid : goal.returns-then-elapsed-cookie-clause-invalid
 returns-then-elapsed-cookie-clause-invalid c = (
   λ e. absurd (cc),
   λ none. absurd (none (view c.read_body-cookie.result) c.read_body-cookie.ensures.width
-      (was_sealed c.args.key.now c.args.bytes.now (view c.read_body-cookie.result)
-      (λ i. (c.type_inv.bytes i).fits) (c.if-not-is_authentic.ensures.0 refl)
-      c.read_body-cookie.ensures.value)),
+      (returns-then-elapsed-cookie-clause-opened c)),
 )
 
-pub returns-clause-valid : goal.returns-clause-valid
-returns-clause-valid c =
+pub returns-clause-opened : goal.returns-clause-opened
+returns-clause-opened c =
     was_sealed c.args.key.now c.args.bytes.now (view c.read_body-cookie.result)
     (λ i. (c.type_inv.bytes i).fits) (c.if-not-is_authentic.ensures.0 refl)
     c.read_body-cookie.ensures.value
@@ -51,5 +55,5 @@ pub returns-clause-invalid : goal.returns-clause-invalid
 returns-clause-invalid c = (
   λ e. absurd (cc),
   λ none. absurd (none (view c.read_body-cookie.result) c.read_body-cookie.ensures.width
-      (returns-clause-valid c)),
+      (returns-clause-opened c)),
 )
