@@ -1,29 +1,21 @@
 /* SPDX-License-Identifier: Apache-2.0 */
 /* A responder to start from: the side of an association that is called (RFC 9260), and takes user data. No byte is written
    by hand, and there is no I/O and no clock: packets and the time go in, and packets come out. Left out: user data that is
-   sent, and with it timers; messages put together, and streams in order; addresses; a peer that begins anew (section 5.2);
-   packets out of the blue (section 8.4). There is one association at a time. */
+   sent, and with it timers; messages put together, and streams in order; addresses; a peer that begins anew (section 5.2).
+   There is one association at a time. */
 #include <dcsctp.h>
 #include <string.h>
 
-enum { COOKIE_LIFE = 60, MOST_BLOCKS = 64, MOST_DUPLICATES = 16 };
-
-/* What a State Cookie holds, and then the association: until the cookie comes back, nothing is kept of an INIT. */
-struct cookie {
-    uint64_t code, expires;
-    struct dcsctp_init peer;
-    uint32_t own_tag;
-    uint16_t own_port, peer_port;
-};
+enum { COOKIE_LIFE = 60000000, MOST_BLOCKS = 64, MOST_DUPLICATES = 16 };
 
 struct responder {
     /* What the caller sets; all else is 0 at first. The tag, not 0, and the TSN are drawn anew for each association. */
     struct dcsctp_init own;
-    uint64_t key[2]; /* drawn once: who knows it can forge cookies */
+    uint8_t key[32]; /* drawn once: who knows it can forge cookies */
     void *user;
     void (*take_data)(void *user, const struct dcsctp_data *data, const uint8_t *payload); /* each TSN once, as it comes */
     enum { CLOSED, ESTABLISHED, SHUTDOWN_ACK_SENT } state;
-    struct cookie association;
+    struct dcsctp_cookie association; /* what the State Cookie said: until it comes back, nothing is kept of an INIT */
     uint32_t cumulative_tsn, next_request, last_result;
     struct dcsctp_gap_ack_block blocks[MOST_BLOCKS];
     uint32_t duplicates[MOST_DUPLICATES]; /* since the last SACK */
@@ -42,73 +34,93 @@ struct exchange {
 #define CHUNK(x) (x)->bytes, (x)->length, &(x)->chunk
 #define TO(x) (x)->packet, (x)->room, &(x)->size
 
-/* !!! SipHash-2-4 authenticates a cookie here, for shortness. Put the HMAC of a cryptographic library in its place. */
-#define ROTATE(word, by) ((word) << (by) | (word) >> (64 - (by)))
-static uint64_t code_of(const uint64_t key[2], const struct cookie *cookie)
+static bool is_reported(uint32_t action)
 {
-    enum { WORDS = sizeof *cookie / 8 };
-    uint64_t words[WORDS + 2] = {0}, a = key[0] ^ 0x736f6d6570736575, b = key[1] ^ 0x646f72616e646f6d,
-             c = key[0] ^ 0x6c7967656e657261, d = key[1] ^ 0x7465646279746573;
-    memcpy(words, &cookie->expires, sizeof *cookie - 8); /* what comes after the code */
-    words[WORDS - 1] = (uint64_t)(sizeof *cookie - 8) << 56;
-    for (int i = 0; i < 2 * (WORDS + 2); i++) { /* two rounds for a word, and four at the end */
-        d ^= i % 2 == 0 ? words[i / 2] : 0, c ^= i == 2 * WORDS ? 0xff : 0;
-        a += b, b = ROTATE(b, 13) ^ a, a = ROTATE(a, 32), c += d, d = ROTATE(d, 16) ^ c;
-        a += d, d = ROTATE(d, 21) ^ a, c += b, b = ROTATE(b, 17) ^ c, c = ROTATE(c, 32);
-        a ^= i % 2 == 1 ? words[i / 2] : 0;
-    }
-    return a ^ b ^ c ^ d;
+    return action == DCSCTP_ACTION_STOP_AND_REPORT || action == DCSCTP_ACTION_SKIP_AND_REPORT;
 }
 
-/* Answers an INIT, which has to be alone and under tag 0, by INIT ACK. */
+static bool is_skipped(uint32_t action)
+{
+    return action == DCSCTP_ACTION_SKIP || action == DCSCTP_ACTION_SKIP_AND_REPORT;
+}
+
+/* Answers an INIT by INIT ACK; or by the ABORT that says what is wrong with it, where it asks for one. */
 static bool answer_init(const struct responder *r, uint64_t now, struct exchange *x)
 {
     const uint8_t extensions[] = {DCSCTP_CHUNK_RE_CONFIG, DCSCTP_CHUNK_I_DATA, DCSCTP_CHUNK_FORWARD_TSN,
                                   DCSCTP_CHUNK_I_FORWARD_TSN};
-    struct cookie cookie = {.expires = now + COOKIE_LIFE, .own_tag = r->own.initiate_tag,
-                            .own_port = x->header.destination_port, .peer_port = x->header.source_port};
+    const uint32_t fault = dcsctp_init_fault(x->bytes, x->length, false);
+    struct dcsctp_init peer;
     struct dcsctp_parameter it;
-    if (x->header.verification_tag != 0 || x->chunk.next < x->length || !dcsctp_init(CHUNK(x), &cookie.peer)
-        || cookie.peer.initiate_tag == 0 || cookie.peer.outbound_streams == 0 || cookie.peer.inbound_streams == 0
-        || (r->state != CLOSED && cookie.peer.initiate_tag != r->association.peer.initiate_tag))
+    uint8_t sealed[72]; /* a cookie without addresses */
+    size_t sealed_size;
+    if (!dcsctp_init(CHUNK(x), &peer) || (r->state != CLOSED && peer.initiate_tag != r->association.peer_tag))
         return false;
-    cookie.code = code_of(r->key, &cookie);
-    if (dcsctp_begin(TO(x), cookie.own_port, cookie.peer_port, cookie.peer.initiate_tag) || dcsctp_add_init_ack(TO(x), &r->own)
-        || dcsctp_add_parameter(TO(x), DCSCTP_FIRST_CHUNK, DCSCTP_PARAMETER_STATE_COOKIE, (const uint8_t *)&cookie, sizeof cookie)
+    if (fault != DCSCTP_INIT_NO_FAULT)
+        return dcsctp_init_refusal(fault, false, false) == DCSCTP_REFUSAL_ABORT
+            && !dcsctp_init_abort(TO(x), &x->header, peer.initiate_tag, fault);
+    const struct dcsctp_cookie cookie = {
+        .created = now, .lifespan = COOKIE_LIFE, .local_tag = r->own.initiate_tag, .peer_tag = peer.initiate_tag,
+        .local_initial_tsn = r->own.initial_tsn, .peer_initial_tsn = peer.initial_tsn, .local_port = x->header.destination_port,
+        .peer_port = x->header.source_port, .outbound_streams = r->own.outbound_streams,
+        .inbound_streams = peer.outbound_streams};
+    if (dcsctp_seal_cookie(sealed, sizeof sealed, &sealed_size, r->key, sizeof r->key, &cookie, NULL, 0)
+        || dcsctp_begin(TO(x), cookie.local_port, cookie.peer_port, cookie.peer_tag) || dcsctp_add_init_ack(TO(x), &r->own)
+        || dcsctp_add_parameter(TO(x), DCSCTP_FIRST_CHUNK, DCSCTP_PARAMETER_STATE_COOKIE, sealed, sealed_size)
         || dcsctp_add_parameter(TO(x), DCSCTP_FIRST_CHUNK, DCSCTP_PARAMETER_SUPPORTED_EXTENSIONS, extensions, sizeof extensions)
         || dcsctp_add_parameter(TO(x), DCSCTP_FIRST_CHUNK, DCSCTP_PARAMETER_FORWARD_TSN_SUPPORTED, NULL, 0))
         return false;
     for (size_t at = dcsctp_list_offset(&x->chunk); dcsctp_parameter_at(CHUNK(x), at, &it); at = it.next)
         switch (it.type) {
-        case 5: case 6: case 9: case 11: case 12: /* addresses, Cookie Preservative, Supported Address Types: ignored */
+        case DCSCTP_PARAMETER_IPV4_ADDRESS: case DCSCTP_PARAMETER_IPV6_ADDRESS: case DCSCTP_PARAMETER_COOKIE_PRESERVATIVE:
+        case DCSCTP_PARAMETER_HOST_NAME_ADDRESS: case DCSCTP_PARAMETER_SUPPORTED_ADDRESS_TYPES: /* known, and ignored */
         case DCSCTP_PARAMETER_FORWARD_TSN_SUPPORTED:
             break;
-        default: /* unknown: the second bit asks for a report, and without the first one no more is looked at (section 3.2.1) */
-            if (it.type & 0x4000)
-                dcsctp_add_parameter(TO(x), DCSCTP_FIRST_CHUNK, DCSCTP_PARAMETER_UNRECOGNIZED_PARAMETER, x->bytes + at,
-                                     4 + it.value_size);
-            if (!(it.type & 0x8000))
+        default: { /* unknown: reported, and perhaps the last that is looked at (section 3.2.1) */
+            const uint32_t action = dcsctp_unrecognized_parameter(it.type);
+            const struct dcsctp_registered whole = {.rest_offset = at, .rest_size = it.value_offset + it.value_size - at};
+            if (is_reported(action))
+                dcsctp_add_registered_parameter(TO(x), DCSCTP_FIRST_CHUNK, DCSCTP_PARAMETER_UNRECOGNIZED_PARAMETER, &whole,
+                                                x->bytes, x->length);
+            if (!is_skipped(action))
                 return true;
+        }
         }
     return true;
 }
 
-/* Opens the association of a COOKIE ECHO; one that is open stays. Returns whether the cookie was given for it. */
-static bool open_association(struct responder *r, uint64_t now, const struct exchange *x)
+/* Answers a COOKIE ECHO that is too late by an ERROR with the cause Stale Cookie (section 5.1.5). */
+static bool answer_stale(const struct dcsctp_cookie *cookie, uint64_t staleness, struct exchange *x)
 {
-    struct cookie cookie;
-    if (x->chunk.value_size != sizeof cookie)
+    const struct dcsctp_registered cause = {.number = staleness > UINT32_MAX ? UINT32_MAX : (uint32_t)staleness};
+    return !dcsctp_begin(TO(x), cookie->local_port, cookie->peer_port, cookie->peer_tag)
+        && !dcsctp_add_chunk(TO(x), DCSCTP_CHUNK_ERROR, 0, NULL, 0)
+        && !dcsctp_add_registered_cause(TO(x), DCSCTP_FIRST_CHUNK, DCSCTP_CAUSE_STALE_COOKIE, &cause, NULL, 0);
+}
+
+/* Opens the association of a COOKIE ECHO; one that is open stays. Returns whether it is open; if not, what answers is written
+   where there is an answer. */
+static bool open_association(struct responder *r, uint64_t now, struct exchange *x)
+{
+    struct dcsctp_cookie cookie;
+    uint64_t staleness;
+    const uint32_t state = dcsctp_open_cookie(r->key, sizeof r->key, x->bytes + x->chunk.value_offset, x->chunk.value_size, now,
+                                              &cookie, &staleness);
+    if (state == DCSCTP_COOKIE_INVALID || cookie.local_tag != r->own.initiate_tag
+        || x->header.verification_tag != cookie.local_tag || x->header.destination_port != cookie.local_port
+        || x->header.source_port != cookie.peer_port)
         return false;
-    memcpy(&cookie, x->bytes + x->chunk.value_offset, sizeof cookie);
-    if (cookie.code != code_of(r->key, &cookie) || cookie.expires < now || cookie.own_tag != r->own.initiate_tag
-        || x->header.destination_port != cookie.own_port || x->header.source_port != cookie.peer_port)
+    if (r->state != CLOSED) /* however old the cookie is (section 5.2.4) */
+        return cookie.peer_tag == r->association.peer_tag;
+    if (state == DCSCTP_COOKIE_STALE) {
+        if (!answer_stale(&cookie, staleness, x))
+            x->size = 0;
         return false;
-    if (r->state != CLOSED)
-        return cookie.peer.initiate_tag == r->association.peer.initiate_tag;
+    }
     r->state = ESTABLISHED;
     r->association = cookie;
-    r->cumulative_tsn = cookie.peer.initial_tsn - 1;
-    r->next_request = cookie.peer.initial_tsn; /* RFC 6525 section 5.1.1 */
+    r->cumulative_tsn = cookie.peer_initial_tsn - 1;
+    r->next_request = cookie.peer_initial_tsn; /* RFC 6525 section 5.1.1 */
     r->block_count = r->duplicate_count = 0;
     return true;
 }
@@ -218,38 +230,64 @@ static bool answer_chunk(struct responder *r, struct exchange *x, size_t at)
     case DCSCTP_CHUNK_INIT: case DCSCTP_CHUNK_INIT_ACK: case DCSCTP_CHUNK_COOKIE_ACK: case DCSCTP_CHUNK_SACK:
     case DCSCTP_CHUNK_HEARTBEAT_ACK: case DCSCTP_CHUNK_ERROR:
         return true;
-    default: /* unknown: the second bit asks for a report, and without the first one no more is looked at (section 3.2) */
-        if (x->chunk.type & 0x40 && !dcsctp_add_chunk(TO(x), DCSCTP_CHUNK_ERROR, 0, NULL, 0)
-            && dcsctp_add_parameter(TO(x), start, DCSCTP_CAUSE_UNRECOGNIZED_CHUNK, x->bytes + at, 4 + x->chunk.value_size))
+    default: /* unknown: reported, and perhaps the last that is looked at (section 3.2) */
+        if (is_reported(dcsctp_unrecognized_chunk(x->chunk.type)) && !dcsctp_add_chunk(TO(x), DCSCTP_CHUNK_ERROR, 0, NULL, 0)
+            && dcsctp_add_parameter(TO(x), start, DCSCTP_CAUSE_UNRECOGNIZED_CHUNK, x->bytes + at,
+                                    x->chunk.value_offset + x->chunk.value_size - at))
             x->size = start; /* no ERROR without a cause */
-        return x->chunk.type & 0x80;
+        return is_skipped(dcsctp_unrecognized_chunk(x->chunk.type));
     }
 }
 
-/* Takes bytes that came, at a time in seconds, and writes the packet that answers. Returns its size, or 0 if there is none. */
+/* Says what is done with a packet, by its ports and its tag. */
+static uint32_t verdict_of(const struct responder *r, const struct exchange *x)
+{
+    const struct dcsctp_association association = {r->own.initiate_tag, r->association.peer_tag, true, false};
+    return r->state == CLOSED || x->header.source_port != r->association.peer_port
+            || x->header.destination_port != r->association.local_port
+        ? DCSCTP_TAG_OUT_OF_THE_BLUE : dcsctp_verify_tag(x->bytes, x->length, &association);
+}
+
+/* Answers the chunks of a packet of the association. */
+static bool answer_chunks(struct responder *r, struct exchange *x)
+{
+    size_t at = DCSCTP_FIRST_CHUNK;
+    if (dcsctp_begin(TO(x), r->association.local_port, r->association.peer_port, r->association.peer_tag))
+        return false;
+    for (size_t next; answer_chunk(r, x, at) && (next = x->chunk.next, dcsctp_chunk_at(x->bytes, x->length, next, &x->chunk));)
+        at = next;
+    if (x->is_sack_due && r->state != CLOSED && !dcsctp_add_sack(TO(x), r->cumulative_tsn, r->own.a_rwnd, r->blocks,
+                                                                 r->block_count, r->duplicates, r->duplicate_count))
+        r->duplicate_count = 0;
+    return x->size > DCSCTP_FIRST_CHUNK;
+}
+
+/* Answers a packet: one that belongs to no association as section 8.4 says. Returns whether there is an answer. */
+static bool answer(struct responder *r, uint64_t now, struct exchange *x)
+{
+    uint32_t blue;
+    switch (verdict_of(r, x)) {
+    case DCSCTP_TAG_ACCEPT: return answer_chunks(r, x);
+    case DCSCTP_TAG_DISCARD: return false;
+    case DCSCTP_TAG_OUT_OF_THE_BLUE:
+        blue = dcsctp_out_of_the_blue(x->bytes, x->length, true);
+        if (blue != DCSCTP_ANSWER_INIT && blue != DCSCTP_ANSWER_COOKIE_ECHO)
+            return !dcsctp_reply(TO(x), &x->header, blue);
+    }
+    if (x->chunk.type == DCSCTP_CHUNK_INIT)
+        return answer_init(r, now, x);
+    return x->chunk.type == DCSCTP_CHUNK_COOKIE_ECHO && (open_association(r, now, x) ? answer_chunks(r, x) : x->size > 0);
+}
+
+/* Takes bytes that came, at a time in microseconds, and writes the packet that answers. Returns its size, or 0 if there is
+   none. */
 size_t responder_receive(struct responder *r, uint64_t now, const uint8_t *bytes, size_t length, uint8_t *packet, size_t room)
 {
     const struct dcsctp_policy policy = {0};
     struct exchange x = {.bytes = bytes, .length = length, .packet = packet, .room = room};
-    const struct cookie *with = &r->association;
-    size_t at = DCSCTP_FIRST_CHUNK;
     if (dcsctp_check(bytes, length, dcsctp_word(bytes, length), &policy) || !dcsctp_header(bytes, length, &x.header)
-        || !dcsctp_chunk_at(bytes, length, at, &x.chunk) || x.header.source_port == 0 || x.header.destination_port == 0)
+        || !dcsctp_chunk_at(bytes, length, DCSCTP_FIRST_CHUNK, &x.chunk) || x.header.source_port == 0
+        || x.header.destination_port == 0)
         return 0;
-    if (x.chunk.type == DCSCTP_CHUNK_INIT)
-        return answer_init(r, now, &x) && !dcsctp_seal(packet, x.size) ? x.size : 0;
-    /* under this side's tag; or under the peer's, where the peer has lost the other (section 8.5.1) */
-    const bool is_reflected = (x.chunk.type == DCSCTP_CHUNK_ABORT || x.chunk.type == DCSCTP_CHUNK_SHUTDOWN_COMPLETE)
-        && x.chunk.flags & DCSCTP_TAG_REFLECTED;
-    if (x.header.verification_tag != (is_reflected ? with->peer.initiate_tag : r->own.initiate_tag)
-        || (x.chunk.type == DCSCTP_CHUNK_COOKIE_ECHO && !open_association(r, now, &x)) || r->state == CLOSED
-        || x.header.source_port != with->peer_port || x.header.destination_port != with->own_port
-        || dcsctp_begin(TO(&x), with->own_port, with->peer_port, with->peer.initiate_tag))
-        return 0;
-    for (; answer_chunk(r, &x, at) && dcsctp_chunk_at(bytes, length, x.chunk.next, &x.chunk); at = x.chunk.value_offset - 4)
-        ;
-    if (x.is_sack_due && r->state != CLOSED && !dcsctp_add_sack(TO(&x), r->cumulative_tsn, r->own.a_rwnd, r->blocks,
-                                                                r->block_count, r->duplicates, r->duplicate_count))
-        r->duplicate_count = 0;
-    return x.size > DCSCTP_FIRST_CHUNK && !dcsctp_seal(packet, x.size) ? x.size : 0;
+    return answer(r, now, &x) && !dcsctp_seal(packet, x.size) ? x.size : 0;
 }

@@ -1509,7 +1509,8 @@ static size_t ask(const uint8_t *bytes, size_t length, uint8_t *answer, size_t r
     return size;
 }
 
-/* Opens an association: INIT, INIT ACK, COOKIE ECHO, COOKIE ACK. A cookie that was changed, or comes late, opens none. Of the
+/* Opens an association: INIT, INIT ACK, COOKIE ECHO, COOKIE ACK. A cookie that was changed opens none, nor one that comes late,
+   which an ERROR answers (section 5.1.5). Of the
    INIT's unknown parameters the INIT ACK reports those of which the types ask for it, up to one that asks to stop there. */
 static void call_responder(void)
 {
@@ -1520,8 +1521,10 @@ static void call_responder(void)
     struct dcsctp_chunk chunk;
     struct dcsctp_parameter cookie, it;
     size_t size, answered, reports = 0;
-    responder = (struct responder){.own = {(uint32_t)draw() | 1, 1 << 16, 9, 9, (uint32_t)draw()}, .key = {draw(), draw()},
-                                   .user = &sum, .take_data = read_payload};
+    responder = (struct responder){.own = {(uint32_t)draw() | 1, 1 << 16, 9, 9, (uint32_t)draw()}, .user = &sum,
+                                   .take_data = read_payload};
+    for (size_t i = 0; i < sizeof responder.key; i++)
+        responder.key[i] = (uint8_t)draw();
     responder_time = 0;
     REQUIRE(!dcsctp_begin(packet, 200, &size, 1, 2, 0) && !dcsctp_add_init(packet, 200, &size, &peer));
     for (size_t i = 0; i < sizeof types / sizeof *types; i++)
@@ -1544,8 +1547,10 @@ static void call_responder(void)
         REQUIRE(!dcsctp_add_cookie_echo(packet, 200, &size, answer + cookie.value_offset, cookie.value_size) && !dcsctp_seal(packet, size));
         answer[at] ^= (uint8_t)((wrong == 1) << bit);
         uint8_t last[200];
-        REQUIRE((ask(packet, size, last, 200) == (wrong ? 0 : 16)) && responder.state == (wrong ? CLOSED : ESTABLISHED));
+        REQUIRE((ask(packet, size, last, 200) == (wrong == 2 ? 24 : wrong ? 0 : 16)) && responder.state == (wrong ? CLOSED : ESTABLISHED));
         REQUIRE(wrong || last[12] == DCSCTP_CHUNK_COOKIE_ACK);
+        REQUIRE(wrong != 2 || (last[12] == DCSCTP_CHUNK_ERROR && u32(last + 4) == peer.initiate_tag && u32(last + 16) == 0x00030008
+                               && u32(last + 20) == responder_time - COOKIE_LIFE));
     }
 }
 

@@ -577,7 +577,7 @@ static struct partial {
 
 static uint32_t first_tsn(void)
 {
-    return responder.association.peer.initial_tsn;
+    return responder.association.peer_initial_tsn;
 }
 
 static void keep_part(void *user, const struct dcsctp_data *data, const uint8_t *payload)
@@ -628,7 +628,8 @@ static void begin_responder(size_t messages)
     responder.own = (struct dcsctp_init){.a_rwnd = 1 << 20, .outbound_streams = 1, .inbound_streams = MORE_STREAMS};
     responder.own.initiate_tag = (uint32_t)draw(&state) | 1;
     responder.own.initial_tsn = (uint32_t)draw(&state);
-    responder.key[0] = draw(&state), responder.key[1] = draw(&state);
+    for (size_t i = 0; i < sizeof responder.key; i++)
+        responder.key[i] = (uint8_t)draw(&state);
     part_room = messages * (2 + LARGEST / 400);
     part_count = 0;
     parts = calloc(part_room, sizeof *parts);
@@ -651,7 +652,7 @@ static void give(struct side *side, const uint8_t *bytes, size_t length)
         usrsctp_conninput(side, bytes, length, 0);
         return;
     }
-    size_t size = responder_receive(&responder, now / 1000, bytes, length, reply, sizeof reply);
+    size_t size = responder_receive(&responder, now * 1000, bytes, length, reply, sizeof reply);
     if (responder.state != CLOSED)
         take_parts(side);
     if (size > 0)
