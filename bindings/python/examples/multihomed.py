@@ -11,7 +11,6 @@ hexadecimal, is the key of the association (RFC 4895 section 6.1).
 It is no association: the cookie says nothing, and nothing is sent again.
 """
 
-import hmac
 import sys
 from collections.abc import Iterator
 from ipaddress import ip_address
@@ -49,7 +48,7 @@ class Host:
         match packet.chunks():
             case [davgyuti.Init() as init] if packet.header.verification_tag == 0 and init.initiate_tag != 0:
                 return self.init_ack(source, packet.header, init)
-            case [davgyuti.RawChunk() as auth, davgyuti.RawChunk() as chunk] if self.is_right(packet, auth, chunk):
+            case [davgyuti.RawChunk() as auth, davgyuti.RawChunk() as chunk] if self.is_right(packet, auth):
                 match chunk.registered():
                     case registered.Asconf() as asconf:
                         return self.asconf_ack(source, packet.header, asconf)
@@ -100,24 +99,18 @@ class Host:
                 return None
         return registered.SuccessIndication(number)
 
-    # RFC 4895 section 6.2: the HMAC is that of AUTH, with zeros in its place, and of the chunks after it.
-
     def authenticated(self, header: davgyuti.Header, chunk: davgyuti.Chunk) -> bytes:
         builder = davgyuti.PacketBuilder(header.destination_port, header.source_port, self.tag)
-        start, auth = len(builder), registered.Auth(0, SHA_256, bytes(32))
-        for it in (auth, chunk):
-            builder.add(it)
-        auth.hmac = hmac.digest(self.key, bytes(builder)[start:], "sha256")
-        builder.reset(header.destination_port, header.source_port, self.tag)
-        for it in (auth, chunk):
-            builder.add(it)
+        start = len(builder)
+        builder.add(registered.Auth(0, SHA_256, bytes(32)))
+        builder.add(chunk)
+        builder.sign_auth(self.key, start)
         return builder.seal()
 
-    def is_right(self, packet: davgyuti.Packet, auth: davgyuti.Chunk, chunk: davgyuti.Chunk) -> bool:
+    def is_right(self, packet: davgyuti.Packet, auth: davgyuti.Chunk) -> bool:
         match auth.registered():
-            case registered.Auth(hmac_identifier=identifier, hmac=found) if identifier == SHA_256:
-                zeroed = bytes(auth)[: -len(found)] + bytes(len(found))
-                return hmac.compare_digest(found, hmac.digest(self.key, zeroed + bytes(packet)[chunk.offset :], "sha256"))
+            case registered.Auth(hmac_identifier=identifier) if identifier == SHA_256:
+                return davgyuti.verify_auth(self.key, bytes(packet)[auth.offset :])
         return False
 
 

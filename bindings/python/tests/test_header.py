@@ -5,7 +5,7 @@ import ctypes
 import os
 import re
 import unittest
-from ctypes import POINTER, c_bool, c_char_p, c_size_t, c_uint8, c_uint16, c_uint32
+from ctypes import POINTER, c_bool, c_char_p, c_size_t, c_uint8, c_uint16, c_uint32, c_uint64
 from typing import Any
 
 import davgyuti
@@ -18,12 +18,14 @@ TYPES: dict[str, Any] = {
     "uint8_t": c_uint8,
     "uint16_t": c_uint16,
     "uint32_t": c_uint32,
+    "uint64_t": c_uint64,
     "const uint8_t *": c_char_p,
     "const uint16_t *": POINTER(c_uint16),
     "const uint32_t *": POINTER(c_uint32),
     "uint8_t *": POINTER(c_uint8),
     "uint16_t *": POINTER(c_uint16),
     "uint32_t *": POINTER(c_uint32),
+    "uint64_t *": POINTER(c_uint64),
     "size_t *": POINTER(c_size_t),
 }
 
@@ -79,7 +81,7 @@ class Functions(unittest.TestCase):
     def test_all_are_called(self) -> None:
         folder = os.path.dirname(davgyuti.__file__)
         text = ""
-        for name in ("_library.py", "_reading.py", "_writing.py"):
+        for name in ("_library.py", "_reading.py", "_writing.py", "_receiving.py", "_authentication.py"):
             with open(os.path.join(folder, name), encoding="ascii") as file:
                 text += file.read()
         called = set(re.findall(r"(?:functions|bare|library)\.(dcsctp_\w+)", text))
@@ -89,7 +91,7 @@ class Functions(unittest.TestCase):
 class Structs(unittest.TestCase):
     def test_fields(self) -> None:
         found = re.findall(r"^struct dcsctp_(\w+) \{(.*?)^\};", HEADER, re.MULTILINE | re.DOTALL)
-        self.assertEqual(len(found), 14)
+        self.assertEqual(len(found), 16)
         for name, body in found:
             # (of the policy's reserve the library reads nothing)
             fields = [split(" ".join(it.split())) for it in body.split(";") if it.strip() and "reserved[" not in it]
@@ -99,7 +101,7 @@ class Structs(unittest.TestCase):
 
     def test_none_beside(self) -> None:
         structs = [it for it in vars(_library).values() if isinstance(it, type) and issubclass(it, ctypes.Structure)]
-        self.assertEqual(len(structs), 14)
+        self.assertEqual(len(structs), 16)
 
     def test_formats(self) -> None:
         for kind, struct in (
@@ -127,6 +129,12 @@ class Numbers(unittest.TestCase):
             **{f"CAUSE_{it.name}": it.value for it in davgyuti.CauseCode},
             **{f"RE_CONFIG_{it.name}": it.value for it in davgyuti.ReConfigResult},
             **{it.name: it.value for it in davgyuti.Result},
+            **{f"ACTION_{it.name}": it.value for it in davgyuti.Action},
+            **{f"TAG_{it.name}": it.value for it in davgyuti.TagVerdict},
+            **{f"ANSWER_{it.name}": it.value for it in davgyuti.Answer},
+            **{f"INIT_{it.name}": it.value for it in davgyuti.InitFault},
+            **{f"REFUSAL_{it.name}": it.value for it in davgyuti.Refusal},
+            **{f"COOKIE_{it.name}": it.value for it in davgyuti.CookieState},
             "FIRST_CHUNK": 12,
             "TAG_REFLECTED": 1,
         }

@@ -26,7 +26,7 @@ with open(os.path.join(HERE, "..", "README.md"), encoding="ascii") as file:
 class Readme(unittest.TestCase):
     def test_python(self) -> None:
         programs = re.findall(r"```python\n(.*?)```", README, re.DOTALL)
-        self.assertEqual(len(programs), 5)
+        self.assertEqual(len(programs), 6)
         for program in (programs[0], *programs[2:]):
             printed = io.StringIO()
             with contextlib.redirect_stdout(printed):

@@ -23,6 +23,7 @@ thread was using. A handler of `signal` may call everything but the methods of a
 """
 
 from . import registered
+from ._authentication import Cookie, is_listed, open_cookie, seal_cookie, shared_key, verify_auth
 from ._library import version_text as __version__
 from ._reading import (
     Buffer,
@@ -42,6 +43,21 @@ from ._reading import (
     text,
     word,
 )
+from ._receiving import (
+    Action,
+    Answer,
+    InitFault,
+    Refusal,
+    TagVerdict,
+    init_abort,
+    init_fault,
+    init_refusal,
+    out_of_the_blue,
+    reply,
+    unrecognized_chunk,
+    unrecognized_parameter,
+    verify_tag,
+)
 from ._values import (
     MAX_PACKET_SIZE,
     Abort,
@@ -56,7 +72,9 @@ from ._values import (
     ChunkType,
     CookieAck,
     CookieEcho,
+    CookieError,
     CookieReceivedWhileShuttingDown,
+    CookieState,
     Data,
     Error,
     Fault,
@@ -110,14 +128,16 @@ from ._values import (
     chunk_name,
     parameter_name,
 )
-from ._writing import ChunkWriter, PacketBuilder, clean_blocks, seal, set_tag, validate_sack
+from ._writing import ChunkWriter, PacketBuilder, clean_blocks, seal, set_tag, sign_auth, validate_sack
 
 __all__ = [
     "MAX_PACKET_SIZE",
     "Abort",
+    "Action",
     "AddIncomingStreams",
     "AddOutgoingStreams",
     "Address",
+    "Answer",
     "BadPlace",
     "BadValue",
     "Buffer",
@@ -126,9 +146,12 @@ __all__ = [
     "Chunk",
     "ChunkType",
     "ChunkWriter",
+    "Cookie",
     "CookieAck",
     "CookieEcho",
+    "CookieError",
     "CookieReceivedWhileShuttingDown",
+    "CookieState",
     "Data",
     "Error",
     "Fault",
@@ -144,6 +167,7 @@ __all__ = [
     "IncomingSsnReset",
     "Init",
     "InitAck",
+    "InitFault",
     "MissingMandatoryParameter",
     "NextTsns",
     "NoRoom",
@@ -162,6 +186,7 @@ __all__ = [
     "ReConfig",
     "ReConfigResponse",
     "ReConfigResult",
+    "Refusal",
     "RegisteredCause",
     "RegisteredChunk",
     "RegisteredParameter",
@@ -175,6 +200,7 @@ __all__ = [
     "SsnTsnReset",
     "StateCookie",
     "SupportedExtensions",
+    "TagVerdict",
     "TooLong",
     "UnrecognizedChunk",
     "UserInitiatedAbort",
@@ -190,17 +216,31 @@ __all__ = [
     "clean_blocks",
     "first_fault",
     "header",
+    "init_abort",
+    "init_fault",
+    "init_refusal",
+    "is_listed",
     "needs_checksum",
+    "open_cookie",
+    "out_of_the_blue",
     "parameter",
     "parameter_name",
     "raw_chunks",
     "raw_items",
     "read_chunk",
     "registered",
+    "reply",
     "report",
     "seal",
+    "seal_cookie",
     "set_tag",
+    "shared_key",
+    "sign_auth",
     "text",
+    "unrecognized_chunk",
+    "unrecognized_parameter",
     "validate_sack",
+    "verify_auth",
+    "verify_tag",
     "word",
 ]

@@ -4,7 +4,7 @@
 import ctypes
 import os
 import struct
-from ctypes import POINTER, c_bool, c_char_p, c_size_t, c_uint8, c_uint16, c_uint32
+from ctypes import POINTER, c_bool, c_char_p, c_size_t, c_uint8, c_uint16, c_uint32, c_uint64
 from typing import Any
 
 from ._version import VERSION
@@ -142,6 +142,27 @@ class Packet(ctypes.Structure):
     _fields_ = [("header", Header), ("code", c_uint32), ("chunk_count", c_size_t), ("fault_offset", c_size_t)]
 
 
+class Association(ctypes.Structure):
+    _fields_ = [("own_tag", c_uint32), ("peer_tag", c_uint32), ("has_peer_tag", c_bool), ("awaits_cookie", c_bool)]
+
+
+class Cookie(ctypes.Structure):
+    _fields_ = [
+        ("created", c_uint64),
+        ("lifespan", c_uint64),
+        ("local_tag", c_uint32),
+        ("peer_tag", c_uint32),
+        ("local_initial_tsn", c_uint32),
+        ("peer_initial_tsn", c_uint32),
+        ("local_port", c_uint16),
+        ("peer_port", c_uint16),
+        ("outbound_streams", c_uint16),
+        ("inbound_streams", c_uint16),
+        ("addresses_offset", c_size_t),
+        ("addresses_size", c_size_t),
+    ]
+
+
 # The same as formats: many numbers at once are read and written by these in less time than one by one.
 ROW = struct.Struct("@BBNNN NNNN IIIIII HHHH ????0N")
 DATA = struct.Struct("@IIIIHH????NN")
@@ -218,6 +239,20 @@ FUNCTIONS: dict[str, tuple[Any, ...]] = {
     "dcsctp_add_registered_chunk": (c_uint32, *_OUTPUT, c_uint8, *_REGISTERED),
     "dcsctp_add_registered_parameter": (c_uint32, *_LIST, c_uint16, *_REGISTERED),
     "dcsctp_add_registered_cause": (c_uint32, *_LIST, c_uint16, *_REGISTERED),
+    "dcsctp_unrecognized_chunk": (c_uint32, c_uint8),
+    "dcsctp_unrecognized_parameter": (c_uint32, c_uint16),
+    "dcsctp_verify_tag": (c_uint32, *_BYTES, POINTER(Association)),
+    "dcsctp_out_of_the_blue": (c_uint32, *_BYTES, c_bool),
+    "dcsctp_reply": (c_uint32, *_OUTPUT, POINTER(Header), c_uint32),
+    "dcsctp_init_fault": (c_uint32, *_BYTES, c_bool),
+    "dcsctp_init_refusal": (c_uint32, c_uint32, c_bool, c_bool),
+    "dcsctp_init_abort": (c_uint32, *_OUTPUT, POINTER(Header), c_uint32, c_uint32),
+    "dcsctp_is_listed": (c_bool, *_BYTES, c_uint8),
+    "dcsctp_shared_key": (c_uint32, *_OUTPUT, *_BYTES, *_BYTES, *_BYTES),
+    "dcsctp_verify_auth": (c_bool, *_BYTES, *_BYTES),
+    "dcsctp_sign_auth": (c_bool, *_BYTES, POINTER(c_uint8), c_size_t),
+    "dcsctp_seal_cookie": (c_uint32, *_OUTPUT, *_BYTES, POINTER(Cookie), *_BYTES),
+    "dcsctp_open_cookie": (c_uint32, *_BYTES, *_BYTES, c_uint64, POINTER(Cookie), POINTER(c_uint64)),
     "dcsctp_clean_blocks": (c_size_t, POINTER(GapAckBlock), c_size_t),
     "dcsctp_version_number": (c_uint32,),
 }

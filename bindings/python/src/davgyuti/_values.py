@@ -37,7 +37,7 @@ class Result(IntEnum):
     BAD_VALUE = 9
     """A chunk would have more than 65,535 bytes, what has to be UTF-8 isn't, or a type does not allow this value."""
     BAD_PLACE = 10
-    """No packet has this size, or the chunk isn't the packet's last one any more."""
+    """No packet has this size, the chunk isn't the packet's last one any more, or there is no AUTH to sign."""
 
     @property
     def text(self) -> str:
@@ -60,11 +60,27 @@ _RESULT_TEXTS = {
 }
 
 
+class CookieState(IntEnum):
+    """What a State Cookie is (RFC 9260 section 5.1.5). `text` says it in a few words."""
+
+    GOOD = 0
+    """It was sealed under the key."""
+    STALE = 1
+    """The same, but it is no longer good: send the cause Stale Cookie."""
+    INVALID = 2
+    """It wasn't sealed under the key: discard the packet, without an answer."""
+
+    @property
+    def text(self) -> str:
+        """What it means, in a few words."""
+        return f"{self.name.lower()} cookie"
+
+
 class Error(Exception):
     """What all errors of this package are, each also of a kind that Python has; but a number that has no place in its field
     is a plain ValueError, and there are MemoryError and TypeError."""
 
-    code: Result
+    code: Result | CookieState
     """Why."""
 
     @property
@@ -76,6 +92,7 @@ class Error(Exception):
 class Fault(Error, ValueError):
     """The bytes are no packet: the first fault, from the left. Those of the same code and offset are equal."""
 
+    code: Result
     offset: int
     """Where: the offset of the chunk, the parameter or the error cause with a wrong length or value; 8 for a checksum; of
     the first byte of wrong padding; for a wrong size the number of bytes, or 65,535 if that is less."""
@@ -98,6 +115,8 @@ class Fault(Error, ValueError):
 
 class WriteError(Error):
     """Nothing was written, and all is as it was before. `str` says what had no place, with its size where that is known."""
+
+    code: Result
 
     def __init__(self, code: Result, detail: str = "") -> None:
         super().__init__(code, detail)
@@ -122,7 +141,24 @@ class BadValue(WriteError, ValueError):
 
 
 class BadPlace(WriteError, ValueError):
-    """The chunk isn't the packet's last one any more; or what is changed has fewer than 12 bytes."""
+    """The chunk isn't the packet's last one any more; what is changed has fewer than 12 bytes; or there is no AUTH to sign."""
+
+
+class CookieError(Error, ValueError):
+    """A State Cookie isn't good (RFC 9260 section 5.1.5)."""
+
+    code: CookieState
+    """CookieState.STALE or CookieState.INVALID."""
+    staleness: int
+    """For how many microseconds a stale one hasn't been good: registered.StaleCookie has the lower 32 bits (section
+    3.3.10.3). 0 of one that is invalid."""
+
+    def __init__(self, code: CookieState, staleness: int = 0) -> None:
+        super().__init__(code, staleness)
+        self.code, self.staleness = code, staleness
+
+    def __str__(self) -> str:
+        return f"{self.text}, for {self.staleness} microseconds" if self.staleness else self.text
 
 
 _WRITE_ERRORS = {

@@ -121,6 +121,25 @@ def set_tag(data: Buffer, verification_tag: int) -> bytes:
     return _changed(functions.dcsctp_set_tag, data, _u32(verification_tag, "verification_tag"))
 
 
+def sign_auth(key: Buffer, data: Buffer) -> bytes:
+    """Returns the bytes, which are those of a packet from an AUTH chunk on, with the HMAC in its place under an association
+    shared key (RFC 4895 section 6.2); all other bytes are the same, so `seal` the packet. PacketBuilder has the same for what it
+    writes. Raises BadPlace where `verify_auth` would return False whatever the HMAC is."""
+    chunks = bytearray(to_bytes(data))
+    if not functions.dcsctp_sign_auth(*_bytes(key), start_of(chunks), len(chunks)):
+        raise v.write_error(v.Result.BAD_PLACE, "no AUTH that can be signed begins here")
+    return bytes(chunks)
+
+
+def written(function: Any, room: int, *arguments: Any) -> bytes:
+    """What a function writes, where this is room enough."""
+    output, end = bytearray(room), c_size_t()
+    code = function(start_of(output), room, byref(end), *arguments)
+    if code:
+        raise v.write_error(code)
+    return bytes(output[: end.value])
+
+
 # ---- the blocks of a SACK
 
 
@@ -248,6 +267,15 @@ class PacketBuilder:
             sealed = bytes(memoryview(self._packet)[: self._size])
             self._packet[8:12] = bytes(4)
             return sealed
+
+    def sign_auth(self, key: Buffer, offset: int) -> None:
+        """Writes the HMAC into the AUTH chunk that begins at an offset, what `len` was before it was added, under an association
+        shared key (RFC 4895 section 6.2). The HMAC is of this chunk and of those after it, so add these first, and `seal` after
+        this. Raises BadPlace where no AUTH begins there, its HMAC identifier is another than 1 (SHA-1) and 3 (SHA-256), or its
+        field isn't as long as that HMAC, 20 or 32 bytes."""
+        with self._alone():
+            place = slice(number(offset, self._size, "offset"), self._size)
+            self._packet[place] = sign_auth(key, self._packet[place])
 
     # -- chunks
 

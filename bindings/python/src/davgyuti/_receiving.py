@@ -1,0 +1,160 @@
+# SPDX-License-Identifier: Apache-2.0
+"""What RFC 9260 asks of whoever receives a packet, before an association's state matters."""
+
+from ctypes import byref
+from enum import IntEnum
+from typing import Any
+
+from . import _library as c
+from . import _values as v
+from ._library import functions
+from ._reading import Buffer, number, to_bytes
+from ._writing import _u8, _u16, _u32, seal, written
+
+
+class Action(IntEnum):
+    """What is done with a chunk or a parameter of a type that your program doesn't know (RFC 9260 sections 3.2 and 3.2.1)."""
+
+    STOP = 0
+    """No further chunk of the packet, or parameter of the chunk, is processed."""
+    STOP_AND_REPORT = 1
+    """The same; and it is reported."""
+    SKIP = 2
+    """The next one is processed."""
+    SKIP_AND_REPORT = 3
+    """The same; and it is reported."""
+
+
+class TagVerdict(IntEnum):
+    """What is done with a packet, by its verification tag (RFC 9260 sections 8.5 and 8.5.1)."""
+
+    ACCEPT = 0
+    """The tag is right: the packet is processed."""
+    ESTABLISH = 1
+    """An INIT alone under the tag 0, or COOKIE ECHO first: section 5 says what is done."""
+    OUT_OF_THE_BLUE = 2
+    """The packet is treated as if it belonged to no association: see `out_of_the_blue`."""
+    DISCARD = 3
+    """The packet is discarded, without an answer."""
+
+
+class Answer(IntEnum):
+    """What is done with a packet that belongs to no association (RFC 9260 section 8.4)."""
+
+    DISCARD = 0
+    """It is discarded, without an answer."""
+    INIT = 1
+    """Its INIT is processed (section 5.1)."""
+    COOKIE_ECHO = 2
+    """Its COOKIE ECHO is processed (section 5.1)."""
+    SHUTDOWN_COMPLETE = 3
+    """`reply` returns what is sent back."""
+    ABORT = 4
+    """The same."""
+
+
+class InitFault(IntEnum):
+    """What is wrong with a packet that carries INIT or INIT ACK (RFC 9260 sections 3.3.2 and 3.3.3): the first of these that is
+    so."""
+
+    NO_FAULT = 0
+    """It can be processed. This alone is false."""
+    NOT_ALONE = 1
+    """The packet doesn't hold this chunk alone."""
+    TOO_SHORT = 2
+    """The chunk has no room for its numbers."""
+    TAG_ZERO = 3
+    """The initiate tag is 0."""
+    SMALL_WINDOW = 4
+    """The window is smaller than 1,500 bytes."""
+    NO_OUTBOUND_STREAMS = 5
+    """Their number is 0."""
+    NO_INBOUND_STREAMS = 6
+    """Their number is 0."""
+    NO_STATE_COOKIE = 7
+    """INIT ACK lacks its State Cookie."""
+
+
+class Refusal(IntEnum):
+    """What is done with a packet whose INIT or INIT ACK isn't processed (RFC 9260 sections 3.3.2, 3.3.3, 5.1 and 8.5.1)."""
+
+    DISCARD = 0
+    """It is discarded, without an answer."""
+    ABORT = 1
+    """`init_abort` returns what is sent; no association changes its state."""
+    DESTROY_AND_ABORT = 2
+    """The same; and the association ends."""
+
+
+def unrecognized_chunk(type: int) -> Action:
+    """Returns what is done with a chunk of a type that your program doesn't know, by its two highest-order bits (RFC 9260
+    section 3.2)."""
+    return Action(functions.dcsctp_unrecognized_chunk(_u8(type, "type")))
+
+
+def unrecognized_parameter(type: int) -> Action:
+    """Returns what is done with a parameter of a type that your program doesn't know, by its two highest-order bits (RFC 9260
+    section 3.2.1)."""
+    return Action(functions.dcsctp_unrecognized_parameter(_u16(type, "type")))
+
+
+def verify_tag(data: Buffer, own_tag: int, peer_tag: int | None, *, awaits_cookie: bool) -> TagVerdict:
+    """Returns what is done with a packet of an association, by its verification tag (RFC 9260 sections 8.5 and 8.5.1). The tags
+    are the initiate tags that you and the peer sent, None where the peer has sent none yet; `awaits_cookie` says whether you
+    are in the state COOKIE-WAIT or COOKIE-ECHOED.
+
+    Of the bytes only the common header, the types of the chunks and the T bit are looked at, up to the first chunk whose length
+    is impossible; without a common header they are discarded. `check` them first."""
+    data, tag = to_bytes(data), 0 if peer_tag is None else _u32(peer_tag, "peer_tag")
+    association = c.Association(_u32(own_tag, "own_tag"), tag, peer_tag is not None, bool(awaits_cookie))
+    return TagVerdict(functions.dcsctp_verify_tag(data, len(data), byref(association)))
+
+
+def out_of_the_blue(data: Buffer, *, is_unicast: bool) -> Answer:
+    """Returns what is done with a packet that belongs to no association (RFC 9260 section 8.4); looks at what `verify_tag` looks
+    at. `is_unicast` says whether the packet is to and from unicast addresses."""
+    data = to_bytes(data)
+    return Answer(functions.dcsctp_out_of_the_blue(data, len(data), bool(is_unicast)))
+
+
+def reply(header: v.Header, answer: Answer) -> bytes:
+    """Returns the packet that Answer.SHUTDOWN_COMPLETE or Answer.ABORT sends back to the sender of a packet with this header (RFC
+    9260 section 8.4): with the ports swapped, the tag reflected, the T bit, and its CRC32c. No end that does as
+    `out_of_the_blue` says answers it. Raises BadValue for another answer."""
+    return _sealed(functions.dcsctp_reply, 16, header, number(answer, 0xFFFFFFFF, "answer"))
+
+
+def init_fault(data: Buffer, *, is_ack: bool) -> InitFault:
+    """Returns what is wrong with a packet that carries INIT (RFC 9260 section 3.3.2), or INIT ACK (section 3.3.3) where `is_ack`
+    is true. Of its parameters the State Cookie alone is looked for."""
+    data = to_bytes(data)
+    return InitFault(functions.dcsctp_init_fault(data, len(data), bool(is_ack)))
+
+
+def init_refusal(fault: InitFault, *, is_ack: bool, in_cookie_wait: bool) -> Refusal:
+    """Returns what is done with the packet of an INIT or INIT ACK, by its fault (RFC 9260 sections 3.3.2, 3.3.3, 5.1 and 8.5.1),
+    and of an INIT ACK by whether you are in the state COOKIE-WAIT. It is Refusal.DISCARD for what is no fault."""
+    fault_number = number(fault, 0xFFFFFFFF, "fault")
+    return Refusal(functions.dcsctp_init_refusal(fault_number, bool(is_ack), bool(in_cookie_wait)))
+
+
+def init_abort(header: v.Header, initiate_tag: int, fault: InitFault) -> bytes:
+    """Returns the packet with the ABORT that says this fault, to the sender of an INIT or INIT ACK with this initiate tag in a
+    packet with this header (RFC 9260 sections 3.3.2 and 3.3.3); with its CRC32c.
+
+    Its cause is Missing Mandatory Parameter or Invalid Mandatory Parameter; it has none for InitFault.NOT_ALONE and
+    InitFault.TOO_SHORT, which no ABORT answers. Its tag is the initiate tag; where that is 0, the packet's own, with the T bit
+    (section 8.5.1). Raises BadValue for what is no fault."""
+    fault_number = number(fault, 0xFFFFFFFF, "fault")
+    return _sealed(functions.dcsctp_init_abort, 28, header, _u32(initiate_tag, "initiate_tag"), fault_number)
+
+
+def _sealed(function: Any, room: int, header: v.Header, *arguments: int) -> bytes:
+    """What a function writes to the sender of a packet with this header, with its CRC32c."""
+    received = c.Header(
+        _u16(header.source_port, "source_port"),
+        _u16(header.destination_port, "destination_port"),
+        _u32(header.verification_tag, "verification_tag"),
+        _u32(header.checksum, "checksum"),
+    )
+    return seal(written(function, room, byref(received), *arguments))

@@ -1,0 +1,197 @@
+# SPDX-License-Identifier: Apache-2.0
+"""What RFC 9260 asks of whoever receives a packet: each sentence of sections 3.2, 3.2.1, 3.3.2, 3.3.3, 8.4 and 8.5.1."""
+
+import struct
+import unittest
+
+import davgyuti
+from davgyuti import Action, Answer, BadValue, ChunkType, Header, InitFault, PacketBuilder, Refusal, TagVerdict, registered
+from support import of_hex
+
+OWN, PEER, OTHER = 0x01020304, 0x05060708, 0x090A0B0C
+REFLECTED = 1
+
+
+def packet(tag: int, *chunks: tuple[int, int]) -> bytes:
+    """A packet of chunks without a value, each by its type and its flags."""
+    builder = PacketBuilder(5000, 5001, tag)
+    for type, flags in chunks:
+        builder.chunk(type, flags)
+    return bytes(builder)
+
+
+def verdict(data: bytes, knows_peer: bool = True, awaits_cookie: bool = False) -> TagVerdict:
+    return davgyuti.verify_tag(data, OWN, PEER if knows_peer else None, awaits_cookie=awaits_cookie)
+
+
+def answer(data: bytes, is_unicast: bool = True) -> Answer:
+    return davgyuti.out_of_the_blue(data, is_unicast=is_unicast)
+
+
+class Unrecognized(unittest.TestCase):
+    """ "Chunk Types are encoded such that the highest-order 2 bits specify the action": section 3.2, of parameters 3.2.1."""
+
+    def test_each_action(self) -> None:
+        actions = [Action.STOP, Action.STOP_AND_REPORT, Action.SKIP, Action.SKIP_AND_REPORT]
+        for type in range(256):
+            self.assertIs(davgyuti.unrecognized_chunk(type), actions[type // 64])
+        for bits, action in enumerate(actions):
+            for type in (bits << 14, bits << 14 | 0x3FFF):
+                self.assertIs(davgyuti.unrecognized_parameter(type), action)
+
+    def test_numbers_without_a_place(self) -> None:
+        self.assertRaises(ValueError, davgyuti.unrecognized_chunk, 256)
+        self.assertRaises(ValueError, davgyuti.unrecognized_parameter, -1)
+
+
+class Tags(unittest.TestCase):
+    def test_each_rule(self) -> None:
+        for tag, chunks, expected in (
+            # 8.5: the receiver's own tag, and no other
+            (OWN, [(ChunkType.COOKIE_ACK, 0)], TagVerdict.ACCEPT),
+            (PEER, [(ChunkType.COOKIE_ACK, 0)], TagVerdict.DISCARD),
+            (OTHER, [(ChunkType.COOKIE_ACK, 0)], TagVerdict.DISCARD),
+            # 8.5.1 A: an INIT alone, under the tag 0
+            (0, [(ChunkType.INIT, 0)], TagVerdict.ESTABLISH),
+            (0, [(ChunkType.INIT, 0), (ChunkType.COOKIE_ACK, 0)], TagVerdict.DISCARD),
+            (0, [(ChunkType.COOKIE_ACK, 0)], TagVerdict.DISCARD),
+            (OWN, [(ChunkType.INIT, 0)], TagVerdict.DISCARD),
+            # B: ABORT, with the own tag, or with the peer's and the T bit
+            (OWN, [(ChunkType.ABORT, 0)], TagVerdict.ACCEPT),
+            (PEER, [(ChunkType.ABORT, REFLECTED)], TagVerdict.ACCEPT),
+            (OWN, [(ChunkType.ABORT, REFLECTED)], TagVerdict.DISCARD),
+            (PEER, [(ChunkType.ABORT, 0)], TagVerdict.DISCARD),
+            (OTHER, [(ChunkType.ABORT, REFLECTED)], TagVerdict.DISCARD),
+            # C: SHUTDOWN COMPLETE, likewise
+            (OWN, [(ChunkType.SHUTDOWN_COMPLETE, 0)], TagVerdict.ACCEPT),
+            (PEER, [(ChunkType.SHUTDOWN_COMPLETE, REFLECTED)], TagVerdict.ACCEPT),
+            (OWN, [(ChunkType.SHUTDOWN_COMPLETE, REFLECTED)], TagVerdict.DISCARD),
+            (PEER, [(ChunkType.SHUTDOWN_COMPLETE, 0)], TagVerdict.DISCARD),
+            # D: COOKIE ECHO, by section 5
+            (OTHER, [(ChunkType.COOKIE_ECHO, 0), (ChunkType.SACK, 0)], TagVerdict.ESTABLISH),
+            # E: SHUTDOWN ACK, out of the blue where a cookie is awaited
+            (OWN, [(ChunkType.SHUTDOWN_ACK, 0)], TagVerdict.ACCEPT),
+        ):
+            with self.subTest(tag=tag, chunks=chunks):
+                self.assertIs(verdict(packet(tag, *chunks)), expected)
+
+    def test_states(self) -> None:
+        data = packet(OTHER, (ChunkType.SHUTDOWN_ACK, 0))
+        self.assertIs(verdict(data, awaits_cookie=True), TagVerdict.OUT_OF_THE_BLUE)
+        self.assertIs(verdict(data), TagVerdict.DISCARD)
+        # (a peer's tag that isn't known is no tag, 0 neither)
+        for tag in (PEER, 0):
+            data = packet(tag, (ChunkType.ABORT, REFLECTED))
+            self.assertIs(verdict(data, knows_peer=False, awaits_cookie=True), TagVerdict.DISCARD)
+
+    def test_no_header(self) -> None:
+        for size in (0, 11):
+            self.assertIs(verdict(packet(OWN, (ChunkType.COOKIE_ACK, 0))[:size]), TagVerdict.DISCARD)
+
+    def test_numbers_without_a_place(self) -> None:
+        for own, peer in ((2**32, 0), (0, 2**32), (-1, None)):
+            self.assertRaises(ValueError, davgyuti.verify_tag, b"", own, peer, awaits_cookie=False)
+
+
+class OutOfTheBlue(unittest.TestCase):
+    """The steps of section 8.4, each before those after it."""
+
+    def test_each_step(self) -> None:
+        error = PacketBuilder(5000, 5001, OTHER)
+        with error.error() as chunk:
+            chunk.cause(registered.StaleCookie(1000))
+        for data, expected in (
+            (packet(OTHER, (ChunkType.SHUTDOWN_ACK, 0), (ChunkType.ABORT, 0)), Answer.DISCARD),
+            (packet(0, (ChunkType.INIT, 0), (ChunkType.SHUTDOWN_ACK, 0)), Answer.INIT),
+            (packet(OTHER, (ChunkType.INIT, 0)), Answer.ABORT),
+            (packet(OTHER, (ChunkType.COOKIE_ECHO, 0), (ChunkType.SHUTDOWN_ACK, 0)), Answer.COOKIE_ECHO),
+            (packet(OTHER, (ChunkType.SACK, 0), (ChunkType.COOKIE_ECHO, 0)), Answer.ABORT),
+            (packet(OTHER, (ChunkType.SHUTDOWN_COMPLETE, 0), (ChunkType.SHUTDOWN_ACK, 0)), Answer.SHUTDOWN_COMPLETE),
+            (packet(OTHER, (ChunkType.SHUTDOWN_COMPLETE, 0)), Answer.DISCARD),
+            (packet(OTHER, (ChunkType.COOKIE_ACK, 0)), Answer.DISCARD),
+            (packet(OTHER, (ChunkType.ERROR, 0)), Answer.ABORT),
+            (bytes(error), Answer.DISCARD),
+            (packet(OTHER, (ChunkType.DATA, 3)), Answer.ABORT),
+        ):
+            with self.subTest(data=data.hex()):
+                self.assertIs(answer(data), expected)
+                self.assertIs(answer(data, is_unicast=False), Answer.DISCARD)
+                self.assertIs(answer(data[:11]), Answer.DISCARD)
+        self.assertIs(answer(b""), Answer.DISCARD)
+
+    def test_reply(self) -> None:
+        header = davgyuti.header(packet(OTHER, (ChunkType.SHUTDOWN_ACK, 0)))
+        for asked, chunk in ((Answer.SHUTDOWN_COMPLETE, "0e010004"), (Answer.ABORT, "06010004")):
+            data = davgyuti.reply(header, asked)
+            self.assertEqual(data, davgyuti.seal(of_hex(f"13891388 090a0b0c 00000000 {chunk}")))
+            # (none to it, either)
+            self.assertIs(answer(data), Answer.DISCARD)
+        for other in (0, 1, 2, 5, 6):
+            self.assertRaises(BadValue, davgyuti.reply, header, other)
+
+    def test_numbers_without_a_place(self) -> None:
+        for header in (Header(65536, 0, 0, 0), Header(0, 65536, 0, 0), Header(0, 0, 2**32, 0), Header(0, 0, 0, -1)):
+            self.assertRaises(ValueError, davgyuti.reply, header, Answer.ABORT)
+
+
+class Initiations(unittest.TestCase):
+    def init(self, numbers: tuple[int, int, int, int, int], is_ack: bool, has_cookie: bool = False) -> PacketBuilder:
+        builder = PacketBuilder(5000, 5001, OWN if is_ack else 0)
+        with builder.chunk(ChunkType.INIT_ACK if is_ack else ChunkType.INIT, 0, struct.pack(">IIHHI", *numbers)) as chunk:
+            if has_cookie:
+                chunk.parameter(davgyuti.StateCookie(b"c"))
+        return builder
+
+    def test_faults(self) -> None:
+        for numbers, fault in (
+            ((1, 1500, 1, 1, 0), InitFault.NO_FAULT),
+            ((0, 0, 0, 0, 0), InitFault.TAG_ZERO),
+            ((1, 1499, 0, 0, 0), InitFault.SMALL_WINDOW),
+            ((1, 1500, 0, 0, 0), InitFault.NO_OUTBOUND_STREAMS),
+            ((1, 1500, 1, 0, 0), InitFault.NO_INBOUND_STREAMS),
+        ):
+            with self.subTest(fault):
+                init, ack = self.init(numbers, False), self.init(numbers, True, has_cookie=True)
+                self.assertIs(davgyuti.init_fault(bytes(init), is_ack=False), fault)
+                self.assertIs(davgyuti.init_fault(bytes(ack), is_ack=True), fault)
+                self.assertIs(davgyuti.init_fault(bytes(init), is_ack=True), InitFault.NOT_ALONE)
+                self.assertIs(davgyuti.init_fault(bytes(ack), is_ack=False), InitFault.NOT_ALONE)
+                ack = self.init(numbers, True)
+                self.assertIs(davgyuti.init_fault(bytes(ack), is_ack=True), fault or InitFault.NO_STATE_COOKIE)
+                init.cookie_ack()
+                self.assertIs(davgyuti.init_fault(bytes(init), is_ack=False), InitFault.NOT_ALONE)
+        self.assertIs(davgyuti.init_fault(packet(0, (ChunkType.INIT, 0)), is_ack=False), InitFault.TOO_SHORT)
+        self.assertIs(davgyuti.init_fault(b"", is_ack=False), InitFault.NOT_ALONE)
+
+    def test_refusals(self) -> None:
+        # of an INIT (sections 3.3.2 and 8.5.1), and of an INIT ACK in COOKIE-WAIT (sections 3.3.3 and 5.1), by the fault's number
+        of_init, of_ack = [0, 0, 0, 0, 1, 1, 1, 0, 0], [0, 0, 0, 2, 1, 2, 2, 2, 0]
+        for number, (init, ack) in enumerate(zip(of_init, of_ack, strict=True)):
+            fault: InitFault = number  # type: ignore[assignment] # (8 is none)
+            for in_cookie_wait in (False, True):
+                found = davgyuti.init_refusal(fault, is_ack=False, in_cookie_wait=in_cookie_wait)
+                self.assertIs(found, Refusal(init))
+            self.assertIs(davgyuti.init_refusal(fault, is_ack=True, in_cookie_wait=True), Refusal(ack))
+            self.assertIs(davgyuti.init_refusal(fault, is_ack=True, in_cookie_wait=False), Refusal.DISCARD)
+
+    def test_aborts(self) -> None:
+        header = Header(5000, 5001, OWN, 77)
+        none, invalid = "13891388 090a0b0c 00000000 06000004", "13891388 090a0b0c 00000000 06000008 00070004"
+        for fault, expected in (
+            (InitFault.NOT_ALONE, none),
+            (InitFault.TOO_SHORT, none),
+            (InitFault.TAG_ZERO, "13891388 01020304 00000000 06010008 00070004"),
+            (InitFault.SMALL_WINDOW, invalid),
+            (InitFault.NO_OUTBOUND_STREAMS, invalid),
+            (InitFault.NO_INBOUND_STREAMS, invalid),
+            (InitFault.NO_STATE_COOKIE, "13891388 090a0b0c 00000000 0600000e 0002000a 00000001 00070000"),
+        ):
+            tag = 0 if fault == InitFault.TAG_ZERO else OTHER
+            self.assertEqual(davgyuti.init_abort(header, tag, fault), davgyuti.seal(of_hex(expected)))
+        for other in (0, 8):
+            self.assertRaises(BadValue, davgyuti.init_abort, header, OTHER, other)
+        self.assertRaises(ValueError, davgyuti.init_abort, header, 2**32, InitFault.TAG_ZERO)
+
+
+if __name__ == "__main__":
+    unittest.main()
