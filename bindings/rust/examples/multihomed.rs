@@ -11,13 +11,12 @@
 //! - ASCONF after an AUTH that is right gets an ASCONF ACK after an AUTH, with an answer to each
 //!   request.
 //!
-//! It is no association: the cookie says nothing, and nothing is sent again. Its SHA-256 is here so
-//! that the program needs no other crate.
+//! It is no association: the cookie says nothing, and nothing is sent again.
 
 use davgyuti::{
     Causes, Chunk, ChunkBuilder, Content, FIRST_CHUNK, Header, Init, MAX_PACKET, Packet,
     PacketBuilder, Parameter, ParameterType, Parameters, RegisteredCause, RegisteredChunk,
-    RegisteredParameter, WriteError,
+    RegisteredParameter, WriteError, seal, sign_auth, verify_auth,
 };
 use std::fmt::Write;
 use std::io::{self, BufRead};
@@ -69,7 +68,7 @@ impl Host {
                 }
                 _ => return Vec::new(),
             },
-            [auth, chunk] if self.is_right(bytes, &auth, &chunk) => match chunk.registered() {
+            [auth, chunk] if self.is_right(bytes, &auth) => match chunk.registered() {
                 Some(RegisteredChunk::Asconf { sequence_number, parameters, .. }) => {
                     self.asconf_ack(source, &header, sequence_number, parameters)
                 }
@@ -213,100 +212,24 @@ impl Host {
         PacketBuilder::begin(buffer, header.destination_port, header.source_port, self.tag)
     }
 
-    // RFC 4895 section 6.2: the HMAC is that of AUTH, with zeros in its place, and of the chunks
-    // after it.
-
+    /// The packet with this chunk after an AUTH.
     fn authenticated(&self, header: &Header, chunk: &Chunk) -> Result<Vec<u8>, WriteError> {
-        let (mut buffer, mut hmac) = (vec![0; MAX_PACKET], [0; 32]);
-        for is_zero in [true, false] {
-            let mut packet = self.begin(header, &mut buffer)?;
-            let start = packet.size();
-            packet.registered(&RegisteredChunk::Auth {
-                key: 0,
-                hmac_identifier: SHA_256,
-                hmac: &hmac,
-            })?;
-            packet.copy(chunk)?;
-            if is_zero {
-                hmac = hmac_sha256(&self.key, &packet.as_bytes()[start..]);
-            } else {
-                return Ok(packet.seal().to_vec());
-            }
-        }
-        Ok(Vec::new())
+        let mut buffer = vec![0; MAX_PACKET];
+        let mut packet = self.begin(header, &mut buffer)?;
+        let start = packet.size();
+        let hmac = &[0; 32];
+        packet.registered(&RegisteredChunk::Auth { key: 0, hmac_identifier: SHA_256, hmac })?;
+        packet.copy(chunk)?;
+        let packet = packet.unsealed();
+        sign_auth(&self.key, &mut packet[start..])?;
+        seal(packet)?;
+        Ok(packet.to_vec())
     }
 
-    fn is_right(&self, bytes: &[u8], auth: &Chunk, chunk: &Chunk) -> bool {
-        let Some(RegisteredChunk::Auth { hmac_identifier: SHA_256, hmac, .. }) = auth.registered()
-        else {
-            return false;
-        };
-        let (before, _) = auth.as_bytes().split_at(auth.as_bytes().len() - hmac.len());
-        let covered = [before, &vec![0; hmac.len()], &bytes[chunk.offset()..]].concat();
-        // (all bytes are compared, so that the time doesn't say which is wrong)
-        let found = hmac_sha256(&self.key, &covered);
-        hmac.len() == found.len() && hmac.iter().zip(found).fold(0, |sum, (a, b)| sum | a ^ b) == 0
+    fn is_right(&self, bytes: &[u8], auth: &Chunk) -> bool {
+        matches!(auth.registered(), Some(RegisteredChunk::Auth { hmac_identifier: SHA_256, .. }))
+            && verify_auth(&self.key, &bytes[auth.offset()..])
     }
-}
-
-/// The HMAC of a message (RFC 2104) by SHA-256, whose blocks have 64 bytes.
-fn hmac_sha256(key: &[u8], message: &[u8]) -> [u8; 32] {
-    let hashed = sha256(key);
-    let key = if key.len() > 64 { &hashed } else { key };
-    let padded = |byte: u8| {
-        let mut block = [byte; 64];
-        block.iter_mut().zip(key).for_each(|(it, key)| *it ^= key);
-        block
-    };
-    sha256(&[&padded(0x5c)[..], &sha256(&[&padded(0x36), message].concat())].concat())
-}
-
-/// SHA-256 (FIPS 180-4 section 6.2).
-fn sha256(message: &[u8]) -> [u8; 32] {
-    // The first 32 bits of the fraction of a root of a prime (sections 4.2.2 and 5.3.3).
-    let fraction = |prime: u128, power: u32| {
-        let root = (0..40).rev().fold(0_u128, |root, bit| {
-            let more = root | 1 << bit;
-            if more.pow(power) <= prime << (32 * power) { more } else { root }
-        });
-        u32::try_from(root & 0xffff_ffff).unwrap()
-    };
-    let primes: Vec<u128> = (2..312).filter(|it| (2..*it).all(|by| it % by != 0)).collect();
-    let mut state: Vec<u32> = primes[..8].iter().map(|it| fraction(*it, 2)).collect();
-    let constants: Vec<u32> = primes.iter().map(|it| fraction(*it, 3)).collect();
-    let mut padded = [message, &[0x80]].concat();
-    padded.resize(padded.len().next_multiple_of(64), 0);
-    if padded.len() - message.len() < 9 {
-        padded.resize(padded.len() + 64, 0);
-    }
-    let end = padded.len() - 8;
-    padded[end..].copy_from_slice(&(8 * message.len() as u64).to_be_bytes());
-    for block in padded.chunks(64) {
-        let mut w: Vec<u32> =
-            block.chunks(4).map(|it| u32::from_be_bytes(it.try_into().unwrap())).collect();
-        for t in 16..64 {
-            let (a, b) = (w[t - 15], w[t - 2]);
-            let s0 = a.rotate_right(7) ^ a.rotate_right(18) ^ (a >> 3);
-            let s1 = b.rotate_right(17) ^ b.rotate_right(19) ^ (b >> 10);
-            w.push(w[t - 16].wrapping_add(s0).wrapping_add(w[t - 7]).wrapping_add(s1));
-        }
-        let mut v = state.clone();
-        for (word, constant) in w.iter().zip(&constants) {
-            let (a, e) = (v[0], v[4]);
-            let t1 = (e.rotate_right(6) ^ e.rotate_right(11) ^ e.rotate_right(25))
-                .wrapping_add(e & v[5] ^ !e & v[6])
-                .wrapping_add(v[7].wrapping_add(*constant).wrapping_add(*word));
-            let t2 = (a.rotate_right(2) ^ a.rotate_right(13) ^ a.rotate_right(22))
-                .wrapping_add(a & v[1] ^ a & v[2] ^ v[1] & v[2]);
-            v.rotate_right(1);
-            v[4] = v[4].wrapping_add(t1);
-            v[0] = t1.wrapping_add(t2);
-        }
-        state.iter_mut().zip(v).for_each(|(sum, it)| *sum = sum.wrapping_add(it));
-    }
-    let mut digest = [0; 32];
-    digest.chunks_mut(4).zip(state).for_each(|(it, word)| it.copy_from_slice(&word.to_be_bytes()));
-    digest
 }
 
 /// The bytes of hexadecimal digits.
@@ -336,7 +259,7 @@ fn main() {
 
 #[cfg(test)]
 mod tests {
-    use super::{Host, answer_line, hmac_sha256, of_hex, sha256};
+    use super::{Host, answer_line, of_hex};
 
     /// The answers are those that Python laid out from the RFCs.
     #[test]
@@ -370,17 +293,5 @@ mod tests {
             assert!(host.answer(source, &wrong).is_empty(), "{at}");
         }
         assert!(!host.answer(source, &asconf).is_empty());
-    }
-
-    /// FIPS 180-4's example, and test cases 1 and 6 of RFC 4231.
-    #[test]
-    fn hashes() {
-        let wanted = "ba7816bf8f01cfea414140de5dae2223b00361a396177a9cb410ff61f20015ad";
-        assert_eq!(sha256(b"abc").to_vec(), of_hex(wanted).unwrap());
-        let wanted = "b0344c61d8db38535ca8afceaf0bf12b881dc200c9833da726e9376c2e32cff7";
-        assert_eq!(hmac_sha256(&[0x0b; 20], b"Hi There").to_vec(), of_hex(wanted).unwrap());
-        let wanted = "60e431591ee0b67f0d8a26aacbf5b77f8e0bc6213728c5140546040f0ee37f54";
-        let message = b"Test Using Larger Than Block-Size Key - Hash Key First";
-        assert_eq!(hmac_sha256(&[0xaa; 131], message).to_vec(), of_hex(wanted).unwrap());
     }
 }

@@ -1,14 +1,15 @@
 // SPDX-License-Identifier: Apache-2.0
 //! Packets that are written.
 
-use crate::chunk::{Chunk, Chunks};
+use crate::chunk::{Chunk, Chunks, FIRST_CHUNK};
 use crate::error::WriteError;
 use crate::ffi;
 use crate::list::Parameters;
 use crate::packet::seal;
+use crate::receive::{Answer, InitFault};
 use crate::registered::{Raw, RegisteredCause, RegisteredChunk, RegisteredParameter};
 use crate::types::{CauseCode, ChunkType, ParameterType};
-use crate::values::{Data, GapAckBlock, Init, ReConfig, SkippedStream};
+use crate::values::{Data, GapAckBlock, Header, Init, ReConfig, SkippedStream};
 use core::ptr;
 
 /// The size of the largest packet that can be written, in bytes.
@@ -123,6 +124,71 @@ impl<'a> PacketBuilder<'a> {
             return Err(WriteError::BadPlace);
         }
         Ok(Self { buffer, size, last: 0 })
+    }
+
+    /// Begins the packet that [`Answer::ShutdownComplete`] or [`Answer::Abort`] sends back to the
+    /// sender of a packet with this header (RFC 9260 section 8.4): 16 bytes with the ports swapped,
+    /// the tag reflected and the T bit. [Seal](Self::seal) it.
+    ///
+    /// No end that does as [`out_of_the_blue`](crate::out_of_the_blue) says answers it.
+    ///
+    /// ```
+    /// use davgyuti::{Answer, Header, PacketBuilder};
+    ///
+    /// let mut header = Header::default();
+    /// (header.source_port, header.destination_port, header.verification_tag) = (1, 2, 7);
+    /// let mut buffer = [0; 16];
+    /// let packet = PacketBuilder::reply(&mut buffer, &header, Answer::Abort)?;
+    /// assert_eq!(packet.as_bytes(), b"\0\x02\0\x01\0\0\0\x07\0\0\0\0\x06\x01\0\x04");
+    /// # Ok::<(), davgyuti::WriteError>(())
+    /// ```
+    ///
+    /// # Errors
+    /// [`WriteError::BadValue`] for another answer, else [`WriteError::NoRoom`].
+    #[doc(alias = "dcsctp_reply")]
+    pub fn reply(
+        buffer: &'a mut [u8],
+        header: &Header,
+        answer: Answer,
+    ) -> Result<Self, WriteError> {
+        let mut packet = Self { buffer, size: 0, last: FIRST_CHUNK };
+        add!(packet, dcsctp_reply, &raw const *header, answer.number())?;
+        Ok(packet)
+    }
+
+    /// Begins the packet with the ABORT that says this fault, of at most 28 bytes, to the sender of
+    /// an INIT or INIT ACK with this initiate tag in a packet with this header (RFC 9260 sections
+    /// 3.3.2 and 3.3.3). [Seal](Self::seal) it.
+    ///
+    /// Its cause is Missing Mandatory Parameter or Invalid Mandatory Parameter; it has none for
+    /// [`InitFault::NotAlone`] and [`InitFault::TooShort`], which no ABORT answers. Its tag is the
+    /// initiate tag; where that is 0, the packet's own, with the T bit (section 8.5.1).
+    ///
+    /// ```
+    /// use davgyuti::{Header, InitFault, PacketBuilder};
+    ///
+    /// let mut header = Header::default();
+    /// (header.source_port, header.destination_port) = (1, 2);
+    /// let mut buffer = [0; 28];
+    /// let fault = InitFault::SmallWindow;
+    /// let packet = PacketBuilder::init_abort(&mut buffer, &header, 7, fault)?;
+    /// assert_eq!(packet.as_bytes()[..12], *b"\0\x02\0\x01\0\0\0\x07\0\0\0\0");
+    /// assert_eq!(packet.as_bytes()[12..], *b"\x06\0\0\x08\0\x07\0\x04");
+    /// # Ok::<(), davgyuti::WriteError>(())
+    /// ```
+    ///
+    /// # Errors
+    /// [`WriteError::NoRoom`].
+    #[doc(alias = "dcsctp_init_abort")]
+    pub fn init_abort(
+        buffer: &'a mut [u8],
+        header: &Header,
+        initiate_tag: u32,
+        fault: InitFault,
+    ) -> Result<Self, WriteError> {
+        let mut packet = Self { buffer, size: 0, last: FIRST_CHUNK };
+        add!(packet, dcsctp_init_abort, &raw const *header, initiate_tag, fault.number())?;
+        Ok(packet)
     }
 
     /// Returns the packet's size so far, in bytes.

@@ -185,7 +185,8 @@ pub enum WriteError {
     /// The chunk would have more than 65,535 bytes. Whether its type has such a list, or such a
     /// value, [isn't checked](crate::ChunkBuilder).
     BadValue,
-    /// No packet has this size, or no chunk begins where it should and ends the packet.
+    /// No packet has this size; no chunk begins where it should and ends the packet; or no AUTH
+    /// begins where one is to be [signed](crate::sign_auth).
     BadPlace,
 }
 
@@ -248,6 +249,53 @@ impl TryFrom<u32> for WriteError {
         })
     }
 }
+
+/// Why a State Cookie [isn't opened](crate::open_cookie) (RFC 9260 section 5.1.5).
+///
+/// ```
+/// use davgyuti::CookieError;
+///
+/// let stale = CookieError::Stale { staleness: 2_000_000 };
+/// assert_eq!(stale.to_string(), "stale cookie, for 2000000 microseconds");
+/// ```
+#[derive(Clone, Copy, PartialEq, Eq, Hash, Debug)]
+pub enum CookieError {
+    /// It was sealed under the key, and is no longer good.
+    Stale {
+        /// For how many microseconds it hasn't been good: of these the cause
+        /// [Stale Cookie](crate::RegisteredCause::StaleCookie) has the lower 32 bits (RFC 9260
+        /// section 3.3.10.3).
+        staleness: u64,
+    },
+    /// It wasn't sealed under the key: the packet is discarded, without an answer.
+    Invalid,
+}
+
+impl CookieError {
+    /// Returns the number that the C API has for it: 1 or 2.
+    ///
+    /// ```
+    /// assert_eq!(davgyuti::CookieError::Invalid.code(), 2);
+    /// ```
+    #[must_use]
+    pub const fn code(self) -> u32 {
+        match self {
+            Self::Stale { .. } => 1,
+            Self::Invalid => 2,
+        }
+    }
+}
+
+impl fmt::Display for CookieError {
+    fn fmt(&self, f: &mut fmt::Formatter<'_>) -> fmt::Result {
+        match self {
+            Self::Stale { staleness } => write!(f, "stale cookie, for {staleness} microseconds"),
+            Self::Invalid => f.pad("invalid cookie"),
+        }
+    }
+}
+
+impl Error for CookieError {}
 
 /// A number that has no name: what the conversions from `u32` return.
 ///

@@ -100,6 +100,34 @@ pub struct Registered {
     pub rest_size: usize,
 }
 
+/// What is known of an association before the tag of a packet is looked at.
+#[repr(C)]
+#[derive(Clone, Copy, Default, Debug)]
+pub struct Association {
+    pub own_tag: u32,
+    pub peer_tag: u32,
+    pub has_peer_tag: bool,
+    pub awaits_cookie: bool,
+}
+
+/// What a State Cookie says.
+#[repr(C)]
+#[derive(Clone, Copy, Default, Debug)]
+pub struct Cookie {
+    pub created: u64,
+    pub lifespan: u64,
+    pub local_tag: u32,
+    pub peer_tag: u32,
+    pub local_initial_tsn: u32,
+    pub peer_initial_tsn: u32,
+    pub local_port: u16,
+    pub peer_port: u16,
+    pub outbound_streams: u16,
+    pub inbound_streams: u16,
+    pub addresses_offset: usize,
+    pub addresses_size: usize,
+}
+
 /// Returns what `read` writes, if it returns true.
 #[inline]
 pub fn read<T: Default>(read: impl FnOnce(&mut T) -> bool) -> Option<T> {
@@ -412,6 +440,72 @@ unsafe extern "C" {
         registered: *const Registered,
         bytes: *const u8,
         length: usize,
+    ) -> u32;
+
+    pub fn dcsctp_unrecognized_chunk(r#type: u8) -> u32;
+    pub fn dcsctp_unrecognized_parameter(r#type: u16) -> u32;
+    pub fn dcsctp_verify_tag(
+        packet: *const u8,
+        length: usize,
+        association: *const Association,
+    ) -> u32;
+    pub fn dcsctp_out_of_the_blue(packet: *const u8, length: usize, is_unicast: bool) -> u32;
+    pub fn dcsctp_reply(
+        packet: *mut u8,
+        room: usize,
+        size: *mut usize,
+        header: *const Header,
+        answer: u32,
+    ) -> u32;
+    pub fn dcsctp_init_fault(packet: *const u8, length: usize, is_ack: bool) -> u32;
+    pub fn dcsctp_init_refusal(fault: u32, is_ack: bool, in_cookie_wait: bool) -> u32;
+    pub fn dcsctp_init_abort(
+        packet: *mut u8,
+        room: usize,
+        size: *mut usize,
+        header: *const Header,
+        initiate_tag: u32,
+        fault: u32,
+    ) -> u32;
+
+    pub fn dcsctp_is_listed(list: *const u8, list_size: usize, r#type: u8) -> bool;
+    pub fn dcsctp_shared_key(
+        output: *mut u8,
+        room: usize,
+        size: *mut usize,
+        pair_key: *const u8,
+        pair_key_size: usize,
+        one: *const u8,
+        one_size: usize,
+        other: *const u8,
+        other_size: usize,
+    ) -> u32;
+    pub fn dcsctp_verify_auth(
+        key: *const u8,
+        key_size: usize,
+        bytes: *const u8,
+        length: usize,
+    ) -> bool;
+    pub fn dcsctp_sign_auth(key: *const u8, key_size: usize, bytes: *mut u8, length: usize)
+    -> bool;
+    pub fn dcsctp_seal_cookie(
+        output: *mut u8,
+        room: usize,
+        size: *mut usize,
+        key: *const u8,
+        key_size: usize,
+        cookie: *const Cookie,
+        addresses: *const u8,
+        addresses_size: usize,
+    ) -> u32;
+    pub fn dcsctp_open_cookie(
+        key: *const u8,
+        key_size: usize,
+        bytes: *const u8,
+        length: usize,
+        now: u64,
+        cookie: *mut Cookie,
+        staleness: *mut u64,
     ) -> u32;
 
     pub fn dcsctp_clean_blocks(blocks: *mut GapAckBlock, block_count: usize) -> usize;

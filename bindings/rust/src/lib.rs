@@ -8,6 +8,7 @@ extern crate alloc;
 #[cfg(feature = "processor-crc32c")]
 extern crate std;
 
+mod auth;
 mod builder;
 mod chunk;
 mod debug;
@@ -19,23 +20,29 @@ mod owned;
 mod packet;
 #[cfg(feature = "processor-crc32c")]
 pub mod processor;
+mod receive;
 mod registered;
 mod text;
 mod types;
 mod values;
 
+pub use auth::{Cookie, is_listed, open_cookie, seal_cookie, shared_key, sign_auth, verify_auth};
 pub use builder::{ChunkBuilder, MAX_PACKET, PacketBuilder};
 pub use chunk::{
     Chunk, Chunks, Content, DuplicateTsns, FIRST_CHUNK, ForwardTsn, GapAckBlocks, Sack,
     SkippedStreams, TAG_REFLECTED,
 };
-pub use error::{Fault, FaultKind, OutputError, UnknownNumber, WriteError};
+pub use error::{CookieError, Fault, FaultKind, OutputError, UnknownNumber, WriteError};
 pub use list::{
     Cause, Causes, MissingParameters, Parameter, Parameters, ResetStreams, ShortNumbers,
 };
 #[cfg(feature = "alloc")]
 pub use owned::OwnedChunk;
 pub use packet::{Packet, check, clean_blocks, first_fault, needs_checksum, seal, set_tag, word};
+pub use receive::{
+    Action, Answer, Association, InitFault, Refusal, TagVerdict, init_fault, init_refusal,
+    out_of_the_blue, unrecognized_chunk, unrecognized_parameter, verify_tag,
+};
 pub use registered::{RegisteredCause, RegisteredChunk, RegisteredParameter};
 pub use types::{CauseCode, ChunkType, ParameterType};
 pub use values::{

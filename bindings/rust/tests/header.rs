@@ -66,6 +66,7 @@ fn rust_type(c: &str) -> String {
         "uint8_t" => "u8".into(),
         "uint16_t" => "u16".into(),
         "uint32_t" => "u32".into(),
+        "uint64_t" => "u64".into(),
         _ => camel_case(c.strip_prefix("struct ").unwrap()),
     };
     match (is_pointer, is_const) {
@@ -167,7 +168,7 @@ fn structs_are_those_of_the_header() {
     declared.sort();
     let mut expected = structs_of_header();
     expected.sort();
-    assert_eq!(expected.len(), 12);
+    assert_eq!(expected.len(), 14);
     assert_eq!(declared, expected);
 }
 
@@ -188,6 +189,58 @@ fn results_are_those_of_the_header() {
     }
     assert_eq!(ReConfigResult::of(7), None);
     assert_eq!(HEADER.matches("    DCSCTP_RE_CONFIG_").count(), 7);
+}
+
+/// The names and the numbers of an enum of the header.
+fn numbers_of_header(name: &str) -> Vec<(String, u32)> {
+    let text = words(&without_comments(HEADER));
+    let found = text.split(&format!("enum dcsctp_{name} {{ ")).nth(1).unwrap();
+    let pairs = found.split(" };").next().unwrap().split(", ").map(|it| {
+        let (name, number) = it.split_once(" = ").unwrap();
+        (name.to_string(), number.parse().unwrap())
+    });
+    pairs.collect()
+}
+
+/// The same of these cases here, whose names begin with the prefix in C: `NotAlone` is
+/// `NOT_ALONE`.
+fn numbers_here(prefix: &str, cases: Vec<(String, u32)>) -> Vec<(String, u32)> {
+    let name = |case: String| {
+        let split = case.char_indices().map(|(i, it)| match it {
+            'A'..='Z' if i > 0 => format!("_{it}"),
+            _ => it.to_uppercase().to_string(),
+        });
+        format!("DCSCTP_{prefix}_{}", split.collect::<String>())
+    };
+    cases.into_iter().map(|(case, number)| (name(case), number)).collect()
+}
+
+#[test]
+fn verdicts_are_those_of_the_header() {
+    macro_rules! compare {
+        ($name:literal, $prefix:literal, $kind:ident: $($case:ident)*; $($more:expr),*) => {
+            let mut cases = vec![$($more),*];
+            $(cases.push((format!("{:?}", $kind::$case), $kind::$case.number()));)*
+            assert_eq!(numbers_here($prefix, cases), numbers_of_header($name));
+        };
+    }
+    use davgyuti::{Action, Answer, CookieError, InitFault, Refusal, TagVerdict};
+    compare!("action", "ACTION", Action: Stop StopAndReport Skip SkipAndReport;);
+    compare!("tag_verdict", "TAG", TagVerdict: Accept Establish OutOfTheBlue Discard;);
+    compare!("answer", "ANSWER", Answer: Discard Init CookieEcho ShutdownComplete Abort;);
+    compare!("refusal", "REFUSAL", Refusal: Discard Abort DestroyAndAbort;);
+    // (here a packet without a fault has none)
+    compare!(
+        "init_fault", "INIT", InitFault: NotAlone TooShort TagZero SmallWindow NoOutboundStreams
+        NoInboundStreams NoStateCookie; ("NoFault".into(), 0)
+    );
+    // (here a good cookie is no error)
+    let mut states = vec![("Good".into(), 0)];
+    for error in [CookieError::Stale { staleness: 1 }, CookieError::Invalid] {
+        let name = format!("{error:?}").split(' ').next().unwrap().to_string();
+        states.push((name, error.code()));
+    }
+    assert_eq!(numbers_here("COOKIE", states), numbers_of_header("cookie_state"));
 }
 
 #[test]

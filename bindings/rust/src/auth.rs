@@ -1,0 +1,259 @@
+// SPDX-License-Identifier: Apache-2.0
+//! What is authenticated, under keys of the caller: chunks after AUTH (RFC 4895), and State Cookies
+//! (RFC 9260 section 5.1.3).
+
+use crate::error::{CookieError, WriteError};
+use crate::ffi;
+use crate::types::ChunkType;
+
+/// Returns whether a chunk of this type has to come after AUTH: `chunk_list` is the value of the
+/// receiver's Chunk List, a type in each byte, in which INIT, INIT ACK, SHUTDOWN COMPLETE and AUTH
+/// are ignored (RFC 4895 section 3.2).
+///
+/// ```
+/// use davgyuti::ChunkType;
+///
+/// let chunk_list = [ChunkType::ASCONF, ChunkType::INIT].map(u8::from);
+/// assert!(davgyuti::is_listed(&chunk_list, ChunkType::ASCONF));
+/// assert!(!davgyuti::is_listed(&chunk_list, ChunkType::INIT));
+/// ```
+#[doc(alias = "dcsctp_is_listed")]
+#[must_use]
+pub fn is_listed(chunk_list: &[u8], chunk_type: ChunkType) -> bool {
+    // SAFETY: `chunk_list` is a slice.
+    unsafe { ffi::dcsctp_is_listed(chunk_list.as_ptr(), chunk_list.len(), chunk_type.0) }
+}
+
+/// Writes an association shared key to the front of `output`, and returns it (RFC 4895 section
+/// 6.1): the endpoint pair shared key, which may be empty, and then the key vectors of both ends in
+/// the order that the section gives, whichever is passed first.
+///
+/// A key vector is the parameters Random, Chunk List and Requested HMAC Algorithm that an end sent,
+/// in this order, each with its header and without padding.
+///
+/// ```
+/// let mut output = [0; 8];
+/// assert_eq!(davgyuti::shared_key(&mut output, b"pair", b"2", b"1")?, b"pair12");
+/// # Ok::<(), davgyuti::WriteError>(())
+/// ```
+///
+/// # Errors
+/// [`WriteError::NoRoom`] where the output has fewer bytes than these three; it stays as it is.
+#[doc(alias = "dcsctp_shared_key")]
+pub fn shared_key<'a>(
+    output: &'a mut [u8],
+    pair_key: &[u8],
+    one: &[u8],
+    other: &[u8],
+) -> Result<&'a mut [u8], WriteError> {
+    let (front, room, mut size) = (output.as_mut_ptr(), output.len(), 0);
+    // SAFETY: each pointer with a length is of a slice, and `size` a value here. The output is
+    // borrowed mutably, so nothing overlaps it.
+    WriteError::check(unsafe {
+        ffi::dcsctp_shared_key(
+            front,
+            room,
+            &raw mut size,
+            pair_key.as_ptr(),
+            pair_key.len(),
+            one.as_ptr(),
+            one.len(),
+            other.as_ptr(),
+            other.len(),
+        )
+    })?;
+    Ok(&mut output[..size])
+}
+
+/// Returns whether the HMAC of an AUTH chunk is right under an association shared key (RFC 4895
+/// section 6.3).
+///
+/// `bytes` are those of the packet from the AUTH chunk on, up to its end. It is false also where no
+/// AUTH is there, its HMAC identifier is another than 1 (SHA-1) and 3 (SHA-256), or its HMAC has
+/// another length than theirs, 20 and 32 bytes.
+///
+/// ```
+/// use davgyuti::{Packet, PacketBuilder, RegisteredChunk};
+///
+/// let mut buffer = [0; 100];
+/// let mut packet = PacketBuilder::begin(&mut buffer, 5000, 5001, 7)?;
+/// let start = packet.size();
+/// packet.registered(&RegisteredChunk::Auth { key: 0, hmac_identifier: 3, hmac: &[0; 32] })?;
+/// packet.cookie_ack()?;
+/// let packet = packet.unsealed();
+/// davgyuti::sign_auth(b"key", &mut packet[start..])?;
+/// davgyuti::seal(packet)?;
+///
+/// let auth = Packet::parse(packet)?.chunks().next().unwrap();
+/// assert!(davgyuti::verify_auth(b"key", &packet[auth.offset()..]));
+/// assert!(!davgyuti::verify_auth(b"other key", &packet[auth.offset()..]));
+/// # Ok::<(), Box<dyn std::error::Error>>(())
+/// ```
+#[doc(alias = "dcsctp_verify_auth")]
+#[must_use]
+pub fn verify_auth(key: &[u8], bytes: &[u8]) -> bool {
+    // SAFETY: both are slices.
+    unsafe { ffi::dcsctp_verify_auth(key.as_ptr(), key.len(), bytes.as_ptr(), bytes.len()) }
+}
+
+/// Writes the HMAC into an AUTH chunk, whose field has to be as long, under an association shared
+/// key (RFC 4895 section 6.2); all other bytes stay.
+///
+/// `bytes` are those of the packet from the AUTH chunk on, up to its end. Add all that AUTH is to
+/// authenticate first, and [seal](crate::seal) the packet after this. [`verify_auth`] has an
+/// example.
+///
+/// ```
+/// // A chunk that isn't AUTH.
+/// let signed = davgyuti::sign_auth(b"key", &mut [11, 0, 0, 4]);
+/// assert_eq!(signed, Err(davgyuti::WriteError::BadPlace));
+/// ```
+///
+/// # Errors
+/// [`WriteError::BadPlace`], and nothing changes, where [`verify_auth`] returns false whatever the
+/// HMAC is.
+#[doc(alias = "dcsctp_sign_auth")]
+pub fn sign_auth(key: &[u8], bytes: &mut [u8]) -> Result<(), WriteError> {
+    let (front, length) = (bytes.as_mut_ptr(), bytes.len());
+    // SAFETY: both are slices; `bytes` is borrowed mutably, so `key` doesn't overlap it.
+    let is_signed = unsafe { ffi::dcsctp_sign_auth(key.as_ptr(), key.len(), front, length) };
+    if is_signed { Ok(()) } else { Err(WriteError::BadPlace) }
+}
+
+/// What a State Cookie says: what its sender needs to set up the association, and for how long (RFC
+/// 9260 section 5.1.3). *Local* is the end that seals and opens it. [`seal_cookie`] has an example.
+///
+/// ```
+/// let cookie = davgyuti::Cookie { lifespan: 60_000_000, ..Default::default() };
+/// # assert_eq!(cookie.addresses, b"");
+/// ```
+#[derive(Clone, Copy, Default, PartialEq, Eq, Hash, Debug)]
+pub struct Cookie<'a> {
+    /// When it was sealed, in microseconds on your clock.
+    pub created: u64,
+    /// For how long it is good, in microseconds.
+    pub lifespan: u64,
+    /// The initiate tag of the INIT ACK.
+    pub local_tag: u32,
+    /// The initiate tag of the INIT.
+    pub peer_tag: u32,
+    /// The initial TSN of the INIT ACK.
+    pub local_initial_tsn: u32,
+    /// The initial TSN of the INIT.
+    pub peer_initial_tsn: u32,
+    /// The port of the local end.
+    pub local_port: u16,
+    /// The port of the peer.
+    pub peer_port: u16,
+    /// The number of streams on which the local end sends.
+    pub outbound_streams: u16,
+    /// The number of streams on which the peer sends.
+    pub inbound_streams: u16,
+    /// Bytes of yours: the peer's addresses, the parameters of its INIT.
+    pub addresses: &'a [u8],
+}
+
+/// Writes a State Cookie to the front of `output`, and returns it: 72 bytes, with an HMAC over what
+/// it says (RFC 9260 section 5.1.3), and the addresses. Let the key be 32 random bytes that nobody
+/// else knows.
+///
+/// ```
+/// use davgyuti::{Cookie, CookieError};
+///
+/// let says = Cookie { created: 5, lifespan: 10, addresses: &[192, 0, 2, 1], ..Cookie::default() };
+/// let mut output = [0; 100];
+/// let sealed = davgyuti::seal_cookie(&mut output, b"key", &says)?;
+/// assert_eq!(sealed.len(), 72 + 4);
+/// assert_eq!(davgyuti::open_cookie(b"key", sealed, 15), Ok(says));
+/// assert_eq!(davgyuti::open_cookie(b"key", sealed, 17), Err(CookieError::Stale { staleness: 2 }));
+/// assert_eq!(davgyuti::open_cookie(b"other key", sealed, 15), Err(CookieError::Invalid));
+/// # Ok::<(), davgyuti::WriteError>(())
+/// ```
+///
+/// # Errors
+/// [`WriteError::NoRoom`] where the output has fewer bytes; it stays as it is.
+#[doc(alias = "dcsctp_seal_cookie")]
+pub fn seal_cookie<'a>(
+    output: &'a mut [u8],
+    key: &[u8],
+    cookie: &Cookie,
+) -> Result<&'a mut [u8], WriteError> {
+    let says = ffi::Cookie {
+        created: cookie.created,
+        lifespan: cookie.lifespan,
+        local_tag: cookie.local_tag,
+        peer_tag: cookie.peer_tag,
+        local_initial_tsn: cookie.local_initial_tsn,
+        peer_initial_tsn: cookie.peer_initial_tsn,
+        local_port: cookie.local_port,
+        peer_port: cookie.peer_port,
+        outbound_streams: cookie.outbound_streams,
+        inbound_streams: cookie.inbound_streams,
+        ..ffi::Cookie::default()
+    };
+    let (front, room, mut size) = (output.as_mut_ptr(), output.len(), 0);
+    // SAFETY: each pointer with a length is of a slice, and `size` and `says` are values here. The
+    // output is borrowed mutably, so nothing overlaps it.
+    WriteError::check(unsafe {
+        ffi::dcsctp_seal_cookie(
+            front,
+            room,
+            &raw mut size,
+            key.as_ptr(),
+            key.len(),
+            &raw const says,
+            cookie.addresses.as_ptr(),
+            cookie.addresses.len(),
+        )
+    })?;
+    Ok(&mut output[..size])
+}
+
+/// Returns what a State Cookie says that was sealed under the key and is good at a time, in
+/// microseconds on the clock by which it was sealed (RFC 9260 section 5.1.5).
+///
+/// It is good to the end of its lifespan, and before it was created, on a clock that was set back.
+/// That its ports and its local tag are those of the packet is for you to compare.
+/// [`seal_cookie`] has an example.
+///
+/// ```
+/// let opened = davgyuti::open_cookie(b"key", b"no cookie", 0);
+/// assert_eq!(opened, Err(davgyuti::CookieError::Invalid));
+/// ```
+///
+/// # Errors
+/// [`CookieError::Stale`] of one that is no longer good, and [`CookieError::Invalid`] of all other
+/// bytes.
+#[doc(alias = "dcsctp_open_cookie")]
+pub fn open_cookie<'a>(key: &[u8], bytes: &'a [u8], now: u64) -> Result<Cookie<'a>, CookieError> {
+    let (mut says, mut staleness) = (ffi::Cookie::default(), 0);
+    // SAFETY: `key` and `bytes` are slices, and `says` and `staleness` values here.
+    let state = unsafe {
+        ffi::dcsctp_open_cookie(
+            key.as_ptr(),
+            key.len(),
+            bytes.as_ptr(),
+            bytes.len(),
+            now,
+            &raw mut says,
+            &raw mut staleness,
+        )
+    };
+    match state {
+        0 => Ok(Cookie {
+            created: says.created,
+            lifespan: says.lifespan,
+            local_tag: says.local_tag,
+            peer_tag: says.peer_tag,
+            local_initial_tsn: says.local_initial_tsn,
+            peer_initial_tsn: says.peer_initial_tsn,
+            local_port: says.local_port,
+            peer_port: says.peer_port,
+            outbound_streams: says.outbound_streams,
+            inbound_streams: says.inbound_streams,
+            addresses: &bytes[says.addresses_offset..][..says.addresses_size],
+        }),
+        1 => Err(CookieError::Stale { staleness }),
+        _ => Err(CookieError::Invalid),
+    }
+}

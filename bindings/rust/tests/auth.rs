@@ -1,0 +1,157 @@
+// SPDX-License-Identifier: Apache-2.0
+//! What is authenticated: State Cookies, AUTH chunks and association shared keys. The HMACs are those
+//! that Python's hmac gives of bytes that were laid out by hand, as `tests/c/auth.c` of the
+//! repository has them.
+
+mod common;
+
+use common::bytes;
+use davgyuti::{
+    ChunkType, Cookie, CookieError, WriteError, is_listed, open_cookie, seal_cookie, shared_key,
+    sign_auth, verify_auth,
+};
+
+const KEY: &[u8] = b"a key";
+const SAYS: Cookie = Cookie {
+    created: 1_000_000,
+    lifespan: 60_000_000,
+    local_tag: 0x0102_0304,
+    peer_tag: 0x0506_0708,
+    local_initial_tsn: 0x090a_0b0c,
+    peer_initial_tsn: 0x0d0e_0f10,
+    local_port: 5000,
+    peer_port: 5001,
+    outbound_streams: 10,
+    inbound_streams: 20,
+    addresses: &[192, 0, 2, 1],
+};
+const SEALED: &str = "0f4058d455d989f64110ebd32badc1d936581848510b55101d06d10654512b4e
+    00000000000f4240 0000000003938700 01020304 05060708 090a0b0c 0d0e0f10 1388 1389 000a 0014
+    c0000201";
+
+#[test]
+fn cookies_are_sealed() {
+    let mut output = [0x5a; 128];
+    assert_eq!(seal_cookie(&mut output[..75], KEY, &SAYS), Err(WriteError::NoRoom));
+    assert_eq!(output, [0x5a; 128]);
+    assert_eq!(seal_cookie(&mut output, KEY, &SAYS).unwrap(), bytes(SEALED));
+    assert_eq!(output[76..], [0x5a; 52]);
+}
+
+#[test]
+fn cookies_are_opened() {
+    let sealed = bytes(SEALED);
+    // Good to the end of its life, and on a clock that was set back.
+    for now in [0, 1_000_000, 61_000_000] {
+        assert_eq!(open_cookie(KEY, &sealed, now), Ok(SAYS));
+    }
+    for (now, staleness) in [(61_000_001, 1), (u64::MAX, u64::MAX - 61_000_000)] {
+        assert_eq!(open_cookie(KEY, &sealed, now), Err(CookieError::Stale { staleness }));
+    }
+}
+
+#[test]
+fn other_bytes_are_no_cookie() {
+    let mut sealed = bytes(SEALED);
+    for at in 0..sealed.len() {
+        assert_eq!(open_cookie(KEY, &sealed[..at], 1_000_000), Err(CookieError::Invalid));
+        sealed[at] ^= 1;
+        assert_eq!(open_cookie(KEY, &sealed, 1_000_000), Err(CookieError::Invalid));
+        sealed[at] ^= 1;
+    }
+    for (key, bytes) in [(&KEY[..4], &sealed[..]), (b"", &sealed), (b"", b"")] {
+        assert_eq!(open_cookie(key, bytes, 1_000_000), Err(CookieError::Invalid));
+    }
+}
+
+#[test]
+fn a_cookie_needs_no_key_and_no_addresses() {
+    let says = Cookie { addresses: b"", ..SAYS };
+    let mut output = [0; 72];
+    let sealed = seal_cookie(&mut output, b"", &says).unwrap();
+    assert_eq!(open_cookie(b"", sealed, 1_000_000), Ok(says));
+}
+
+/// AUTH, and a DATA chunk after it: with HMAC-SHA-1, and with HMAC-SHA-256.
+const SIGNED: [(&str, usize); 2] = [
+    (
+        "0f00001c 00000001 c7495116c0ef32e9165201fbb044c4bb612e9d0e
+        00030014 00000001 00020003 00000033 61620000",
+        20,
+    ),
+    (
+        "0f000028 00000003 e95e27d95bf24d454ec42d0f7ae79c824a09c532620996ed19b3d3a3d9ec3d35
+        00030014 00000001 00020003 00000033 61620000",
+        32,
+    ),
+];
+
+#[test]
+fn auth_is_verified() {
+    for (digits, _) in SIGNED {
+        let mut signed = bytes(digits);
+        assert!(verify_auth(KEY, &signed) && !verify_auth(&KEY[..4], &signed));
+        for at in 0..signed.len() {
+            signed[at] ^= 1;
+            assert!(!verify_auth(KEY, &signed), "{at}");
+            signed[at] ^= 1;
+            assert!(!verify_auth(KEY, &signed[..at]), "{at}");
+        }
+    }
+}
+
+#[test]
+fn auth_is_signed() {
+    for (digits, size) in SIGNED {
+        let signed = bytes(digits);
+        let mut written = signed.clone();
+        written[8..8 + size].fill(0xa5);
+        assert!(!verify_auth(KEY, &written));
+        assert_eq!(sign_auth(KEY, &mut written), Ok(()));
+        assert_eq!(written, signed);
+        // No AUTH, another length, another identifier: nothing is written.
+        for at in [0, 3, 7] {
+            let mut changed = signed.clone();
+            changed[at] ^= 4;
+            let before = changed.clone();
+            assert_eq!(sign_auth(KEY, &mut changed), Err(WriteError::BadPlace));
+            assert_eq!(changed, before);
+        }
+        assert_eq!(sign_auth(KEY, &mut written[..7 + size]), Err(WriteError::BadPlace));
+    }
+    assert_eq!(sign_auth(b"", &mut []), Err(WriteError::BadPlace));
+}
+
+/// RFC 4895 section 3.2.
+#[test]
+fn types_are_listed() {
+    let list = [0xc1, 0x80, 1, 2, 14, 15];
+    for number in 0..=255 {
+        let expected = number == 0xc1 || number == 0x80;
+        assert_eq!(is_listed(&list, ChunkType(number)), expected);
+    }
+    assert!(!is_listed(&[], ChunkType::ASCONF));
+}
+
+/// RFC 4895 section 6.1: the smaller number first; of two that are equal, the shorter.
+#[test]
+fn keys_are_shared() {
+    for (one, other, expected) in [
+        ("0102", "0103", "70 0102 0103"),
+        ("0103", "02", "70 02 0103"),
+        ("0005", "05", "70 05 0005"),
+        ("000101", "0102", "70 000101 0102"),
+        ("07", "07", "70 07 07"),
+    ] {
+        let (one, other, expected) = (bytes(one), bytes(other), bytes(expected));
+        for (first, second) in [(&one, &other), (&other, &one)] {
+            let mut output = [0x5a; 8];
+            let small = &mut output[..expected.len() - 1];
+            assert_eq!(shared_key(small, b"p", first, second), Err(WriteError::NoRoom));
+            assert_eq!(output, [0x5a; 8]);
+            assert_eq!(shared_key(&mut output, b"p", first, second).unwrap(), expected);
+            assert!(output[expected.len()..].iter().all(|&it| it == 0x5a));
+        }
+    }
+    assert_eq!(shared_key(&mut [], b"", b"", b"").unwrap(), b"");
+}

@@ -1,0 +1,241 @@
+// SPDX-License-Identifier: Apache-2.0
+//! What RFC 9260 asks of whoever receives a packet: each sentence of sections 3.2, 3.2.1, 3.3.2,
+//! 3.3.3, 8.4 and 8.5.1.
+
+mod common;
+
+use common::bytes;
+use davgyuti::{
+    Action, Answer, Association, ChunkType, Header, Init, InitFault, PacketBuilder, ParameterType,
+    Refusal, RegisteredCause, TAG_REFLECTED, TagVerdict, WriteError, init_fault, init_refusal,
+    out_of_the_blue, unrecognized_chunk, unrecognized_parameter, verify_tag,
+};
+
+const OWN: u32 = 0x0102_0304;
+const PEER: u32 = 0x0506_0708;
+const OTHER: u32 = 0x090a_0b0c;
+const T: u8 = TAG_REFLECTED;
+
+/// A packet of chunks without a value, each by its type and its flags.
+fn packet(tag: u32, chunks: &[(ChunkType, u8)]) -> Vec<u8> {
+    let mut buffer = [0; 128];
+    let mut packet = PacketBuilder::begin(&mut buffer, 5000, 5001, tag).unwrap();
+    for &(chunk_type, flags) in chunks {
+        packet.chunk(chunk_type, flags, &[]).unwrap();
+    }
+    packet.unsealed().to_vec()
+}
+
+#[test]
+fn each_action() {
+    let actions = [Action::Stop, Action::StopAndReport, Action::Skip, Action::SkipAndReport];
+    for number in 0..=255_u8 {
+        assert_eq!(unrecognized_chunk(ChunkType(number)), actions[usize::from(number / 64)]);
+    }
+    for (bits, action) in (0_u16..).zip(actions) {
+        for number in [bits << 14, bits << 14 | 0x3fff] {
+            assert_eq!(unrecognized_parameter(ParameterType(number)), action);
+        }
+    }
+}
+
+fn verdict(bytes: &[u8], knows_peer: bool, awaits_cookie: bool) -> TagVerdict {
+    let peer_tag = knows_peer.then_some(PEER);
+    verify_tag(bytes, &Association { own_tag: OWN, peer_tag, awaits_cookie })
+}
+
+#[test]
+fn each_rule_of_tags() {
+    use TagVerdict::{Accept, Discard, Establish, OutOfTheBlue};
+    const ACK: (ChunkType, u8) = (ChunkType::COOKIE_ACK, 0);
+    const INIT: (ChunkType, u8) = (ChunkType::INIT, 0);
+    const ECHO: (ChunkType, u8) = (ChunkType::COOKIE_ECHO, 0);
+    let abort = |flags| (ChunkType::ABORT, flags);
+    let complete = |flags| (ChunkType::SHUTDOWN_COMPLETE, flags);
+    for (tag, chunks, expected) in [
+        // 8.5: the receiver's own tag, and no other
+        (OWN, vec![ACK], Accept),
+        (PEER, vec![ACK], Discard),
+        (OTHER, vec![ACK], Discard),
+        // 8.5.1 A: an INIT alone, under the tag 0
+        (0, vec![INIT], Establish),
+        (0, vec![INIT, ACK], Discard),
+        (0, vec![ACK], Discard),
+        (OWN, vec![INIT], Discard),
+        // B: ABORT, with the own tag, or with the peer's and the T bit
+        (OWN, vec![abort(0)], Accept),
+        (PEER, vec![abort(T)], Accept),
+        (OWN, vec![abort(T)], Discard),
+        (PEER, vec![abort(0)], Discard),
+        (OTHER, vec![abort(T)], Discard),
+        // C: SHUTDOWN COMPLETE, likewise
+        (OWN, vec![complete(0)], Accept),
+        (PEER, vec![complete(T)], Accept),
+        (OWN, vec![complete(T)], Discard),
+        (PEER, vec![complete(0)], Discard),
+        // D: COOKIE ECHO, by section 5
+        (OTHER, vec![ECHO, (ChunkType::SACK, 0)], Establish),
+        // E: SHUTDOWN ACK, out of the blue where a cookie is awaited
+        (OWN, vec![(ChunkType::SHUTDOWN_ACK, 0)], Accept),
+    ] {
+        assert_eq!(verdict(&packet(tag, &chunks), true, false), expected, "{tag:x} {chunks:?}");
+    }
+    let ack = packet(OTHER, &[(ChunkType::SHUTDOWN_ACK, 0)]);
+    assert_eq!(verdict(&ack, true, true), OutOfTheBlue);
+    assert_eq!(verdict(&ack, true, false), Discard);
+    // (a peer's tag that isn't known is no tag, 0 neither)
+    for tag in [PEER, 0] {
+        assert_eq!(verdict(&packet(tag, &[abort(T)]), false, true), Discard);
+    }
+    for size in [11, 0] {
+        assert_eq!(verdict(&packet(OWN, &[ACK])[..size], true, false), Discard);
+    }
+}
+
+#[test]
+fn each_step_out_of_the_blue() {
+    use Answer::{Abort, CookieEcho, Discard, Init, ShutdownComplete};
+    let mut buffer = [0; 128];
+    let mut error = PacketBuilder::begin(&mut buffer, 5000, 5001, OTHER).unwrap();
+    let stale = RegisteredCause::StaleCookie { microseconds: 1000 };
+    error.error().unwrap().registered_cause(&stale).unwrap();
+    let of = |tag, types: &[ChunkType]| {
+        packet(tag, &types.iter().map(|&it| (it, 0)).collect::<Vec<_>>())
+    };
+    for (bytes, expected) in [
+        (of(OTHER, &[ChunkType::SHUTDOWN_ACK, ChunkType::ABORT]), Discard),
+        (of(0, &[ChunkType::INIT, ChunkType::SHUTDOWN_ACK]), Init),
+        (of(OTHER, &[ChunkType::INIT]), Abort),
+        (of(OTHER, &[ChunkType::COOKIE_ECHO, ChunkType::SHUTDOWN_ACK]), CookieEcho),
+        (of(OTHER, &[ChunkType::SACK, ChunkType::COOKIE_ECHO]), Abort),
+        (of(OTHER, &[ChunkType::SHUTDOWN_COMPLETE, ChunkType::SHUTDOWN_ACK]), ShutdownComplete),
+        (of(OTHER, &[ChunkType::SHUTDOWN_COMPLETE]), Discard),
+        (of(OTHER, &[ChunkType::COOKIE_ACK]), Discard),
+        (of(OTHER, &[ChunkType::ERROR]), Abort),
+        (error.as_bytes().to_vec(), Discard),
+        (packet(OTHER, &[(ChunkType::DATA, 3)]), Abort),
+    ] {
+        assert_eq!(out_of_the_blue(&bytes, true), expected, "{bytes:?}");
+        assert_eq!(out_of_the_blue(&bytes, false), Discard);
+        assert_eq!(out_of_the_blue(&bytes[..11], true), Discard);
+    }
+    assert_eq!(out_of_the_blue(&[], true), Discard);
+}
+
+#[test]
+fn replies() {
+    let header =
+        Header { source_port: 5000, destination_port: 5001, verification_tag: OTHER, checksum: 0 };
+    for (answer, chunk) in [
+        (Answer::Discard, None),
+        (Answer::Init, None),
+        (Answer::CookieEcho, None),
+        (Answer::ShutdownComplete, Some("0e010004")),
+        (Answer::Abort, Some("06010004")),
+    ] {
+        let mut buffer = [0xa5; 128];
+        let small = PacketBuilder::reply(&mut buffer[..15], &header, answer).err();
+        let Some(chunk) = chunk else {
+            assert_eq!(small, Some(WriteError::BadValue));
+            let error = PacketBuilder::reply(&mut buffer, &header, answer).err();
+            assert_eq!((error, buffer), (Some(WriteError::BadValue), [0xa5; 128]));
+            continue;
+        };
+        assert_eq!((small, buffer), (Some(WriteError::NoRoom), [0xa5; 128]));
+        let packet = PacketBuilder::reply(&mut buffer, &header, answer).unwrap();
+        let expected = [bytes("13891388 090a0b0c 00000000"), bytes(chunk)].concat();
+        assert_eq!(packet.as_bytes(), expected);
+        // None to it, either.
+        assert_eq!(out_of_the_blue(packet.seal(), true), Answer::Discard);
+        assert_eq!(buffer[..16], common::sealed(expected));
+        assert_eq!(buffer[16..], [0xa5; 112]);
+    }
+}
+
+#[test]
+fn a_reply_can_be_added_to() {
+    let mut buffer = [0; 128];
+    let header = Header::default();
+    let mut packet = PacketBuilder::reply(&mut buffer, &header, Answer::Abort).unwrap();
+    let cause = davgyuti::CauseCode::OUT_OF_RESOURCE;
+    packet.last_chunk().unwrap().cause(cause, &[]).unwrap();
+    assert_eq!(packet.as_bytes()[12..], bytes("06010008 00040004"));
+}
+
+fn init_of(is_ack: bool, init: &Init, has_cookie: bool) -> Vec<u8> {
+    let mut buffer = [0; 128];
+    let tag = if is_ack { OWN } else { 0 };
+    let mut packet = PacketBuilder::begin(&mut buffer, 5000, 5001, tag).unwrap();
+    let mut chunk = if is_ack { packet.init_ack(init) } else { packet.init(init) }.unwrap();
+    if has_cookie {
+        chunk.parameter(ParameterType::STATE_COOKIE, b"c").unwrap();
+    }
+    packet.unsealed().to_vec()
+}
+
+#[test]
+fn faults_of_initiations() {
+    for ([initiate_tag, a_rwnd, outbound, inbound], fault) in [
+        ([1, 1500, 1, 1], None),
+        ([0, 0, 0, 0], Some(InitFault::TagZero)),
+        ([1, 1499, 0, 0], Some(InitFault::SmallWindow)),
+        ([1, 1500, 0, 0], Some(InitFault::NoOutboundStreams)),
+        ([1, 1500, 1, 0], Some(InitFault::NoInboundStreams)),
+    ] {
+        let init = Init {
+            initiate_tag,
+            a_rwnd,
+            outbound_streams: outbound.try_into().unwrap(),
+            inbound_streams: inbound.try_into().unwrap(),
+            initial_tsn: 0,
+        };
+        let (mut packet, ack) = (init_of(false, &init, false), init_of(true, &init, true));
+        assert_eq!(init_fault(&packet, false), fault);
+        assert_eq!(init_fault(&ack, true), fault);
+        assert_eq!(init_fault(&packet, true), Some(InitFault::NotAlone));
+        assert_eq!(init_fault(&ack, false), Some(InitFault::NotAlone));
+        let without = init_of(true, &init, false);
+        assert_eq!(init_fault(&without, true), fault.or(Some(InitFault::NoStateCookie)));
+        packet.extend(bytes("0b000004"));
+        assert_eq!(init_fault(&packet, false), Some(InitFault::NotAlone));
+    }
+    let short = packet(0, &[(ChunkType::INIT, 0)]);
+    assert_eq!(init_fault(&short, false), Some(InitFault::TooShort));
+    assert_eq!(init_fault(&[], false), Some(InitFault::NotAlone));
+}
+
+/// Of an INIT (RFC 9260 sections 3.3.2 and 8.5.1), and of an INIT ACK in COOKIE-WAIT (sections 3.3.3
+/// and 5.1); and the ABORT: under the initiate tag, or reflected where there is none; and its cause.
+#[test]
+fn refusals_and_aborts() {
+    use Refusal::{Abort, DestroyAndAbort, Discard};
+    let none = "13891388 090a0b0c 00000000 06000004";
+    let invalid = "13891388 090a0b0c 00000000 06000008 00070004";
+    let reflected = "13891388 01020304 00000000 06010008 00070004";
+    let missing = "13891388 090a0b0c 00000000 0600000e 0002000a 00000001 00070000";
+    let header =
+        Header { source_port: 5000, destination_port: 5001, verification_tag: OWN, checksum: 77 };
+    for (fault, of_init, of_ack, expected) in [
+        (InitFault::NotAlone, Discard, Discard, none),
+        (InitFault::TooShort, Discard, Discard, none),
+        (InitFault::TagZero, Discard, DestroyAndAbort, reflected),
+        (InitFault::SmallWindow, Abort, Abort, invalid),
+        (InitFault::NoOutboundStreams, Abort, DestroyAndAbort, invalid),
+        (InitFault::NoInboundStreams, Abort, DestroyAndAbort, invalid),
+        (InitFault::NoStateCookie, Discard, DestroyAndAbort, missing),
+    ] {
+        assert_eq!(init_refusal(fault, false, false), of_init, "{fault:?}");
+        assert_eq!(init_refusal(fault, false, true), of_init, "{fault:?}");
+        assert_eq!(init_refusal(fault, true, true), of_ack, "{fault:?}");
+        assert_eq!(init_refusal(fault, true, false), Discard, "{fault:?}");
+
+        let tag = if fault == InitFault::TagZero { 0 } else { OTHER };
+        let (mut buffer, expected) = ([0xa5; 128], bytes(expected));
+        let room = &mut buffer[..expected.len() - 1];
+        let error = PacketBuilder::init_abort(room, &header, tag, fault).err();
+        assert_eq!((error, buffer), (Some(WriteError::NoRoom), [0xa5; 128]));
+        let room = &mut buffer[..expected.len()];
+        let packet = PacketBuilder::init_abort(room, &header, tag, fault).unwrap();
+        assert_eq!(packet.seal(), common::sealed(expected));
+    }
+}
