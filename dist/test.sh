@@ -625,7 +625,7 @@ go_module() {
             GOPROXY=*) go mod edit -require "davgyuti.example/other@$(cat ../others/davgyuti.example/other/@v/list)" &&
                 grep -F "\`$get\`" "$root/docs/INSTALL.md" || return ;;
         esac
-        { printf 'package main\n\nimport (\n"crypto/hmac"\n"crypto/sha256"\n"encoding/hex"\n"fmt"\n"net/netip"\n\n"davgyuti.example/davgyuti"\n)\n\n' &&
+        { printf 'package main\n\nimport (\n"encoding/hex"\n"fmt"\n"net/netip"\n\n"davgyuti.example/davgyuti"\n)\n\n' &&
             sed -n '/^```go$/,/^```$/{/^```/!p}' "$bindings/go/README.md" && cat <<'G'; } >main.go || return
 func main() {
 	packet, _ := hex.DecodeString("138813880da737981148a1f6000300157906b4b0000100000000003368656c6c6f000000")

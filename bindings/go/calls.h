@@ -235,4 +235,34 @@ ADD(add_registered_chunk,
 ADD_REGISTERED_ITEM(parameter)
 ADD_REGISTERED_ITEM(cause)
 
+/* ---- what is asked of whoever receives a packet, and what is authenticated; an output is written from its front */
+
+static inline uint32_t go_verify_tag(const uint8_t *bytes, size_t length, struct dcsctp_association association)
+{
+    return dcsctp_verify_tag(bytes, length, &association);
+}
+
+ADD(reply, (TO, struct dcsctp_header header, uint32_t answer), &header, answer)
+ADD(init_abort, (TO, struct dcsctp_header header, uint32_t tag, uint32_t fault), &header, tag, fault)
+ADD(shared_key,
+    (TO, const uint8_t *pair_key, size_t pair_key_size, const uint8_t *one, size_t one_size, const uint8_t *other, size_t other_size),
+    pair_key, pair_key_size, one, one_size, other, other_size)
+ADD(seal_cookie,
+    (TO, const uint8_t *key, size_t key_size, struct dcsctp_cookie cookie, const uint8_t *addresses, size_t count), key, key_size,
+    &cookie, addresses, count)
+
+/* A dcsctp_cookie_state, and what of a cookie the call wrote. */
+struct go_cookie {
+    uint32_t state;
+    struct dcsctp_cookie it;
+    uint64_t staleness;
+};
+
+static inline struct go_cookie go_open_cookie(const uint8_t *key, size_t key_size, const uint8_t *bytes, size_t length, uint64_t now)
+{
+    struct go_cookie result = {0};
+    result.state = dcsctp_open_cookie(key, key_size, bytes, length, now, &result.it, &result.staleness);
+    return result;
+}
+
 #endif

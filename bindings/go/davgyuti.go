@@ -23,11 +23,13 @@
 //
 // Check says that bytes are a packet: its checksum and all its lengths are right. It says nothing of the association. A
 // receiver still has to check that
-//   - the verification tag is its own; under INIT it is 0, and with a chunk that IsTagReflected the peer's;
-//   - no port, initiate tag or number of streams is 0, and no payload is empty;
-//   - INIT, INIT ACK and SHUTDOWN COMPLETE are alone, COOKIE ECHO is first or comes right after AUTH, control chunks come
-//     before user data, and nothing after ABORT;
-//   - INIT ACK has a State Cookie, and HEARTBEAT one Heartbeat Info;
+//   - the verification tag is right, by VerifyTag, and OutOfTheBlue where the packet belongs to no association;
+//   - no port is 0, and no payload is empty;
+//   - a packet with INIT or INIT ACK has no InitFault;
+//   - SHUTDOWN COMPLETE is alone, COOKIE ECHO is first or comes right after AUTH, control chunks come before user data, and
+//     nothing after ABORT;
+//   - HEARTBEAT has one Heartbeat Info;
+//   - a chunk whose type IsListed comes after an AUTH that VerifyAuth accepts;
 //   - the blocks of a SACK are in order, by IsValidSACK; if not, its cumulative TSN still counts;
 //   - under Policy.ZeroChecksum, Header.Checksum is Word of a packet that NeedsChecksum; Policy.AllowedZeroChecksum checks that.
 //
@@ -35,23 +37,24 @@
 //
 // # What answers what
 //
-//   - INIT, alone and under tag 0: AddInitAck in a packet under its InitiateTag, and AddParameter of a State Cookie that
-//     holds both sides' numbers and is authenticated
+//   - INIT: AddInitAck in a packet under its InitiateTag, and AddParameter of a State Cookie that Cookie.Seal makes; where
+//     there is an InitFault, what its Refusal says
 //   - INIT ACK: AddCookieEcho of its State Cookie's Value, in a packet under its InitiateTag
-//   - COOKIE ECHO, under the tag that is in its cookie: AddCookieAck, if the cookie is one of one's own
+//   - COOKIE ECHO: AddCookieAck, if OpenCookie opens it, and its ports and its LocalTag are the packet's
 //   - DATA, I-DATA, FORWARD-TSN, I-FORWARD-TSN: AddSACK, with blocks of CleanBlocks
 //   - HEARTBEAT: AddHeartbeatAck of its Heartbeat Info's Value
 //   - RE-CONFIG: AddChunk(ChunkReConfig, 0, nil), and AddReConfig of a response to each request in it; a response has no
 //     answer
-//   - ASCONF, after an AUTH whose HMAC is right: AddRegisteredChunk(ChunkASCONFAck, ..) with its sequence number, and
+//   - ASCONF, after an AUTH that VerifyAuth accepts: AddRegisteredChunk(ChunkASCONFAck, ..) with its sequence number, and
 //     AddRegisteredParameter of a Success Indication or an Error Cause Indication
 //   - SHUTDOWN: AddShutdownAck, once all that was sent is acknowledged
 //   - SHUTDOWN ACK: AddShutdownComplete
 //   - ABORT, SHUTDOWN COMPLETE: nothing
-//   - a chunk whose Type isn't known: if Type&0x40 != 0, AddChunk(ChunkError, 0, nil), and AddCause of
-//     CauseUnrecognizedChunk with its Bytes; if Type&0x80 == 0, the rest of the packet is ignored
-//   - a parameter of INIT whose Type isn't known: if Type&0x4000 != 0, AddParameter of ParameterUnrecognizedParameter with its
-//     Bytes, in the INIT ACK; if Type&0x8000 == 0, the rest of the chunk is ignored
+//   - a chunk whose Type isn't known, where its UnrecognizedAction reports: AddChunk(ChunkError, 0, nil), and AddCause of
+//     CauseUnrecognizedChunk with its Bytes
+//   - a parameter of INIT whose Type isn't known, likewise: AddParameter of ParameterUnrecognizedParameter with its Bytes, in
+//     the INIT ACK
+//   - a packet out of the blue: Header.Reply, where OutOfTheBlue is AnswerShutdownComplete or AnswerAbort
 package davgyuti
 
 // #include "calls.h"

@@ -3,8 +3,6 @@
 package davgyuti_test
 
 import (
-	"crypto/hmac"
-	"crypto/sha256"
 	"encoding/base64"
 	"encoding/hex"
 	"errors"
@@ -63,11 +61,71 @@ func ExampleReadChunk() {
 	// Output: 0x55841275 [Forward-TSN-Supported size=0 Supported Extensions size=2] <nil>
 }
 
+// receive returns what answers a packet that Check accepts, if anything does; association is nil where it belongs to none.
+func receive(packet davgyuti.Packet, association *davgyuti.Association, key []byte, now uint64) (davgyuti.Packet, error) {
+	if association != nil && packet.VerifyTag(*association) != davgyuti.TagOutOfTheBlue {
+		return nil, nil // TagAccept: its chunks are the association's
+	}
+	header, _ := packet.Header()
+	switch answer := packet.OutOfTheBlue(true); answer {
+	case davgyuti.AnswerShutdownComplete, davgyuti.AnswerAbort:
+		reply, err := header.Reply(answer)
+		if err != nil {
+			return nil, err
+		}
+		return reply, reply.Seal()
+	case davgyuti.AnswerCookieEcho:
+		echo, _ := packet.ChunkAt(davgyuti.FirstChunk)
+		cookie, err := davgyuti.OpenCookie(key, echo.Value, now)
+		if err != nil {
+			return nil, err // of a *StaleCookieError the Staleness goes into an ERROR
+		}
+		if header.VerificationTag != cookie.LocalTag || header.DestinationPort != cookie.LocalPort ||
+			header.SourcePort != cookie.PeerPort {
+			return nil, nil
+		}
+		reply, err := davgyuti.Begin(make([]byte, 1200), cookie.LocalPort, cookie.PeerPort, cookie.PeerTag)
+		if err == nil {
+			err = reply.AddCookieAck()
+		}
+		if err != nil {
+			return nil, err
+		}
+		return reply.Bytes(), reply.Seal()
+	}
+	return nil, nil // AnswerInit: an INIT ACK with a Cookie that is sealed
+}
+
+// Packets with the chunks of RFC 9260 sections 3.3.9, 3.3.11 and 3.3.12; the checksums are those of Python's crc32c.
+func ExamplePacket_OutOfTheBlue() {
+	key := []byte("a key") // of the cookie, which tests/c/auth.c has too
+	for _, text := range []string{
+		"13891388090a0b0cf285087c08000004",
+		"1389138801020304b623d9df0a0000500f4058d455d989f64110ebd32badc1d936581848" +
+			"510b55101d06d10654512b4e00000000000f424000000000039387000102030405060708090a0b0c0d0e0f1013881389000a0014c0000201",
+	} {
+		packet, _ := hex.DecodeString(text)
+		for _, now := range []uint64{1000000, 61000001} {
+			reply, err := receive(packet, nil, key, now)
+			fmt.Printf("%x %v\n", []byte(reply), err)
+		}
+	}
+	packet, _ := hex.DecodeString("1389138801020304efa7dfc20b000004")
+	reply, err := receive(packet, &davgyuti.Association{OwnTag: 0x01020304}, key, 0)
+	fmt.Println(reply == nil, err)
+	// Output:
+	// 13881389090a0b0c9ac0504a0e010004 <nil>
+	// 13881389090a0b0c9ac0504a0e010004 <nil>
+	// 13881389050607088e458a430b000004 <nil>
+	//  davgyuti: a State Cookie that is stale for 1 microseconds
+	// true <nil>
+}
+
 // asconf returns an ASCONF that adds an address, after an AUTH with its HMAC (RFC 5061 section 4.1.1, RFC 4895 section 6.2).
 func asconf(tag, serial uint32, own, added netip.Addr, key []byte) ([]byte, error) {
 	packet, err := davgyuti.Begin(make([]byte, 1200), 5000, 5000, tag)
-	if err == nil { // SHA-256; the HMAC is computed with zeros in its place
-		auth := davgyuti.Registered{Numbers: []uint32{0, 3}, Rest: make([]byte, sha256.Size)}
+	if err == nil { // SHA-256, with zeros in the place of the HMAC
+		auth := davgyuti.Registered{Numbers: []uint32{0, 3}, Rest: make([]byte, 32)}
 		err = packet.AddRegisteredChunk(davgyuti.ChunkAuth, auth)
 	}
 	if err == nil {
@@ -80,11 +138,10 @@ func asconf(tag, serial uint32, own, added netip.Addr, key []byte) ([]byte, erro
 	if err != nil {
 		return nil, err
 	}
-	sum := hmac.New(sha256.New, key)
-	sum.Write(packet.Bytes()[davgyuti.FirstChunk:])
-	first, _ := davgyuti.Packet(packet.Bytes()).ChunkAt(davgyuti.FirstChunk)
-	auth, _ := first.Registered()
-	copy(auth.Rest, sum.Sum(nil)) // where it lies in the packet
+	auth, _ := davgyuti.Packet(packet.Bytes()).ChunkAt(davgyuti.FirstChunk)
+	if err := auth.SignAuth(key); err != nil { // where it lies in the packet
+		return nil, err
+	}
 	return packet.Bytes(), packet.Seal()
 }
 

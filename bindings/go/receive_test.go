@@ -1,0 +1,241 @@
+// SPDX-License-Identifier: Apache-2.0
+
+package davgyuti_test
+
+import (
+	"fmt"
+	"testing"
+
+	"davgyuti.example/davgyuti"
+)
+
+// What RFC 9260 asks of whoever receives a packet: the rows are those of the repository's tests/c/receive.c.
+
+const own, peer, other = 0x01020304, 0x05060708, 0x090a0b0c
+
+// bareOf returns a packet of chunks without a value, each by its type and its flags.
+func bareOf(tag uint32, chunks ...[2]int) davgyuti.Packet {
+	builder, err := davgyuti.Begin(make([]byte, 100), 5000, 5001, tag)
+	for _, it := range chunks {
+		if err == nil {
+			err = builder.AddChunk(davgyuti.ChunkType(it[0]), uint8(it[1]), nil)
+		}
+	}
+	if err != nil {
+		panic(err)
+	}
+	return builder.Bytes()
+}
+
+// "Chunk Types are encoded such that the highest-order 2 bits specify the action": section 3.2, and of parameters 3.2.1.
+func TestUnrecognizedAction(t *testing.T) {
+	actions := []davgyuti.Action{davgyuti.ActionStop, davgyuti.ActionStopAndReport, davgyuti.ActionSkip,
+		davgyuti.ActionSkipAndReport}
+	for number := 0; number < 256; number++ {
+		equal(t, "chunk", davgyuti.ChunkType(number).UnrecognizedAction(), actions[number/64])
+	}
+	for bits, action := range actions {
+		for _, rest := range []int{0, 0x3fff} {
+			equal(t, "parameter", davgyuti.ParameterType(bits<<14|rest).UnrecognizedAction(), action)
+		}
+	}
+}
+
+func TestVerifyTag(t *testing.T) {
+	const (
+		init, ack, abort, shutdownAck, echo = int(davgyuti.ChunkInit), int(davgyuti.ChunkCookieAck), int(davgyuti.ChunkAbort),
+			int(davgyuti.ChunkShutdownAck), int(davgyuti.ChunkCookieEcho)
+		complete, reflected = int(davgyuti.ChunkShutdownComplete), davgyuti.TagReflected
+	)
+	known := davgyuti.Association{OwnTag: own, PeerTag: peer, HasPeerTag: true}
+	for _, c := range []struct {
+		tag     uint32
+		chunks  [][2]int
+		verdict davgyuti.TagVerdict
+	}{
+		// 8.5: the receiver's own tag, and no other.
+		{own, [][2]int{{ack, 0}}, davgyuti.TagAccept},
+		{peer, [][2]int{{ack, 0}}, davgyuti.TagDiscard},
+		{other, [][2]int{{ack, 0}}, davgyuti.TagDiscard},
+		// 8.5.1 A: an INIT alone, under the tag 0.
+		{0, [][2]int{{init, 0}}, davgyuti.TagEstablish},
+		{0, [][2]int{{init, 0}, {ack, 0}}, davgyuti.TagDiscard},
+		{0, [][2]int{{ack, 0}}, davgyuti.TagDiscard},
+		{own, [][2]int{{init, 0}}, davgyuti.TagDiscard},
+		// B: ABORT, with the own tag, or with the peer's and the T bit.
+		{own, [][2]int{{abort, 0}}, davgyuti.TagAccept},
+		{peer, [][2]int{{abort, reflected}}, davgyuti.TagAccept},
+		{own, [][2]int{{abort, reflected}}, davgyuti.TagDiscard},
+		{peer, [][2]int{{abort, 0}}, davgyuti.TagDiscard},
+		{other, [][2]int{{abort, reflected}}, davgyuti.TagDiscard},
+		// C: SHUTDOWN COMPLETE, likewise.
+		{own, [][2]int{{complete, 0}}, davgyuti.TagAccept},
+		{peer, [][2]int{{complete, reflected}}, davgyuti.TagAccept},
+		{own, [][2]int{{complete, reflected}}, davgyuti.TagDiscard},
+		{peer, [][2]int{{complete, 0}}, davgyuti.TagDiscard},
+		// D: COOKIE ECHO, by section 5.
+		{other, [][2]int{{echo, 0}, {int(davgyuti.ChunkSACK), 0}}, davgyuti.TagEstablish},
+		// E: SHUTDOWN ACK, out of the blue where a cookie is awaited.
+		{own, [][2]int{{shutdownAck, 0}}, davgyuti.TagAccept},
+	} {
+		equal(t, fmt.Sprint(c.tag, c.chunks), bareOf(c.tag, c.chunks...).VerifyTag(known), c.verdict)
+	}
+	packet, awaiting := bareOf(other, [2]int{shutdownAck, 0}), known
+	awaiting.AwaitsCookie = true
+	equal(t, "awaited", packet.VerifyTag(awaiting), davgyuti.TagOutOfTheBlue)
+	equal(t, "not awaited", packet.VerifyTag(known), davgyuti.TagDiscard)
+	packet = bareOf(peer, [2]int{abort, reflected})
+	awaiting.HasPeerTag = false
+	equal(t, "no peer's tag", packet.VerifyTag(awaiting), davgyuti.TagDiscard)
+	equal(t, "no header", packet[:11].VerifyTag(known), davgyuti.TagDiscard)
+	equal(t, "no bytes", davgyuti.Packet(nil).VerifyTag(known), davgyuti.TagDiscard)
+}
+
+// The steps of section 8.4, each before those after it.
+func TestOutOfTheBlue(t *testing.T) {
+	builder, _ := davgyuti.Begin(make([]byte, 100), 5000, 5001, other)
+	equal(t, "ERROR", builder.AddChunk(davgyuti.ChunkError, 0, nil), nil)
+	equal(t, "ERROR", davgyuti.Packet(builder.Bytes()).OutOfTheBlue(true), davgyuti.AnswerAbort)
+	equal(t, "cause", builder.AddCauseNumber(davgyuti.CauseStaleCookie, 1000), nil)
+	const (
+		shutdownAck, abort, echo, complete = int(davgyuti.ChunkShutdownAck), int(davgyuti.ChunkAbort), int(davgyuti.ChunkCookieEcho),
+			int(davgyuti.ChunkShutdownComplete)
+		init, sack = int(davgyuti.ChunkInit), int(davgyuti.ChunkSACK)
+	)
+	for i, c := range []struct {
+		packet davgyuti.Packet
+		answer davgyuti.Answer
+	}{
+		{bareOf(other, [2]int{shutdownAck, 0}, [2]int{abort, 0}), davgyuti.AnswerDiscard},
+		{bareOf(0, [2]int{init, 0}, [2]int{shutdownAck, 0}), davgyuti.AnswerInit},
+		{bareOf(other, [2]int{init, 0}), davgyuti.AnswerAbort},
+		{bareOf(other, [2]int{echo, 0}, [2]int{shutdownAck, 0}), davgyuti.AnswerCookieEcho},
+		{bareOf(other, [2]int{sack, 0}, [2]int{echo, 0}), davgyuti.AnswerAbort},
+		{bareOf(other, [2]int{complete, 0}, [2]int{shutdownAck, 0}), davgyuti.AnswerShutdownComplete},
+		{bareOf(other, [2]int{complete, 0}), davgyuti.AnswerDiscard},
+		{bareOf(other, [2]int{int(davgyuti.ChunkCookieAck), 0}), davgyuti.AnswerDiscard},
+		{builder.Bytes(), davgyuti.AnswerDiscard},
+		{bareOf(other, [2]int{int(davgyuti.ChunkData), 3}), davgyuti.AnswerAbort},
+	} {
+		equal(t, fmt.Sprint(i), c.packet.OutOfTheBlue(true), c.answer)
+		equal(t, fmt.Sprint(i), c.packet.OutOfTheBlue(false), davgyuti.AnswerDiscard)
+		equal(t, fmt.Sprint(i), c.packet[:11].OutOfTheBlue(true), davgyuti.AnswerDiscard)
+	}
+	equal(t, "no bytes", davgyuti.Packet(nil).OutOfTheBlue(true), davgyuti.AnswerDiscard)
+}
+
+// The reply, byte for byte, and none to it.
+func TestReply(t *testing.T) {
+	header, _ := bareOf(other, [2]int{int(davgyuti.ChunkShutdownAck), 0}).Header()
+	for answer, wanted := range map[davgyuti.Answer]string{
+		davgyuti.AnswerDiscard: "", davgyuti.AnswerInit: "", davgyuti.AnswerCookieEcho: "", 5: "", 6: "",
+		davgyuti.AnswerShutdownComplete: "1389 1388 090a0b0c 00000000 0e010004",
+		davgyuti.AnswerAbort:            "1389 1388 090a0b0c 00000000 06010004",
+	} {
+		reply, err := header.Reply(answer)
+		if wanted == "" {
+			equal(t, answer.String(), []interface{}{reply, err}, []interface{}{davgyuti.Packet(nil), davgyuti.ErrBadValue})
+			continue
+		}
+		equal(t, answer.String(), []interface{}{reply, err}, []interface{}{davgyuti.Packet(ofHex(wanted)), nil})
+		equal(t, answer.String(), reply.OutOfTheBlue(true), davgyuti.AnswerDiscard)
+		equal(t, answer.String(), reply.Seal(), nil)
+		equal(t, answer.String(), []interface{}{reply.Check(davgyuti.Policy{}), reply.OutOfTheBlue(true)},
+			[]interface{}{nil, davgyuti.AnswerDiscard})
+	}
+}
+
+func TestInitFault(t *testing.T) {
+	// packetOf returns an INIT, or an INIT ACK.
+	packetOf := func(isAck bool, init davgyuti.Init, cookie []byte) *davgyuti.Builder {
+		tag := map[bool]uint32{false: 0, true: own}[isAck]
+		builder, err := davgyuti.Begin(make([]byte, 100), 5000, 5001, tag)
+		if err == nil && isAck {
+			err = builder.AddInitAck(init)
+		} else if err == nil {
+			err = builder.AddInit(init)
+		}
+		if err == nil && cookie != nil {
+			err = builder.AddParameter(davgyuti.ParameterStateCookie, cookie)
+		}
+		equal(t, "INIT", err, nil)
+		return builder
+	}
+	faultOf := func(builder *davgyuti.Builder, isAck bool) davgyuti.InitFault {
+		return davgyuti.Packet(builder.Bytes()).InitFault(isAck)
+	}
+	for _, c := range []struct {
+		init  davgyuti.Init
+		fault davgyuti.InitFault
+	}{
+		{davgyuti.Init{InitiateTag: 1, ARwnd: 1500, OutboundStreams: 1, InboundStreams: 1}, davgyuti.InitNoFault},
+		{davgyuti.Init{}, davgyuti.InitTagZero},
+		{davgyuti.Init{InitiateTag: 1, ARwnd: 1499}, davgyuti.InitSmallWindow},
+		{davgyuti.Init{InitiateTag: 1, ARwnd: 1500}, davgyuti.InitNoOutboundStreams},
+		{davgyuti.Init{InitiateTag: 1, ARwnd: 1500, OutboundStreams: 1}, davgyuti.InitNoInboundStreams},
+	} {
+		init, ack := packetOf(false, c.init, nil), packetOf(true, c.init, []byte("c"))
+		equal(t, "INIT", faultOf(init, false), c.fault)
+		equal(t, "INIT ACK", faultOf(ack, true), c.fault)
+		equal(t, "the other", []davgyuti.InitFault{faultOf(init, true), faultOf(ack, false)},
+			[]davgyuti.InitFault{davgyuti.InitNotAlone, davgyuti.InitNotAlone})
+		without := c.fault
+		if without == davgyuti.InitNoFault {
+			without = davgyuti.InitNoStateCookie
+		}
+		equal(t, "no cookie", faultOf(packetOf(true, c.init, nil), true), without)
+		equal(t, "COOKIE ACK", init.AddCookieAck(), nil)
+		equal(t, "not alone", faultOf(init, false), davgyuti.InitNotAlone)
+	}
+	equal(t, "short", bareOf(0, [2]int{int(davgyuti.ChunkInit), 0}).InitFault(false), davgyuti.InitTooShort)
+	equal(t, "no bytes", davgyuti.Packet(nil).InitFault(false), davgyuti.InitNotAlone)
+}
+
+// Of an INIT (sections 3.3.2 and 8.5.1), and of an INIT ACK in COOKIE-WAIT (sections 3.3.3 and 5.1), by the fault's number.
+func TestRefusal(t *testing.T) {
+	ofInit, ofAck := []davgyuti.Refusal{0, 0, 0, 0, 1, 1, 1, 0, 0}, []davgyuti.Refusal{0, 0, 0, 2, 1, 2, 2, 2, 0}
+	for fault := davgyuti.InitFault(0); fault < 9; fault++ {
+		equal(t, fault.String(), []davgyuti.Refusal{fault.Refusal(false, false), fault.Refusal(false, true)},
+			[]davgyuti.Refusal{ofInit[fault], ofInit[fault]})
+		equal(t, fault.String(), fault.Refusal(true, true), ofAck[fault])
+		equal(t, fault.String(), fault.Refusal(true, false), davgyuti.RefusalDiscard)
+	}
+	equal(t, "numbers", []davgyuti.Refusal{davgyuti.RefusalDiscard, davgyuti.RefusalAbort, davgyuti.RefusalDestroyAndAbort},
+		[]davgyuti.Refusal{0, 1, 2})
+}
+
+// The ABORT: under the initiate tag, or reflected where there is none; and its cause.
+func TestInitAbort(t *testing.T) {
+	header := davgyuti.Header{SourcePort: 5000, DestinationPort: 5001, VerificationTag: own, Checksum: 77}
+	const front, invalid = "1389 1388 090a0b0c 00000000 ", "06000008 00070004"
+	for fault, wanted := range []string{"", front + "06000004", front + "06000004", "1389 1388 01020304 00000000 06010008 00070004",
+		front + invalid, front + invalid, front + invalid, front + "0600000e 0002000a 00000001 0007 0000", ""} {
+		fault := davgyuti.InitFault(fault)
+		tag := uint32(other)
+		if fault == davgyuti.InitTagZero {
+			tag = 0
+		}
+		abort, err := header.InitAbort(tag, fault)
+		if wanted == "" {
+			equal(t, fault.String(), []interface{}{abort, err}, []interface{}{davgyuti.Packet(nil), davgyuti.ErrBadValue})
+			continue
+		}
+		equal(t, fault.String(), []interface{}{abort, err}, []interface{}{davgyuti.Packet(ofHex(wanted)), nil})
+		equal(t, fault.String(), []interface{}{abort.Seal(), abort.Check(davgyuti.Policy{})}, []interface{}{nil, nil})
+	}
+}
+
+func TestWords(t *testing.T) {
+	for _, c := range []struct {
+		it     fmt.Stringer
+		wanted string
+	}{
+		{davgyuti.ActionSkipAndReport, "skip and report"}, {davgyuti.Action(4), "action 4"},
+		{davgyuti.TagOutOfTheBlue, "out of the blue"}, {davgyuti.TagVerdict(4), "verdict 4"},
+		{davgyuti.AnswerAbort, "ABORT"}, {davgyuti.Answer(5), "answer 5"},
+		{davgyuti.InitNoStateCookie, "no State Cookie"}, {davgyuti.InitFault(8), "fault 8"},
+		{davgyuti.RefusalDestroyAndAbort, "destroy and abort"}, {davgyuti.Refusal(3), "refusal 3"},
+	} {
+		equal(t, c.wanted, c.it.String(), c.wanted)
+	}
+}
