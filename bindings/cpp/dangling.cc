@@ -76,4 +76,6 @@ std::size_t list()
 }
 #elif WAY == 14
 const auto chunk = dcsctp::read_chunk(made()); // deleted
+#elif WAY == 15
+const auto cookie = dcsctp::open_cookie({}, made(), 0); // deleted
 #endif

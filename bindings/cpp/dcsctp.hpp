@@ -391,7 +391,7 @@ enum class re_config_result : std::uint32_t {
 };
 // end of what registry/make.py generates
 
-/// Returns the number of a chunk_type, a parameter_type, a cause_code, a re_config_result or a result_code.
+/// Returns the number of a chunk_type, a parameter_type, a cause_code, a result_code or another one of these enums.
 template <typename Enum> [[nodiscard]] constexpr std::underlying_type_t<Enum> number(Enum value) noexcept
 {
     return static_cast<std::underlying_type_t<Enum>>(value);
@@ -446,6 +446,82 @@ template <typename Enum> [[nodiscard]] constexpr std::underlying_type_t<Enum> nu
 inline constexpr std::uint32_t version_number = DCSCTP_VERSION_NUMBER;
 /// Returns the version of the library, which can be another one where the library is shared.
 [[nodiscard]] inline std::uint32_t library_version_number() noexcept { return ::dcsctp_version_number(); }
+
+// ---- what is asked of whoever receives a packet: what is done
+
+/// With a chunk or a parameter of a type that your association doesn't know.
+enum class action : std::uint32_t {
+    stop = DCSCTP_ACTION_STOP, ///< no further chunk of the packet, or parameter of the chunk, is processed
+    stop_and_report = DCSCTP_ACTION_STOP_AND_REPORT, ///< the same; and it is reported
+    skip = DCSCTP_ACTION_SKIP,                       ///< the next one is processed
+    skip_and_report = DCSCTP_ACTION_SKIP_AND_REPORT  ///< the same; and it is reported
+};
+/// With a packet, by its verification tag.
+enum class tag_verdict : std::uint32_t {
+    accept = DCSCTP_TAG_ACCEPT,                   ///< the tag is right: the packet is processed
+    establish = DCSCTP_TAG_ESTABLISH,             ///< an INIT alone under the tag 0, or COOKIE ECHO first: section 5
+    out_of_the_blue = DCSCTP_TAG_OUT_OF_THE_BLUE, ///< the packet is treated as if it belonged to no association
+    discard = DCSCTP_TAG_DISCARD                  ///< the packet is discarded, without an answer
+};
+/// With a packet that belongs to no association.
+enum class answer : std::uint32_t {
+    discard = DCSCTP_ANSWER_DISCARD,                     ///< it is discarded, without an answer
+    init = DCSCTP_ANSWER_INIT,                           ///< its INIT is processed (section 5.1)
+    cookie_echo = DCSCTP_ANSWER_COOKIE_ECHO,             ///< its COOKIE ECHO is processed (section 5.1)
+    shutdown_complete = DCSCTP_ANSWER_SHUTDOWN_COMPLETE, ///< reply returns what is sent back
+    abort = DCSCTP_ANSWER_ABORT                          ///< the same
+};
+/// What is wrong with a packet that carries INIT or INIT ACK: the first of these that is so.
+enum class init_fault : std::uint32_t {
+    no_fault = DCSCTP_INIT_NO_FAULT,                       ///< it can be processed
+    not_alone = DCSCTP_INIT_NOT_ALONE,                     ///< the packet doesn't hold this chunk alone
+    too_short = DCSCTP_INIT_TOO_SHORT,                     ///< the chunk has no room for its numbers
+    tag_zero = DCSCTP_INIT_TAG_ZERO,                       ///< the initiate tag is 0
+    small_window = DCSCTP_INIT_SMALL_WINDOW,               ///< the window is smaller than 1,500 bytes
+    no_outbound_streams = DCSCTP_INIT_NO_OUTBOUND_STREAMS, ///< their number is 0
+    no_inbound_streams = DCSCTP_INIT_NO_INBOUND_STREAMS,   ///< their number is 0
+    no_state_cookie = DCSCTP_INIT_NO_STATE_COOKIE          ///< INIT ACK lacks its State Cookie
+};
+/// With a packet whose INIT or INIT ACK isn't processed.
+enum class refusal : std::uint32_t {
+    discard = DCSCTP_REFUSAL_DISCARD,                  ///< it is discarded, without an answer
+    abort = DCSCTP_REFUSAL_ABORT,                      ///< init_abort returns what is sent; no state changes
+    destroy_and_abort = DCSCTP_REFUSAL_DESTROY_AND_ABORT ///< the same; and the association ends
+};
+
+/// What is known of an association before the tag of a packet is looked at: own_tag and peer_tag, the initiate tags that
+/// you and the peer sent; has_peer_tag, whether it has sent one; awaits_cookie, whether you are in the state COOKIE-WAIT
+/// or COOKIE-ECHOED.
+using association = struct ::dcsctp_association;
+
+/// What a State Cookie says: what its sender needs to set up the association, and for how long (section 5.1.3). Local is
+/// the end that seals and opens it.
+struct cookie {
+    std::uint64_t created = 0;           ///< in microseconds, on your clock
+    std::uint64_t lifespan = 0;          ///< in microseconds
+    std::uint32_t local_tag = 0;         ///< the initiate tag of the INIT ACK
+    std::uint32_t peer_tag = 0;          ///< that of the INIT
+    std::uint32_t local_initial_tsn = 0; ///< the initial TSN of the INIT ACK
+    std::uint32_t peer_initial_tsn = 0;  ///< that of the INIT
+    std::uint16_t local_port = 0;
+    std::uint16_t peer_port = 0;
+    std::uint16_t outbound_streams = 0; ///< on which the local end sends
+    std::uint16_t inbound_streams = 0;
+    bytes_view addresses{}; ///< bytes of yours: the peer's addresses, the parameters of its INIT
+};
+/// What a cookie is.
+enum class cookie_state : std::uint32_t {
+    good = DCSCTP_COOKIE_GOOD,      ///< it was sealed under the key
+    stale = DCSCTP_COOKIE_STALE,    ///< the same, but it is no longer good
+    invalid = DCSCTP_COOKIE_INVALID ///< it wasn't sealed under the key
+};
+/// A State Cookie that was opened: true where it is good.
+struct [[nodiscard]] opened_cookie {
+    cookie_state state = cookie_state::invalid;
+    cookie says{};               ///< of one that is good
+    std::uint64_t staleness = 0; ///< of one that is stale, for how many microseconds; its lower 32 bits are in Stale Cookie
+    explicit operator bool() const noexcept { return state == cookie_state::good; }
+};
 
 // ---- values; the fields are those of dcsctp.h
 
@@ -536,6 +612,7 @@ DCSCTP_EQUAL(struct dcsctp_sack, it.cumulative_tsn_ack, it.a_rwnd, it.block_coun
 DCSCTP_EQUAL(struct dcsctp_gap_ack_block, it.start, it.end)
 DCSCTP_EQUAL(struct dcsctp_forward_tsn, it.new_cumulative_tsn, it.stream_count)
 DCSCTP_EQUAL(struct dcsctp_skipped_stream, it.stream, it.ssn, it.mid, it.is_unordered)
+DCSCTP_EQUAL(struct dcsctp_association, it.own_tag, it.peer_tag, it.has_peer_tag, it.awaits_cookie)
 
 namespace dcsctp {
 
@@ -546,6 +623,8 @@ DCSCTP_EQUAL(data, it.tsn, it.mid, it.fsn, it.ppid, it.stream, it.ssn, it.is_uno
              it.immediate_ack, as_text(it.payload))
 DCSCTP_EQUAL(re_config, it.type, it.request_number, it.response_number, it.last_tsn, it.result, it.has_next_tsns,
              it.sender_next_tsn, it.receiver_next_tsn, it.new_streams, it.stream_count)
+DCSCTP_EQUAL(cookie, it.created, it.lifespan, it.local_tag, it.peer_tag, it.local_initial_tsn, it.peer_initial_tsn,
+             it.local_port, it.peer_port, it.outbound_streams, it.inbound_streams, as_text(it.addresses))
 #undef DCSCTP_EQUAL
 
 // ---- ranges
@@ -1365,6 +1444,25 @@ class packet {
         return chunk(bytes_, it, offset);
     }
 
+    /// Returns what is done with it by its verification tag (sections 8.5 and 8.5.1). Of it only the common header, the
+    /// types of the chunks and the T bit are looked at, as by the next two; check it first.
+    [[nodiscard]] tag_verdict verify_tag(const association &known) const noexcept
+    {
+        return static_cast<tag_verdict>(::dcsctp_verify_tag(bytes_.data(), bytes_.size(), &known));
+    }
+    /// Returns what is done with it where it belongs to no association (section 8.4); `is_unicast` says whether it is to
+    /// and from unicast addresses.
+    [[nodiscard]] answer out_of_the_blue(bool is_unicast) const noexcept
+    {
+        return static_cast<answer>(::dcsctp_out_of_the_blue(bytes_.data(), bytes_.size(), is_unicast));
+    }
+    /// Returns the fault of an INIT (section 3.3.2), or of an INIT ACK (section 3.3.3) where `is_ack` is true. Of the
+    /// parameters the State Cookie alone is looked for.
+    [[nodiscard]] dcsctp::init_fault init_fault(bool is_ack) const noexcept
+    {
+        return static_cast<dcsctp::init_fault>(::dcsctp_init_fault(bytes_.data(), bytes_.size(), is_ack));
+    }
+
     /// Writes the packet's text, in UTF-8: a line for the header and one for each chunk, with no line feed at the end.
     /// The output does not overlap the packet.
     written print_to(mutable_bytes_view output, policy accepted = {}, word_option word = {}) const noexcept
@@ -1500,6 +1598,140 @@ inline void clean_blocks(std::vector<gap_ack_block> &blocks)
 {
     blocks.resize(::dcsctp_clean_blocks(blocks.data(), blocks.size()));
 }
+
+// ---- what is asked of whoever receives a packet
+
+/// Returns what is done with a chunk of a type that your association doesn't know, by the type's two highest-order bits
+/// (section 3.2).
+[[nodiscard]] inline action unrecognized(chunk_type type) noexcept
+{
+    return static_cast<action>(::dcsctp_unrecognized_chunk(number(type)));
+}
+/// Returns the same of a parameter (section 3.2.1).
+[[nodiscard]] inline action unrecognized(parameter_type type) noexcept
+{
+    return static_cast<action>(::dcsctp_unrecognized_parameter(number(type)));
+}
+
+namespace detail {
+/// What a function writes into as many bytes at most.
+template <typename Call> outcome<std::vector<std::uint8_t>> made(std::size_t most, Call call)
+{
+    std::vector<std::uint8_t> output(most);
+    std::size_t size = 0;
+    if (const auto code = static_cast<result_code>(call(output.data(), output.size(), &size)); code != result_code::ok)
+        return code;
+    output.resize(size);
+    return output;
+}
+} // namespace detail
+
+/// Returns what answer::shutdown_complete or answer::abort sends back to the sender of a packet with this header: the tag
+/// reflected, with the T bit. Seal it. bad_value for another answer.
+[[nodiscard]] inline outcome<std::vector<std::uint8_t>> reply(const header &to, answer with)
+{
+    return detail::made(16, [&](std::uint8_t *packet, std::size_t room, std::size_t *size) {
+        return ::dcsctp_reply(packet, room, size, &to, number(with));
+    });
+}
+
+/// Returns what is done where an INIT, or an INIT ACK, has a fault (sections 3.3.2, 3.3.3, 5.1 and 8.5.1), and of an INIT
+/// ACK by whether you are in the state COOKIE-WAIT; refusal::discard for no_fault, and a number that is no fault's.
+[[nodiscard]] inline refusal init_refusal(init_fault fault, bool is_ack, bool in_cookie_wait) noexcept
+{
+    return static_cast<refusal>(::dcsctp_init_refusal(number(fault), is_ack, in_cookie_wait));
+}
+
+/// Returns the packet with the ABORT that says a fault to the sender of an INIT or INIT ACK with this initiate tag in a
+/// packet with this header. Its cause is Missing Mandatory Parameter or Invalid Mandatory Parameter; it has none for
+/// not_alone and too_short, which no ABORT answers. Its tag is the initiate tag; where that is 0, the packet's own, with
+/// the T bit. Seal it. bad_value for no_fault, and a number that is no fault's.
+[[nodiscard]] inline outcome<std::vector<std::uint8_t>> init_abort(const header &to, std::uint32_t initiate_tag,
+                                                                   init_fault fault)
+{
+    return detail::made(28, [&](std::uint8_t *packet, std::size_t room, std::size_t *size) {
+        return ::dcsctp_init_abort(packet, room, size, &to, initiate_tag, number(fault));
+    });
+}
+
+// ---- what is authenticated, by HMACs with SHA-1 or SHA-256 under keys of any length. Two HMACs are compared to their end,
+// wherever they differ; nothing is proved of the time that this takes.
+
+/// Returns whether a chunk of a type has to come after AUTH: `list` is the value of the receiver's Chunk List, in which
+/// INIT, INIT ACK, SHUTDOWN COMPLETE and AUTH are ignored (RFC 4895 section 3.2).
+[[nodiscard]] inline bool is_listed(bytes_view list, chunk_type type) noexcept
+{
+    return ::dcsctp_is_listed(list.data(), list.size(), number(type));
+}
+
+/// Returns an association shared key (RFC 4895 section 6.1): the endpoint pair shared key, which may be empty, and then the
+/// key vectors of both ends in the order that the section gives, whichever is passed first. A key vector is the parameters
+/// Random, Chunk List and Requested HMAC Algorithm that an end sent, in this order, each with its header and without
+/// padding: their bytes().
+[[nodiscard]] inline std::vector<std::uint8_t> shared_key(bytes_view pair_key, bytes_view one, bytes_view other)
+{
+    return *detail::made(pair_key.size() + one.size() + other.size(),
+                         [&](std::uint8_t *output, std::size_t room, std::size_t *size) {
+                             return ::dcsctp_shared_key(output, room, size, pair_key.data(), pair_key.size(), one.data(),
+                                                        one.size(), other.data(), other.size());
+                         });
+}
+
+/// Returns whether the HMAC of an AUTH chunk is right under an association shared key (RFC 4895 section 6.3). The bytes are
+/// those of the packet from the AUTH chunk on, up to its end. False also where no AUTH is there, its HMAC identifier is
+/// another than 1 and 3, or its HMAC is not as long as that of SHA-1 or SHA-256.
+[[nodiscard]] inline bool verify_auth(bytes_view key, bytes_view bytes) noexcept
+{
+    return ::dcsctp_verify_auth(key.data(), key.size(), bytes.data(), bytes.size());
+}
+
+/// Writes the HMAC into an AUTH chunk, whose field has to be as long (RFC 4895 section 6.2), as that of a builder before it
+/// is sealed. The bytes are those from the AUTH chunk on, and don't overlap the key. bad_value, and nothing is changed,
+/// where verify_auth would return false whatever the HMAC is.
+inline result sign_auth(bytes_view key, mutable_bytes_view bytes) noexcept
+{
+    return ::dcsctp_sign_auth(key.data(), key.size(), bytes.data(), bytes.size()) ? result_code::ok : result_code::bad_value;
+}
+
+/// Returns a State Cookie (section 5.1.3), with an HMAC under a key that nobody else knows.
+[[nodiscard]] inline std::vector<std::uint8_t> seal_cookie(bytes_view key, const cookie &says)
+{
+    struct ::dcsctp_cookie it {};
+    it.created = says.created;
+    it.lifespan = says.lifespan;
+    it.local_tag = says.local_tag;
+    it.peer_tag = says.peer_tag;
+    it.local_initial_tsn = says.local_initial_tsn;
+    it.peer_initial_tsn = says.peer_initial_tsn;
+    it.local_port = says.local_port;
+    it.peer_port = says.peer_port;
+    it.outbound_streams = says.outbound_streams;
+    it.inbound_streams = says.inbound_streams;
+    return *detail::made(72 + says.addresses.size(), [&](std::uint8_t *output, std::size_t room, std::size_t *size) {
+        return ::dcsctp_seal_cookie(output, room, size, key.data(), key.size(), &it, says.addresses.data(),
+                                    says.addresses.size());
+    });
+}
+
+/// Opens a State Cookie at a time in microseconds, on the clock by which it was sealed. It is good from before it was
+/// created, on a clock that was set back, to the end of its life. Its addresses are a part of the bytes.
+[[nodiscard]] inline opened_cookie open_cookie(bytes_view key, bytes_view bytes DCSCTP_LIFETIME_BOUND,
+                                               std::uint64_t now) noexcept
+{
+    struct ::dcsctp_cookie it {};
+    opened_cookie opened;
+    opened.state = static_cast<cookie_state>(::dcsctp_open_cookie(key.data(), key.size(), bytes.data(), bytes.size(), now,
+                                                                  &it, &opened.staleness));
+    opened.says = {it.created,          it.lifespan,         it.local_tag,       it.peer_tag,
+                   it.local_initial_tsn, it.peer_initial_tsn, it.local_port,      it.peer_port,
+                   it.outbound_streams, it.inbound_streams,  detail::part(bytes, it.addresses_offset, it.addresses_size)};
+    return opened;
+}
+
+/// A State Cookie of bytes that end before it is none: name the container.
+template <typename Container,
+          typename = std::enable_if_t<!std::is_reference_v<Container> && !detail::borrows<Container>>>
+opened_cookie open_cookie(bytes_view, Container &&, std::uint64_t) = delete;
 
 // ---- writing
 

@@ -1447,6 +1447,287 @@ void addresses()
     CHECK(i == 4);
 }
 
+// ---- what is asked of whoever receives a packet: the rows are those of tests/c/receive.c
+
+constexpr std::uint32_t own_tag = 0x01020304, peer_tag = 0x05060708, other_tag = 0x090a0b0c;
+
+// A packet of chunks without a value, each by its type and its flags.
+bytes bare(std::uint32_t tag, std::initializer_list<std::pair<chunk_type, std::uint8_t>> chunks)
+{
+    bytes packet;
+    builder to(packet, 5000, 5001, tag);
+    for (const auto &it : chunks)
+        CHECK(to.add_chunk(it.first, it.second));
+    CHECK(to.seal());
+    return packet;
+}
+
+// "Chunk Types are encoded such that the highest-order 2 bits specify the action": section 3.2, and of parameters 3.2.1.
+void unrecognized_types()
+{
+    const action actions[] = {action::stop, action::stop_and_report, action::skip, action::skip_and_report};
+    for (unsigned type = 0; type < 256; type++)
+        CHECK(unrecognized(static_cast<chunk_type>(type)) == actions[type / 64]);
+    for (unsigned bits = 0; bits < 4; bits++)
+        for (unsigned rest : {0u, 0x3fffu})
+            CHECK(unrecognized(static_cast<parameter_type>(bits << 14 | rest)) == actions[bits]);
+}
+
+void tags()
+{
+    constexpr std::uint8_t reflected = DCSCTP_TAG_REFLECTED;
+    const association known = {own_tag, peer_tag, true, false};
+    const struct {
+        bytes packet;
+        tag_verdict verdict;
+    } rows[] = {
+        // 8.5: the receiver's own tag, and no other
+        {bare(own_tag, {{chunk_type::cookie_ack, 0}}), tag_verdict::accept},
+        {bare(peer_tag, {{chunk_type::cookie_ack, 0}}), tag_verdict::discard},
+        {bare(other_tag, {{chunk_type::cookie_ack, 0}}), tag_verdict::discard},
+        // 8.5.1 A: an INIT alone, under the tag 0
+        {bare(0, {{chunk_type::init, 0}}), tag_verdict::establish},
+        {bare(0, {{chunk_type::init, 0}, {chunk_type::cookie_ack, 0}}), tag_verdict::discard},
+        {bare(0, {{chunk_type::cookie_ack, 0}}), tag_verdict::discard},
+        {bare(own_tag, {{chunk_type::init, 0}}), tag_verdict::discard},
+        // B: ABORT, with the own tag, or with the peer's and the T bit
+        {bare(own_tag, {{chunk_type::abort, 0}}), tag_verdict::accept},
+        {bare(peer_tag, {{chunk_type::abort, reflected}}), tag_verdict::accept},
+        {bare(own_tag, {{chunk_type::abort, reflected}}), tag_verdict::discard},
+        {bare(peer_tag, {{chunk_type::abort, 0}}), tag_verdict::discard},
+        {bare(other_tag, {{chunk_type::abort, reflected}}), tag_verdict::discard},
+        // C: SHUTDOWN COMPLETE, likewise
+        {bare(own_tag, {{chunk_type::shutdown_complete, 0}}), tag_verdict::accept},
+        {bare(peer_tag, {{chunk_type::shutdown_complete, reflected}}), tag_verdict::accept},
+        {bare(own_tag, {{chunk_type::shutdown_complete, reflected}}), tag_verdict::discard},
+        {bare(peer_tag, {{chunk_type::shutdown_complete, 0}}), tag_verdict::discard},
+        // D: COOKIE ECHO, by section 5
+        {bare(other_tag, {{chunk_type::cookie_echo, 0}, {chunk_type::sack, 0}}), tag_verdict::establish},
+        // E: SHUTDOWN ACK, out of the blue where a cookie is awaited
+        {bare(own_tag, {{chunk_type::shutdown_ack, 0}}), tag_verdict::accept},
+    };
+    for (const auto &row : rows)
+        CHECK(packet(row.packet).verify_tag(known) == row.verdict);
+    bytes it = bare(other_tag, {{chunk_type::shutdown_ack, 0}});
+    CHECK(packet(it).verify_tag({own_tag, peer_tag, true, true}) == tag_verdict::out_of_the_blue);
+    CHECK(packet(it).verify_tag(known) == tag_verdict::discard);
+    it = bare(peer_tag, {{chunk_type::abort, reflected}});
+    CHECK(packet(it).verify_tag({own_tag, peer_tag, false, true}) == tag_verdict::discard);
+    it.resize(11);
+    CHECK(packet(it).verify_tag(known) == tag_verdict::discard && packet().verify_tag(known) == tag_verdict::discard);
+    CHECK(known == association{own_tag, peer_tag, true, false} && known != association{own_tag, peer_tag, true, true});
+}
+
+// The steps of section 8.4, each before those after it; and the reply, byte for byte, and none to it.
+void out_of_the_blue()
+{
+    bytes error;
+    builder to(error, 5000, 5001, other_tag);
+    CHECK(to.add_chunk(chunk_type::error) && packet(to.bytes()).out_of_the_blue(true) == answer::abort);
+    CHECK(to.add_number(cause_code::stale_cookie, 1000) && to.seal());
+    const struct {
+        bytes packet;
+        dcsctp::answer answer;
+    } rows[] = {
+        {bare(other_tag, {{chunk_type::shutdown_ack, 0}, {chunk_type::abort, 0}}), answer::discard},
+        {bare(0, {{chunk_type::init, 0}, {chunk_type::shutdown_ack, 0}}), answer::init},
+        {bare(other_tag, {{chunk_type::init, 0}}), answer::abort},
+        {bare(other_tag, {{chunk_type::cookie_echo, 0}, {chunk_type::shutdown_ack, 0}}), answer::cookie_echo},
+        {bare(other_tag, {{chunk_type::sack, 0}, {chunk_type::cookie_echo, 0}}), answer::abort},
+        {bare(other_tag, {{chunk_type::shutdown_complete, 0}, {chunk_type::shutdown_ack, 0}}), answer::shutdown_complete},
+        {bare(other_tag, {{chunk_type::shutdown_complete, 0}}), answer::discard},
+        {bare(other_tag, {{chunk_type::cookie_ack, 0}}), answer::discard},
+        {error, answer::discard},
+        {bare(other_tag, {{chunk_type::data, 3}}), answer::abort},
+    };
+    for (const auto &row : rows) {
+        CHECK(packet(row.packet).out_of_the_blue(true) == row.answer);
+        CHECK(packet(row.packet).out_of_the_blue(false) == answer::discard);
+        CHECK(packet(bytes_view(row.packet).subspan(0, 11)).out_of_the_blue(true) == answer::discard);
+    }
+    CHECK(packet().out_of_the_blue(true) == answer::discard);
+
+    const bytes shutdown_ack = bare(other_tag, {{chunk_type::shutdown_ack, 0}});
+    const auto header = packet(shutdown_ack).header();
+    for (unsigned asked = 0; asked < 7; asked++) {
+        const auto with = static_cast<answer>(asked);
+        auto made = reply(*header, with);
+        if (with != answer::shutdown_complete && with != answer::abort) {
+            CHECK(!made && made.error() == result_code::bad_value && made->empty());
+            continue;
+        }
+        CHECK(made && *made == of_hex(with == answer::abort ? "1389 1388 090a0b0c 00000000 06010004"
+                                                            : "1389 1388 090a0b0c 00000000 0e010004"));
+        CHECK(packet(*made).out_of_the_blue(true) == answer::discard);
+        CHECK(seal(*made) && packet(*made).check() && packet(*made).out_of_the_blue(true) == answer::discard);
+    }
+}
+
+void init_faults()
+{
+    const auto init_of = [](bool is_ack, const init &numbers, bool has_cookie) {
+        bytes it;
+        builder to(it, 5000, 5001, is_ack ? own_tag : 0);
+        CHECK(is_ack ? to.add_init_ack(numbers) : to.add_init(numbers));
+        CHECK(!has_cookie || to.add_parameter(parameter_type::state_cookie, as_bytes("c")));
+        CHECK(to.seal());
+        return it;
+    };
+    const struct {
+        init numbers;
+        init_fault fault;
+    } rows[] = {
+        {{1, 1500, 1, 1, 0}, init_fault::no_fault},
+        {{0, 0, 0, 0, 0}, init_fault::tag_zero},
+        {{1, 1499, 0, 0, 0}, init_fault::small_window},
+        {{1, 1500, 0, 0, 0}, init_fault::no_outbound_streams},
+        {{1, 1500, 1, 0, 0}, init_fault::no_inbound_streams},
+    };
+    for (const auto &row : rows) {
+        bytes it = init_of(false, row.numbers, false), ack = init_of(true, row.numbers, true);
+        CHECK(packet(it).init_fault(false) == row.fault && packet(ack).init_fault(true) == row.fault);
+        CHECK(packet(it).init_fault(true) == init_fault::not_alone && packet(ack).init_fault(false) == init_fault::not_alone);
+        ack = init_of(true, row.numbers, false);
+        CHECK(packet(ack).init_fault(true)
+              == (row.fault == init_fault::no_fault ? init_fault::no_state_cookie : row.fault));
+        const bytes cookie_ack = of_hex("0b000004");
+        it.insert(it.end(), cookie_ack.begin(), cookie_ack.end());
+        CHECK(packet(it).init_fault(false) == init_fault::not_alone);
+    }
+    const bytes empty = bare(0, {{chunk_type::init, 0}});
+    CHECK(packet(empty).init_fault(false) == init_fault::too_short && packet().init_fault(false) == init_fault::not_alone);
+
+    // Of an INIT (sections 3.3.2 and 8.5.1), and of an INIT ACK in COOKIE-WAIT (sections 3.3.3 and 5.1), by the fault's
+    // number; and the ABORT: under the initiate tag, or reflected where there is none, with its cause.
+    const std::uint32_t of_init[] = {0, 0, 0, 0, 1, 1, 1, 0, 0}, of_ack[] = {0, 0, 0, 2, 1, 2, 2, 2, 0};
+    const char *const none = "1389 1388 090a0b0c 00000000 06000004",
+                      *const invalid = "1389 1388 090a0b0c 00000000 06000008 00070004",
+                      *const reflected = "1389 1388 01020304 00000000 06010008 00070004",
+                      *const missing = "1389 1388 090a0b0c 00000000 0600000e 0002000a 00000001 0007 0000";
+    const char *const aborts[] = {"", none, none, reflected, invalid, invalid, invalid, missing, ""};
+    for (unsigned i = 0; i < 9; i++) {
+        const auto fault = static_cast<init_fault>(i);
+        CHECK(number(init_refusal(fault, false, false)) == of_init[i]);
+        CHECK(number(init_refusal(fault, false, true)) == of_init[i]);
+        CHECK(number(init_refusal(fault, true, true)) == of_ack[i]);
+        CHECK(init_refusal(fault, true, false) == refusal::discard);
+        const auto made = init_abort({5000, 5001, own_tag, 77}, fault == init_fault::tag_zero ? 0 : other_tag, fault);
+        CHECK(made.has_value() == (*aborts[i] != 0) && *made == of_hex(aborts[i]));
+        CHECK(made || made.error() == result_code::bad_value);
+    }
+    CHECK(number(refusal::abort) == 1 && number(refusal::destroy_and_abort) == 2);
+}
+
+// ---- what is authenticated: the rows are those of tests/c/auth.c, whose HMACs are those that Python's hmac gives
+
+const bytes a_key = {'a', ' ', 'k', 'e', 'y'};
+
+void cookies()
+{
+    const bytes addresses = {192, 0, 2, 1}, wanted = of_hex(
+        "0f4058d455d989f64110ebd32badc1d936581848510b55101d06d10654512b4e00000000000f4240"
+        "00000000039387000102030405060708090a0b0c0d0e0f1013881389000a0014c0000201");
+    const cookie says = {1000000, 60000000, own_tag, peer_tag, other_tag, 0x0d0e0f10, 5000, 5001, 10, 20, addresses};
+    CHECK(seal_cookie(a_key, says) == wanted);
+    // Good to the end of its life, and on a clock that was set back.
+    for (std::uint64_t now : {0u, 1000000u, 61000000u}) {
+        const opened_cookie opened = open_cookie(a_key, wanted, now);
+        CHECK(opened && opened.state == cookie_state::good && opened.says == says && opened.staleness == 0);
+        CHECK(opened.says.addresses.data() == wanted.data() + 72);
+    }
+    const std::uint64_t last = ~std::uint64_t{0};
+    for (const auto &[now, staleness] : {std::pair<std::uint64_t, std::uint64_t>{61000001, 1}, {last, last - 61000000}}) {
+        const opened_cookie opened = open_cookie(a_key, wanted, now);
+        CHECK(!opened && opened.state == cookie_state::stale && opened.says == cookie{} && opened.staleness == staleness);
+    }
+    // Cut off, with a byte changed, or under another key.
+    const auto is_invalid = [](bytes_view key, bytes_view bytes) {
+        const opened_cookie opened = open_cookie(key, bytes, 1000000);
+        return !opened && opened.state == cookie_state::invalid && opened.says == cookie{} && opened.staleness == 0;
+    };
+    bytes changed = wanted;
+    for (std::size_t i = 0; i < wanted.size(); i++) {
+        CHECK(is_invalid(a_key, bytes_view(wanted).subspan(0, i)));
+        changed[i] ^= 1;
+        CHECK(is_invalid(a_key, changed));
+        changed[i] ^= 1;
+    }
+    CHECK(is_invalid(bytes_view(a_key).subspan(0, 4), wanted) && is_invalid({}, wanted) && is_invalid({}, {}));
+    // Without a key, and without addresses.
+    cookie bare_one = says;
+    bare_one.addresses = {};
+    const bytes without = seal_cookie({}, bare_one);
+    CHECK(without.size() == 72 && open_cookie({}, without, 1000000).says == bare_one);
+}
+
+// AUTH, and a DATA chunk after it.
+void auths()
+{
+    for (std::string_view text : {
+             "0f00001c00000001c7495116c0ef32e9165201fbb044c4bb612e9d0e0003001400000001000200030000003361620000",
+             "0f00002800000003e95e27d95bf24d454ec42d0f7ae79c824a09c532620996ed19b3d3a3d9ec3d35"
+             "0003001400000001000200030000003361620000"}) {
+        const bytes wanted = of_hex(text);
+        const std::size_t mac_size = wanted[3] - 8u;
+        CHECK(verify_auth(a_key, wanted) && !verify_auth(bytes_view(a_key).subspan(0, 4), wanted));
+        bytes it = wanted;
+        std::fill_n(it.begin() + 8, mac_size, std::uint8_t{0xa5});
+        CHECK(!verify_auth(a_key, it) && sign_auth(a_key, it) && it == wanted);
+        for (std::size_t at = 0; at < it.size(); at++) {
+            it[at] ^= 1;
+            CHECK(!verify_auth(a_key, it));
+            it[at] ^= 1;
+            CHECK(!verify_auth(a_key, bytes_view(it).subspan(0, at)));
+        }
+        // No AUTH, another length, another identifier: nothing is written.
+        for (std::size_t place : {0u, 3u, 7u}) {
+            bytes changed = wanted;
+            changed[place] ^= 4;
+            const bytes before = changed;
+            CHECK(sign_auth(a_key, changed).code() == result_code::bad_value && changed == before);
+        }
+        CHECK(!sign_auth(a_key, mutable_bytes_view(it).subspan(0, 7 + mac_size)) && !sign_auth({}, {}));
+
+        // By a builder, before it is sealed.
+        bytes packet;
+        builder to(packet, 5000, 5001, own_tag);
+        const bytes zeros(mac_size, 0), payload = {'a', 'b', 0, 0};
+        data user_data;
+        user_data.tsn = 1;
+        user_data.stream = 2;
+        user_data.ssn = 3;
+        user_data.ppid = 51;
+        user_data.payload = payload;
+        CHECK(to.add_registered(chunk_type::auth, {{0, wanted[7]}, {}, zeros}));
+        CHECK(to.add_data(user_data.with_flags(wanted[mac_size + 9])));
+        CHECK(sign_auth(a_key, to.bytes().subspan(12)) && to.seal());
+        CHECK(same(bytes_view(packet).subspan(12), wanted) && dcsctp::packet(packet).check());
+    }
+}
+
+// RFC 4895 section 3.2, and 6.1: the smaller number first; of two that are equal, the shorter.
+void shared_keys()
+{
+    const bytes list = {0xc1, 0x80, 1, 2, 14, 15};
+    for (unsigned type = 0; type < 256; type++)
+        CHECK(is_listed(list, static_cast<chunk_type>(type)) == (type == 0xc1 || type == 0x80));
+    CHECK(!is_listed({}, chunk_type::asconf));
+    const struct {
+        bytes one, other, key;
+    } rows[] = {
+        {{1, 2}, {1, 3}, {'p', 1, 2, 1, 3}},
+        {{1, 3}, {2}, {'p', 2, 1, 3}},
+        {{0, 5}, {5}, {'p', 5, 0, 5}},
+        {{0, 1, 1}, {1, 2}, {'p', 0, 1, 1, 1, 2}},
+        {{7}, {7}, {'p', 7, 7}},
+    };
+    for (const auto &row : rows) {
+        CHECK(shared_key(as_bytes("p"), row.one, row.other) == row.key);
+        CHECK(shared_key(as_bytes("p"), row.other, row.one) == row.key);
+    }
+    CHECK(shared_key({}, {}, {}).empty());
+}
+
 } // namespace
 
 int main()
@@ -1478,6 +1759,13 @@ int main()
     registered_refusals();
     addresses();
     any_bytes();
+    unrecognized_types();
+    tags();
+    out_of_the_blue();
+    init_faults();
+    cookies();
+    auths();
+    shared_keys();
     std::printf("cpp: %d passed, %d failed\n", passed, failed);
     return failed != 0;
 }

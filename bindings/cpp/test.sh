@@ -36,7 +36,7 @@ done
     sed -n '/^```cpp$/,/^```$/{/^```/!p}' README.md
     printf '}\n'
 } >"$work/readme.cc"
-printf 'INIT ACK: State Cookie\nAdd IP Address: 1\n' >"$work/readme.expected"
+printf 'INIT ACK: State Cookie\nCOOKIE ACK to tag 1294857517\nAdd IP Address: 1\n' >"$work/readme.expected"
 
 flags=(-Wall -Wextra -Wpedantic -Wconversion -Wshadow -Werror -I . -I "$dist")
 sanitizers=(-g -fsanitize=address,undefined -fno-sanitize-recover=all)
