@@ -2,10 +2,11 @@
 /** Reads, checks, prints and writes SCTP packets (RFC 9260), by proved functions compiled to WebAssembly.
 
     Bytes are copied into the memory of WebAssembly and out of it; only a `value`, a `payload`, the `bytes` of a part and what
-    `registeredChunk` and the like give as bytes are views of the bytes that were given. Numbers are plain values. What isn't of the type that is said here throws a TypeError; a
-    number that doesn't fit its field throws a RangeError. A field or an option that isn't named here is ignored, also a misspelt
-    one. Each call that takes bytes or a list throws a WriteError of NO_MEMORY where WebAssembly has no memory for them. Sections
-    without another name are those of RFC 9260. */
+    `registeredChunk` and the like give as bytes are views of the bytes that were given, as is what `openCookie` does. Numbers are
+    plain values, and bigints where they have 64 bits. What isn't of the type that is said here throws a TypeError; a number that
+    doesn't fit its field throws a RangeError. A field or an option that isn't named here is ignored, also a misspelt one. Each call
+    that takes bytes or a list throws a WriteError of NO_MEMORY where WebAssembly has no memory for them. Sections without another
+    name are those of RFC 9260. */
 
 /** The version of this package, and of dcsctp.wasm. */
 export const version: string;
@@ -622,6 +623,176 @@ export class Builder {
   /** The packet, with its CRC32c, or with zero as its checksum where `checksum` is false. More can be added afterwards. */
   finish(options?: { checksum?: boolean }): Uint8Array;
 }
+
+// ---- what is asked of whoever receives a packet
+//
+// Of the bytes only the common header, the types of the chunks and the T bit are looked at, up to the first chunk whose length is
+// impossible; without a common header they are discarded. Check them first.
+
+/** What is done with a chunk or a parameter of a type that your association doesn't know. */
+export const Action: {
+  /** No further chunk of the packet, or parameter of the chunk, is processed. */
+  readonly STOP: 0;
+  /** The same; and it is reported. */
+  readonly STOP_AND_REPORT: 1;
+  /** The next one is processed. */
+  readonly SKIP: 2;
+  /** The same; and it is reported. */
+  readonly SKIP_AND_REPORT: 3;
+};
+export type Action = Of<typeof Action>;
+/** Returns it by the two highest-order bits of the type of a chunk (section 3.2). */
+export function unrecognizedChunk(type: number): Action;
+/** Returns it by those of a parameter (section 3.2.1). */
+export function unrecognizedParameter(type: number): Action;
+
+/** What is known of an association before the tag of a packet is looked at. */
+export interface Association {
+  /** The initiate tag that you sent, and the one that the peer sent. */
+  ownTag: number;
+  peerTag: number;
+  /** Whether the peer has sent one. */
+  hasPeerTag: boolean;
+  /** Whether you are in the state COOKIE-WAIT or COOKIE-ECHOED. */
+  awaitsCookie: boolean;
+}
+/** What is done with a packet, by its verification tag. */
+export const TagVerdict: {
+  /** The tag is right: the packet is processed. */
+  readonly ACCEPT: 0;
+  /** An INIT alone under the tag 0, or COOKIE ECHO first: section 5 says what is done. */
+  readonly ESTABLISH: 1;
+  /** The packet is treated as if it belonged to no association. */
+  readonly OUT_OF_THE_BLUE: 2;
+  /** The packet is discarded, without an answer. */
+  readonly DISCARD: 3;
+};
+export type TagVerdict = Of<typeof TagVerdict>;
+/** Returns what is done with a packet, by its verification tag (sections 8.5 and 8.5.1). */
+export function verifyTag(bytes: Uint8Array, association: Association): TagVerdict;
+
+/** What is done with a packet that belongs to no association. */
+export const Answer: {
+  /** It is discarded, without an answer. */
+  readonly DISCARD: 0;
+  /** Its INIT is processed (section 5.1). */
+  readonly INIT: 1;
+  /** Its COOKIE ECHO is processed (section 5.1). */
+  readonly COOKIE_ECHO: 2;
+  /** `reply` returns what is sent back. */
+  readonly SHUTDOWN_COMPLETE: 3;
+  /** The same. */
+  readonly ABORT: 4;
+};
+export type Answer = Of<typeof Answer>;
+/** Returns what is done with a packet that belongs to no association (section 8.4). `isUnicast` says whether it is to and from unicast
+    addresses. */
+export function outOfTheBlue(bytes: Uint8Array, isUnicast: boolean): Answer;
+/** Returns what is sent back to the sender of a packet with this header: the tag reflected, with the T bit. Seal it. Throws a
+    WriteError of BAD_VALUE for another answer than SHUTDOWN_COMPLETE and ABORT. */
+export function reply(header: Header, answer: Answer): Uint8Array;
+
+/** What is wrong with a packet that carries INIT or INIT ACK: the first of these that is so. */
+export const InitFault: {
+  /** It can be processed. */
+  readonly NO_FAULT: 0;
+  /** The packet doesn't hold this chunk alone. */
+  readonly NOT_ALONE: 1;
+  /** The chunk has no room for its numbers. */
+  readonly TOO_SHORT: 2;
+  /** The initiate tag is 0. */
+  readonly TAG_ZERO: 3;
+  /** The window is smaller than 1,500 bytes. */
+  readonly SMALL_WINDOW: 4;
+  /** Their number is 0. */
+  readonly NO_OUTBOUND_STREAMS: 5;
+  readonly NO_INBOUND_STREAMS: 6;
+  /** INIT ACK lacks its State Cookie. */
+  readonly NO_STATE_COOKIE: 7;
+};
+export type InitFault = Of<typeof InitFault>;
+/** Returns the fault of an INIT (section 3.3.2), or of an INIT ACK (section 3.3.3) where `isAck` is true. Of the parameters the State
+    Cookie alone is looked for. */
+export function initFault(bytes: Uint8Array, isAck: boolean): InitFault;
+/** What is done with a packet whose INIT or INIT ACK isn't processed. */
+export const Refusal: {
+  /** It is discarded, without an answer. */
+  readonly DISCARD: 0;
+  /** `initAbort` returns what is sent; no association changes its state. */
+  readonly ABORT: 1;
+  /** The same; and the association ends. */
+  readonly DESTROY_AND_ABORT: 2;
+};
+export type Refusal = Of<typeof Refusal>;
+/** Returns it by the fault (sections 3.3.2, 3.3.3, 5.1 and 8.5.1), and of an INIT ACK by whether you are in the state COOKIE-WAIT. */
+export function initRefusal(fault: InitFault, isAck: boolean, inCookieWait: boolean): Refusal;
+/** Returns the packet with the ABORT that says a fault to the sender of an INIT or INIT ACK with this initiate tag in a packet with
+    this header. Its cause is Missing Mandatory Parameter or Invalid Mandatory Parameter; it has none for NOT_ALONE and TOO_SHORT, which
+    no ABORT answers. Its tag is the initiate tag; where that is 0, the packet's own, with the T bit. Seal it. Throws a WriteError of
+    BAD_VALUE for NO_FAULT. */
+export function initAbort(header: Header, initiateTag: number, fault: InitFault): Uint8Array;
+
+// ---- what is authenticated, under keys of yours
+//
+// Chunks after AUTH (RFC 4895) and State Cookies (section 5.1.3), by HMACs with SHA-1 or SHA-256. A key has any length. Two HMACs are
+// compared to their end, wherever they differ; nothing is proved of the time that this takes.
+
+/** Returns whether a chunk of a type has to come after AUTH: `chunkList` is the value of the receiver's Chunk List, in which INIT, INIT
+    ACK, SHUTDOWN COMPLETE and AUTH are ignored (RFC 4895 section 3.2). */
+export function isListed(chunkList: Uint8Array, type: number): boolean;
+/** Returns an association shared key (RFC 4895 section 6.1): the endpoint pair shared key, which may be empty, and then the key vectors
+    of both ends in the order that the section gives, whichever is passed first. A key vector is the parameters Random, Chunk List and
+    Requested HMAC Algorithm that an end sent, in this order: the `bytes` of each. */
+export function sharedKey(pairKey: Uint8Array, one: Uint8Array, other: Uint8Array): Uint8Array;
+/** Returns whether the HMAC of an AUTH chunk is right under an association shared key (RFC 4895 section 6.3). The bytes are those of the
+    packet from the AUTH chunk on, up to its end. False also where no AUTH is there, its HMAC identifier is another than 1 and 3, or its
+    HMAC is not as long as that of SHA-1 or SHA-256. */
+export function verifyAuth(key: Uint8Array, bytes: Uint8Array): boolean;
+/** Writes the HMAC into an AUTH chunk, whose field has to be as long (RFC 4895 section 6.2), and returns the bytes: those of the packet
+    from the AUTH chunk on, which is sealed after this. Throws a WriteError of BAD_VALUE, and changes nothing, where `verifyAuth` would
+    return false whatever the HMAC is. */
+export function signAuth(key: Uint8Array, bytes: Uint8Array): Uint8Array;
+
+/** What a State Cookie says: what its sender needs to set up the association, and for how long (section 5.1.3). Local is the end that
+    seals and opens it. */
+export interface Cookie {
+  /** In microseconds, on your clock. */
+  created: bigint;
+  /** In microseconds. */
+  lifespan: bigint;
+  /** The initiate tags of the INIT ACK and of the INIT. */
+  localTag: number;
+  peerTag: number;
+  /** The initial TSNs of the INIT ACK and of the INIT. */
+  localInitialTsn: number;
+  peerInitialTsn: number;
+  localPort: number;
+  peerPort: number;
+  /** On which the local end sends. */
+  outboundStreams: number;
+  inboundStreams: number;
+  /** Bytes of yours: the peer's addresses, the parameters of its INIT. */
+  addresses: Uint8Array;
+}
+/** Returns a State Cookie, with an HMAC under a key that nobody else knows. */
+export function sealCookie(key: Uint8Array, cookie: Needed<Cookie, Exclude<keyof Cookie, 'addresses'>>): Uint8Array;
+/** What a cookie is. */
+export const CookieState: {
+  /** It was sealed under the key. */
+  readonly GOOD: 0;
+  /** The same, but it is no longer good. */
+  readonly STALE: 1;
+  /** It wasn't sealed under the key. */
+  readonly INVALID: 2;
+};
+export type CookieState = Of<typeof CookieState>;
+/** Opens a State Cookie at a time in microseconds, on the clock by which it was sealed. It is good from before it was created, on a clock
+    that was set back, to the end of its life. Its addresses are a view of the bytes. Of one that is stale `staleness` says for how many
+    microseconds it hasn't been good: the cause Stale Cookie has the lower 32 bits (section 3.3.10.3). */
+export function openCookie(key: Uint8Array, bytes: Uint8Array, now: bigint):
+  | { state: Of<typeof CookieState, 'GOOD'>; cookie: Cookie; staleness?: undefined }
+  | { state: Of<typeof CookieState, 'STALE'>; staleness: bigint; cookie?: undefined }
+  | { state: Of<typeof CookieState, 'INVALID'>; cookie?: undefined; staleness?: undefined };
 
 // ---- the blocks of a SACK that is to be sent
 

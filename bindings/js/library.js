@@ -195,6 +195,15 @@ function number(value, type, name) {
   return value;
 }
 
+/** Refuses what isn't a number of 64 bits, which is a bigint. */
+function bigNumber(value, name) {
+  if (typeof value !== 'bigint')
+    refuse(value, name, 'a bigint');
+  if (BigInt.asUintN(64, value) !== value)
+    throw new RangeError(`${name} is ${value}n, and not an integer from 0 to 2^64 - 1`);
+  return value;
+}
+
 function truth(value, name) {
   if (typeof value !== 'boolean')
     refuse(value, name, 'true or false');
@@ -237,6 +246,14 @@ function field(type) {
       check,
       get: (v, at) => v.getUint32(at, true),
       set: setSize,
+    };
+  }
+  if (type === 'u64') {
+    return {
+      size: 8,
+      check: bigNumber,
+      get: (v, at) => v.getBigUint64(at, true),
+      set: (v, at, value) => v.setBigUint64(at, value, true),
     };
   }
   const [size, method] = NUMBERS[type];
@@ -313,10 +330,17 @@ const structs = {
     number: 'u32', secondNumber: 'u32', shortNumber: 'u16', secondShortNumber: 'u16', thirdShortNumber: 'u16', addressOffset: 'size',
     addressSize: 'size', restOffset: 'size', restSize: 'size',
   }),
+  association: new Struct({ ownTag: 'u32', peerTag: 'u32', hasPeerTag: 'bool', awaitsCookie: 'bool' }),
+  cookie: new Struct({
+    created: 'u64', lifespan: 'u64', localTag: 'u32', peerTag: 'u32', localInitialTsn: 'u32', peerInitialTsn: 'u32',
+    localPort: 'u16', peerPort: 'u16', outboundStreams: 'u16', inboundStreams: 'u16', addressesOffset: 'size', addressesSize: 'size',
+  }),
 };
 
 // davgyuti.mjs says who takes it from where.
-const library = { load, call, calls, instance, view, big, setSize, refuse, number, truth, record, isList, isBytes, Block, Struct, structs };
+const library = {
+  load, call, calls, instance, view, big, setSize, refuse, number, bigNumber, truth, record, isList, isBytes, Block, Struct, structs,
+};
 if (this)
   module.exports = library;
 else

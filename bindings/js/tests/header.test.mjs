@@ -34,7 +34,7 @@ test('the module imports nothing, and exports these functions, its memory, mallo
 });
 
 test('the structs are the header\'s', () => {
-  const sizes = { uint8_t: 1, bool: 1, uint16_t: 2, uint32_t: 4, size_t: 8 };
+  const sizes = { uint8_t: 1, bool: 1, uint16_t: 2, uint32_t: 4, uint64_t: 8, size_t: 8 };
   const found = {};
   // (the package has the fields of a struct in a struct among the others: each of them ends where the next field may begin)
   const bodies = {};
@@ -55,19 +55,18 @@ test('the structs are the header\'s', () => {
 });
 
 test('the constants and texts are the header\'s', () => {
-  const constants = [...header.matchAll(/\bDCSCTP_([A-Z_0-9]+) = (\w+)/g)].map(it => [it[1], Number(it[2])]);
-  const from = prefix => Object.fromEntries(constants.filter(it => it[0].startsWith(prefix))
-    .map(([name, value]) => [name.slice(prefix.length), value]));
   const own = {
-    CHUNK_: davgyuti.ChunkType, PARAMETER_: davgyuti.ParameterType, CAUSE_: davgyuti.CauseCode, RE_CONFIG_: davgyuti.ReConfigResult,
+    result: '', chunk_type: 'CHUNK_', parameter_type: 'PARAMETER_', cause_code: 'CAUSE_', re_config_result: 'RE_CONFIG_', action: 'ACTION_',
+    tag_verdict: 'TAG_', answer: 'ANSWER_', init_fault: 'INIT_', refusal: 'REFUSAL_', cookie_state: 'COOKIE_',
   };
-  for (const [prefix, values] of Object.entries(own))
-    assert.deepEqual({ ...values }, from(prefix));
-  const results = header.match(/enum dcsctp_result \{([^}]*)\};/)[1];
-  assert.deepEqual({ ...davgyuti.Result },
-    Object.fromEntries([...results.matchAll(/DCSCTP_(\w+) = (\d+)/g)].map(it => [it[1], Number(it[2])])));
-  const counted = [davgyuti.Result, ...Object.values(own)].reduce((sum, it) => sum + Object.keys(it).length, 0);
-  assert.equal(constants.length, counted + ['FIRST_CHUNK', 'TAG_REFLECTED'].length);
+  const enums = [...header.matchAll(/enum dcsctp_(\w+) \{([^}]*)\};/g)];
+  assert.deepEqual(enums.map(it => it[1]).sort(), Object.keys(own).sort());
+  for (const [, name, body] of enums) {
+    const constants = [...body.matchAll(/\bDCSCTP_([A-Z_0-9]+) = (\w+)/g)].map(it => [it[1].slice(own[name].length), Number(it[2])]);
+    assert.ok(constants.length > 0);
+    assert.deepEqual({ ...davgyuti[camel(`_${name}`)] }, Object.fromEntries(constants));
+  }
+  assert.deepEqual([...header.matchAll(/enum \{ DCSCTP_(\w+) = \d+ \};/g)].map(it => it[1]), ['FIRST_CHUNK', 'TAG_REFLECTED']);
   assert.match(header, new RegExp(`DCSCTP_FIRST_CHUNK = ${davgyuti.FIRST_CHUNK} `));
   assert.match(header, new RegExp(`DCSCTP_TAG_REFLECTED = ${davgyuti.TAG_REFLECTED} `));
   const body = header.match(/dcsctp_result_text\([^]*?\n}/)[0];

@@ -10,6 +10,10 @@ const { Builder, ChunkType, Fault, Result, WriteError } = davgyuti, { call, view
 const bytes = hex => Uint8Array.from(Buffer.from(hex.replace(/\s/g, ''), 'hex'));
 const PORTS = { sourcePort: 1, destinationPort: 2, verificationTag: 3 };
 const DATA = { tsn: 1, stream: 2, isBeginning: true, isEnd: true, payload: bytes('68656c6c6f') };
+const COOKIE = {
+  created: 1n, lifespan: 2n, localTag: 3, peerTag: 4, localInitialTsn: 5, peerInitialTsn: 6, localPort: 7, peerPort: 8, outboundStreams: 9,
+  inboundStreams: 10,
+};
 const INIT = { initiateTag: 1, aRwnd: 2, outboundStreams: 3, inboundStreams: 4, initialTsn: 5 };
 const is = (code, offset, message = davgyuti.resultText(code) + (offset === undefined ? '' : ` at byte ${offset}`)) => error => {
   const kind = offset === undefined ? WriteError : Fault;
@@ -34,6 +38,9 @@ function everything() {
   for (const chunk of davgyuti.chunks(packet))
     [...davgyuti.parameters(chunk)];
   davgyuti.cleanBlocks([{ start: 5, end: 9 }, { start: 2, end: 4 }]);
+  davgyuti.reply(davgyuti.header(packet), davgyuti.Answer.ABORT);
+  davgyuti.openCookie(packet, davgyuti.sealCookie(packet, COOKIE), 0n);
+  davgyuti.sharedKey(packet, packet, packet);
   return packet;
 }
 

@@ -1,9 +1,9 @@
 // SPDX-License-Identifier: Apache-2.0
 // What TypeScript knows of the package: this compiles, but for each line below a @ts-expect-error, which must not.
 import {
-  Builder, CauseCode, Chunk, ChunkType, Fault, FaultCode, Packet, Parameter, ParameterType, ReConfigResult, ReConfigType, Result,
-  UncheckedChunk, WriteError, cause as causeOf, causes, check, chunks, dataFlags, firstFault, header, isKnownChunk, needsChecksum, parameter,
-  parameters, readChunk, registeredCause, registeredChunk, registeredParameter, withFlags,
+  Builder, CauseCode, Chunk, ChunkType, CookieState, Fault, FaultCode, Packet, Parameter, ParameterType, ReConfigResult, ReConfigType, Result,
+  UncheckedChunk, WriteError, cause as causeOf, causes, check, chunks, dataFlags, firstFault, header, isKnownChunk, needsChecksum, openCookie,
+  outOfTheBlue, parameter, parameters, readChunk, registeredCause, registeredChunk, registeredParameter, withFlags,
 } from 'davgyuti';
 // @ts-expect-error it is no part of the interface
 import { Needed } from 'davgyuti';
@@ -162,3 +162,21 @@ builder.addRegisteredChunk(ChunkType.AUTH, { key: 1, hmacIdentifier: 3 });
 builder.addRegisteredChunk(ChunkType.ASCONF, { sequenceNumber: 1 });
 // @ts-expect-error a State Cookie has no fields
 parameter(ParameterType.STATE_COOKIE, { name: bytes });
+
+/** What a cookie has is said by its state. */
+function stalenessOf(): bigint {
+  const opened = openCookie(bytes, bytes, 1n);
+  switch (opened.state) {
+    case CookieState.GOOD:
+      return opened.cookie.created;
+    case CookieState.STALE:
+      return opened.staleness;
+    default:
+      // @ts-expect-error an invalid one has neither
+      return opened.cookie.created;
+  }
+}
+// @ts-expect-error a time is a bigint
+openCookie(bytes, bytes, Number(stalenessOf()));
+// @ts-expect-error whether it is unicast is missing
+outOfTheBlue(bytes);

@@ -11,10 +11,3 @@ declare class TextEncoder {
   encode(text: string): Uint8Array;
 }
 declare const console: { log(...of: unknown[]): void };
-declare module 'node:crypto' {
-  interface Hmac {
-    update(bytes: Uint8Array): Hmac;
-    digest(): Buffer;
-  }
-  export function createHmac(name: string, key: string): Hmac;
-}
