@@ -230,11 +230,12 @@ func ExampleParameter_Bytes() {
 		if known[parameter.Type] {
 			continue
 		}
-		if parameter.Type&0x4000 != 0 {
+		action := parameter.Type.UnrecognizedAction()
+		if action == davgyuti.ActionStopAndReport || action == davgyuti.ActionSkipAndReport {
 			fmt.Println(parameter.Type, "at byte", parameter.Offset)
 			err = reply.AddParameter(davgyuti.ParameterUnrecognizedParameter, parameter.Bytes())
 		}
-		if parameter.Type&0x8000 == 0 {
+		if action == davgyuti.ActionStop || action == davgyuti.ActionStopAndReport {
 			break
 		}
 	}

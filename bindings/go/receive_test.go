@@ -227,15 +227,21 @@ func TestInitAbort(t *testing.T) {
 
 func TestWords(t *testing.T) {
 	for _, c := range []struct {
-		it     fmt.Stringer
+		all    interface{}
 		wanted string
 	}{
-		{davgyuti.ActionSkipAndReport, "skip and report"}, {davgyuti.Action(4), "action 4"},
-		{davgyuti.TagOutOfTheBlue, "out of the blue"}, {davgyuti.TagVerdict(4), "verdict 4"},
-		{davgyuti.AnswerAbort, "ABORT"}, {davgyuti.Answer(5), "answer 5"},
-		{davgyuti.InitNoStateCookie, "no State Cookie"}, {davgyuti.InitFault(8), "fault 8"},
-		{davgyuti.RefusalDestroyAndAbort, "destroy and abort"}, {davgyuti.Refusal(3), "refusal 3"},
+		{[]davgyuti.Action{davgyuti.ActionStop, davgyuti.ActionStopAndReport, davgyuti.ActionSkip, davgyuti.ActionSkipAndReport, 4},
+			"[stop stop and report skip skip and report action 4]"},
+		{[]davgyuti.TagVerdict{davgyuti.TagAccept, davgyuti.TagEstablish, davgyuti.TagOutOfTheBlue, davgyuti.TagDiscard, 4},
+			"[accept establish out of the blue discard verdict 4]"},
+		{[]davgyuti.Answer{davgyuti.AnswerDiscard, davgyuti.AnswerInit, davgyuti.AnswerCookieEcho, davgyuti.AnswerShutdownComplete,
+			davgyuti.AnswerAbort, 5}, "[discard INIT COOKIE ECHO SHUTDOWN COMPLETE ABORT answer 5]"},
+		{[]davgyuti.InitFault{davgyuti.InitNoFault, davgyuti.InitNotAlone, davgyuti.InitTooShort, davgyuti.InitTagZero,
+			davgyuti.InitSmallWindow, davgyuti.InitNoOutboundStreams, davgyuti.InitNoInboundStreams, davgyuti.InitNoStateCookie, 8},
+			"[no fault not alone too short initiate tag 0 small window no outbound streams no inbound streams no State Cookie fault 8]"},
+		{[]davgyuti.Refusal{davgyuti.RefusalDiscard, davgyuti.RefusalAbort, davgyuti.RefusalDestroyAndAbort, 3},
+			"[discard abort destroy and abort refusal 3]"},
 	} {
-		equal(t, c.wanted, c.it.String(), c.wanted)
+		equal(t, "words", fmt.Sprint(c.all), c.wanted)
 	}
 }

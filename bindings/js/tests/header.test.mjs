@@ -65,6 +65,8 @@ test('the constants and texts are the header\'s', () => {
     const constants = [...body.matchAll(/\bDCSCTP_([A-Z_0-9]+) = (\w+)/g)].map(it => [it[1].slice(own[name].length), Number(it[2])]);
     assert.ok(constants.length > 0);
     assert.deepEqual({ ...davgyuti[camel(`_${name}`)] }, Object.fromEntries(constants));
+    const [, declared] = file('../davgyuti.d.ts').match(new RegExp(`export const ${camel(`_${name}`)}: \\{([^]*?)\\n\\};`));
+    assert.deepEqual([...declared.matchAll(/readonly (\w+): (\w+);/g)].map(it => [it[1], Number(it[2])]), constants);
   }
   assert.deepEqual([...header.matchAll(/enum \{ DCSCTP_(\w+) = \d+ \};/g)].map(it => it[1]), ['FIRST_CHUNK', 'TAG_REFLECTED']);
   assert.match(header, new RegExp(`DCSCTP_FIRST_CHUNK = ${davgyuti.FIRST_CHUNK} `));
