@@ -20,7 +20,8 @@ test('State Cookies', () => {
     created: 1000000n, lifespan: 60000000n, localTag: 0x01020304, peerTag: 0x05060708, localInitialTsn: 0x090a0b0c,
     peerInitialTsn: 0x0d0e0f10, localPort: 5000, peerPort: 5001, outboundStreams: 10, inboundStreams: 20, addresses: bytes('c0000201'),
   };
-  assert.deepEqual(sealCookie(KEY, says), wanted);
+  const sealed = sealCookie(KEY, says);
+  assert.deepEqual(sealed, wanted);
   // Good to the end of its life, and on a clock that was set back.
   for (const now of [0n, 1000000n, 61000000n])
     assert.deepEqual(openCookie(KEY, wanted, now), { state: CookieState.GOOD, cookie: says });
@@ -39,6 +40,7 @@ test('State Cookies', () => {
   // Without a key, and without addresses.
   const { addresses, ...rest } = says, without = sealCookie(NOTHING, rest);
   assert.equal(without.length, wanted.length - addresses.length);
+  assert.deepEqual(sealed, wanted); // a later call leaves it
   assert.deepEqual(openCookie(NOTHING, without, 1000000n).cookie, { ...rest, addresses: NOTHING });
 
   for (const it of [{ ...says, created: 1 }, { ...says, addresses: 'text' }, { ...rest, localTag: undefined }, null])
