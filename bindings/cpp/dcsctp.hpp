@@ -447,23 +447,23 @@ inline constexpr std::uint32_t version_number = DCSCTP_VERSION_NUMBER;
 /// Returns the version of the library, which can be another one where the library is shared.
 [[nodiscard]] inline std::uint32_t library_version_number() noexcept { return ::dcsctp_version_number(); }
 
-// ---- what is asked of whoever receives a packet: what is done
+// ---- what a receiver is told, and what a State Cookie says
 
-/// With a chunk or a parameter of a type that your association doesn't know.
+/// What is done with a chunk or a parameter of a type that your association doesn't know.
 enum class action : std::uint32_t {
     stop = DCSCTP_ACTION_STOP, ///< no further chunk of the packet, or parameter of the chunk, is processed
     stop_and_report = DCSCTP_ACTION_STOP_AND_REPORT, ///< the same; and it is reported
     skip = DCSCTP_ACTION_SKIP,                       ///< the next one is processed
     skip_and_report = DCSCTP_ACTION_SKIP_AND_REPORT  ///< the same; and it is reported
 };
-/// With a packet, by its verification tag.
+/// What is done with a packet, by its verification tag.
 enum class tag_verdict : std::uint32_t {
     accept = DCSCTP_TAG_ACCEPT,                   ///< the tag is right: the packet is processed
     establish = DCSCTP_TAG_ESTABLISH,             ///< an INIT alone under the tag 0, or COOKIE ECHO first: section 5
     out_of_the_blue = DCSCTP_TAG_OUT_OF_THE_BLUE, ///< the packet is treated as if it belonged to no association
     discard = DCSCTP_TAG_DISCARD                  ///< the packet is discarded, without an answer
 };
-/// With a packet that belongs to no association.
+/// What is done with a packet that belongs to no association.
 enum class answer : std::uint32_t {
     discard = DCSCTP_ANSWER_DISCARD,                     ///< it is discarded, without an answer
     init = DCSCTP_ANSWER_INIT,                           ///< its INIT is processed (section 5.1)
@@ -482,7 +482,7 @@ enum class init_fault : std::uint32_t {
     no_inbound_streams = DCSCTP_INIT_NO_INBOUND_STREAMS,   ///< their number is 0
     no_state_cookie = DCSCTP_INIT_NO_STATE_COOKIE          ///< INIT ACK lacks its State Cookie
 };
-/// With a packet whose INIT or INIT ACK isn't processed.
+/// What is done with a packet whose INIT or INIT ACK isn't processed.
 enum class refusal : std::uint32_t {
     discard = DCSCTP_REFUSAL_DISCARD,                  ///< it is discarded, without an answer
     abort = DCSCTP_REFUSAL_ABORT,                      ///< init_abort returns what is sent; no state changes
