@@ -20,7 +20,7 @@ sys.dont_write_bytecode = True
 import check_header
 
 ABI, MAP = 'dist/dcsctp.abi', 'dist/dcsctp.map'
-SIZES = {'bool': 1, 'uint8_t': 1, 'uint16_t': 2, 'uint32_t': 4, 'size_t': 8}
+SIZES = {'bool': 1, 'uint8_t': 1, 'uint16_t': 2, 'uint32_t': 4, 'uint64_t': 8, 'size_t': 8}
 
 
 def c_name(kind):

@@ -52,12 +52,11 @@ static struct bytes bytes_of(const char *hexadecimal)
 
 enum level { CHUNK, PARAMETER, CAUSE };
 
-/* Places are counted from the item's header on; 0 is none. Flags and reserved bytes that aren't zero are in `bytes` alone. */
+/* Places are counted from the item's header on; 0 is none. */
 struct row {
     enum level level;
     const char *bytes;
     struct dcsctp_registered fields;
-    const char *written; /* where it differs from `bytes` */
 };
 
 /* Those that are read. */
@@ -67,14 +66,14 @@ static const struct row rows[] = {
     {CHUNK, "0d00 0008 01020304", {.number = 0x01020304}},
     /* AUTH: RFC 4895 section 5.1 */
     {CHUNK, "0fff 000c 0102 0003 01020304",
-     {.short_number = 0x0102, .second_short_number = 3, .rest_offset = 8, .rest_size = 4}, "0f00 000c 0102 0003 01020304"},
+     {.short_number = 0x0102, .second_short_number = 3, .rest_offset = 8, .rest_size = 4}},
     {CHUNK, "0f00 0008 0102 0001", {.short_number = 0x0102, .second_short_number = 1, .rest_offset = 8}},
     /* NR-SACK: draft-tuexen-tsvwg-sctp-multipath */
     {CHUNK, "1000 0028 01020304 00050607 0001 0002 0002 0000 0002 0103 0205 0206 0408 0509 01020303 01020204",
      {.number = 0x01020304, .second_number = 0x00050607, .short_number = 1, .second_short_number = 2, .third_short_number = 2,
       .rest_offset = 20, .rest_size = 20}},
     {CHUNK, "1000 0014 01020304 00050607 0000 0000 0000 ffff",
-     {.number = 0x01020304, .second_number = 0x00050607, .rest_offset = 20}, "1000 0014 01020304 00050607 0000 0000 0000 0000"},
+     {.number = 0x01020304, .second_number = 0x00050607, .rest_offset = 20}},
     /* ASCONF ACK and ASCONF: RFC 5061 section 4.1 */
     {CHUNK, "8000 002c 08090a0b c005 0008 00000001 c003 001c 00000002 00a1 0014 c001 0010 00000002 0005 0008 c0000201",
      {.number = 0x08090a0b, .rest_offset = 8, .rest_size = 36}},
@@ -87,7 +86,7 @@ static const struct row rows[] = {
     {CHUNK, "8100 0020 0c0d0e0f 000007d0 05dc 0000 13881389 01020304 00000000 0b000004",
      {.number = 0x0c0d0e0f, .second_number = 2000, .short_number = 1500, .rest_offset = 16, .rest_size = 16}},
     {CHUNK, "8100 0010 0c0d0e0f 000007d0 0000 ffff",
-     {.number = 0x0c0d0e0f, .second_number = 2000, .rest_offset = 16}, "8100 0010 0c0d0e0f 000007d0 0000 0000"},
+     {.number = 0x0c0d0e0f, .second_number = 2000, .rest_offset = 16}},
     /* PAD: RFC 4820 section 3 */
     {CHUNK, "8400 0008 00000000", {.rest_offset = 4, .rest_size = 4}},
     {CHUNK, "8400 0004", {.rest_offset = 4}},
@@ -126,7 +125,7 @@ static const struct row rows[] = {
     {PARAMETER, "c006 0008 01020304", {.number = 0x01020304}},
 
     /* RFC 9260 section 3.3.10 */
-    {CAUSE, "0001 0008 0201 ffff", {.short_number = 0x0201}, "0001 0008 0201 0000"},
+    {CAUSE, "0001 0008 0201 ffff", {.short_number = 0x0201}},
     {CAUSE, "0003 0008 0001e240", {.number = 123456}},
     {CAUSE, "0004 0004", {0}},
     {CAUSE, "0005 000e 000b 000a 612e62632e00", {.rest_offset = 4, .rest_size = 10}},
@@ -278,6 +277,26 @@ static void outside(const struct row *row, struct bytes in, struct item item)
 
 /* ---- what is written */
 
+/* Rows whose flags or reserved bytes aren't zero, and how they are written. */
+static const char *const zeroed[][2] = {
+    {"0fff 000c 0102 0003 01020304",
+     "0f00 000c 0102 0003 01020304"},
+    {"1000 0014 01020304 00050607 0000 0000 0000 ffff",
+     "1000 0014 01020304 00050607 0000 0000 0000 0000"},
+    {"8100 0010 0c0d0e0f 000007d0 0000 ffff",
+     "8100 0010 0c0d0e0f 000007d0 0000 0000"},
+    {"0001 0008 0201 ffff",
+     "0001 0008 0201 0000"},
+};
+
+static const char *written_as(const char *bytes)
+{
+    for (size_t i = 0; i < sizeof zeroed / sizeof *zeroed; i++)
+        if (!strcmp(zeroed[i][0], bytes))
+            return zeroed[i][1];
+    return bytes;
+}
+
 enum { ROOM = 128, HEADER = 12, LIST = 16 };
 
 /* A packet without a chunk, or with one to whose list is added. */
@@ -321,7 +340,7 @@ static bool declines(uint32_t code, enum level level, uint16_t type, size_t room
 /* The bytes of the row, with padding, after the header or in the list; and nothing after them. */
 static void writes(const struct row *row, const struct item *item, struct bytes in, const struct dcsctp_registered *registered)
 {
-    struct bytes wanted = bytes_of(row->written ? row->written : row->bytes);
+    struct bytes wanted = bytes_of(written_as(row->bytes));
     uint16_t type = row->level == CHUNK ? item->chunk.type : item->parameter.type;
     size_t length = wanted.length - BEFORE, end = (length + 3) / 4 * 4, start = row->level == CHUNK ? HEADER : LIST;
     struct packet packet = begun(row->level);
