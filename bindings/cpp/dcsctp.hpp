@@ -518,7 +518,7 @@ enum class cookie_state : std::uint32_t {
 /// A State Cookie that was opened: true where it is good.
 struct [[nodiscard]] opened_cookie {
     cookie_state state = cookie_state::invalid;
-    cookie says{};               ///< of one that is good
+    cookie says{};               ///< of one that is good or stale
     std::uint64_t staleness = 0; ///< of one that is stale, for how many microseconds; its lower 32 bits are in Stale Cookie
     explicit operator bool() const noexcept { return state == cookie_state::good; }
 };

@@ -1638,7 +1638,7 @@ void cookies()
     const std::uint64_t last = ~std::uint64_t{0};
     for (const auto &[now, staleness] : {std::pair<std::uint64_t, std::uint64_t>{61000001, 1}, {last, last - 61000000}}) {
         const opened_cookie opened = open_cookie(a_key, wanted, now);
-        CHECK(!opened && opened.state == cookie_state::stale && opened.says == cookie{} && opened.staleness == staleness);
+        CHECK(!opened && opened.state == cookie_state::stale && opened.says == says && opened.staleness == staleness);
     }
     // Cut off, with a byte changed, or under another key.
     const auto is_invalid = [](bytes_view key, bytes_view bytes) {

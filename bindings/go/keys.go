@@ -99,6 +99,7 @@ var ErrInvalidCookie = errors.New("davgyuti: no State Cookie that was sealed und
 // A StaleCookieError says that a State Cookie was sealed under the key, but is no longer good. The cause Stale Cookie has
 // the lower 32 bits of its Staleness (section 3.3.10.3).
 type StaleCookieError struct {
+	Cookie    Cookie // what it says
 	Staleness uint64 // for how many microseconds it hasn't been good
 }
 
@@ -111,24 +112,25 @@ func (e *StaleCookieError) Error() string {
 // was created, on a clock that was set back, to the end of its life. The error is ErrInvalidCookie or a *StaleCookieError.
 func OpenCookie(key, bytes []byte, now uint64) (Cookie, error) {
 	opened := C.go_open_cookie(bytesOf(key), C.size_t(len(key)), bytesOf(bytes), C.size_t(len(bytes)), C.uint64_t(now))
-	it := opened.it
-	switch opened.state {
-	case C.DCSCTP_COOKIE_GOOD:
-		return Cookie{
-			Created:         uint64(it.created),
-			Lifespan:        uint64(it.lifespan),
-			LocalTag:        uint32(it.local_tag),
-			PeerTag:         uint32(it.peer_tag),
-			LocalInitialTSN: uint32(it.local_initial_tsn),
-			PeerInitialTSN:  uint32(it.peer_initial_tsn),
-			LocalPort:       uint16(it.local_port),
-			PeerPort:        uint16(it.peer_port),
-			OutboundStreams: uint16(it.outbound_streams),
-			InboundStreams:  uint16(it.inbound_streams),
-			Addresses:       Packet(bytes).part(it.addresses_offset, it.addresses_size),
-		}, nil
-	case C.DCSCTP_COOKIE_STALE:
-		return Cookie{}, &StaleCookieError{uint64(opened.staleness)}
+	if opened.state == C.DCSCTP_COOKIE_INVALID {
+		return Cookie{}, ErrInvalidCookie
 	}
-	return Cookie{}, ErrInvalidCookie
+	it := opened.it
+	cookie := Cookie{
+		Created:         uint64(it.created),
+		Lifespan:        uint64(it.lifespan),
+		LocalTag:        uint32(it.local_tag),
+		PeerTag:         uint32(it.peer_tag),
+		LocalInitialTSN: uint32(it.local_initial_tsn),
+		PeerInitialTSN:  uint32(it.peer_initial_tsn),
+		LocalPort:       uint16(it.local_port),
+		PeerPort:        uint16(it.peer_port),
+		OutboundStreams: uint16(it.outbound_streams),
+		InboundStreams:  uint16(it.inbound_streams),
+		Addresses:       Packet(bytes).part(it.addresses_offset, it.addresses_size),
+	}
+	if opened.state == C.DCSCTP_COOKIE_STALE {
+		return Cookie{}, &StaleCookieError{cookie, uint64(opened.staleness)}
+	}
+	return cookie, nil
 }

@@ -43,7 +43,7 @@ func TestCookie(t *testing.T) {
 	for now, staleness := range map[uint64]uint64{61000001: 1, math.MaxUint64: math.MaxUint64 - 61000000} {
 		cookie, err := davgyuti.OpenCookie(aKey, sealedCookie, now)
 		equal(t, "stale", []interface{}{cookie, err},
-			[]interface{}{davgyuti.Cookie{}, &davgyuti.StaleCookieError{Staleness: staleness}})
+			[]interface{}{davgyuti.Cookie{}, &davgyuti.StaleCookieError{Cookie: aCookie, Staleness: staleness}})
 	}
 	isInvalid := func(what string, key, bytes []byte) {
 		t.Helper()

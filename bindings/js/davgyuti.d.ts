@@ -791,7 +791,7 @@ export type CookieState = Of<typeof CookieState>;
     microseconds it hasn't been good: the cause Stale Cookie has the lower 32 bits (section 3.3.10.3). */
 export function openCookie(key: Uint8Array, bytes: Uint8Array, now: bigint):
   | { state: Of<typeof CookieState, 'GOOD'>; cookie: Cookie; staleness?: undefined }
-  | { state: Of<typeof CookieState, 'STALE'>; staleness: bigint; cookie?: undefined }
+  | { state: Of<typeof CookieState, 'STALE'>; cookie: Cookie; staleness: bigint }
   | { state: Of<typeof CookieState, 'INVALID'>; cookie?: undefined; staleness?: undefined };
 
 // ---- the blocks of a SACK that is to be sent

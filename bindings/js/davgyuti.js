@@ -1415,12 +1415,11 @@ function openCookie(key, bytes, now) {
   bigNumber(now, 'now');
   const words = [...put(list, key, 'key'), ...put(input, bytes), now];
   const state = call('dcsctp_open_cookie', ...words, place(taken), place(answer));
-  if (state === CookieState.STALE)
-    return { state, staleness: U64.read(answer.from).it };
-  if (state !== CookieState.GOOD)
+  if (state === CookieState.INVALID)
     return { state };
-  const { addressesOffset, addressesSize, ...cookie } = structs.cookie.read(taken.from);
-  return { state, cookie: { ...cookie, addresses: part(bytes, addressesOffset, addressesSize) } };
+  const { addressesOffset, addressesSize, ...numbers } = structs.cookie.read(taken.from);
+  const cookie = { ...numbers, addresses: part(bytes, addressesOffset, addressesSize) };
+  return state === CookieState.GOOD ? { state, cookie } : { state, cookie, staleness: U64.read(answer.from).it };
 }
 
 // ---- the blocks of a SACK that is to be sent

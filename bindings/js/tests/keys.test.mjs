@@ -28,7 +28,7 @@ test('State Cookies', () => {
   assert.equal(openCookie(KEY, wanted, 0n).cookie.addresses.buffer, wanted.buffer);
   const last = 2n ** 64n - 1n;
   for (const [now, staleness] of [[61000001n, 1n], [last, last - 61000000n]])
-    assert.deepEqual(openCookie(KEY, wanted, now), { state: CookieState.STALE, staleness });
+    assert.deepEqual(openCookie(KEY, wanted, now), { ...openCookie(KEY, wanted, 0n), state: CookieState.STALE, staleness });
   // Cut off, with a byte changed, or under another key.
   const invalid = { state: CookieState.INVALID };
   wanted.forEach((_, i) => {

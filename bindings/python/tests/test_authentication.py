@@ -52,6 +52,9 @@ class Cookies(unittest.TestCase):
         self.assertEqual(self.refused(KEY, SEALED, 61000001), (CookieState.STALE, 1, "stale cookie, for 1 microseconds"))
         code, staleness, _ = self.refused(KEY, SEALED, 2**64 - 1)
         self.assertEqual((code, staleness), (CookieState.STALE, 2**64 - 1 - 61000000))
+        with self.assertRaises(davgyuti.CookieError) as caught:
+            davgyuti.open_cookie(KEY, SEALED, 61000001)
+        self.assertEqual(caught.exception.cookie, davgyuti.open_cookie(KEY, SEALED, 0))
 
     def test_invalid(self) -> None:
         """Cut off, with a byte changed, or under another key."""

@@ -85,7 +85,10 @@ def open_cookie(key: Buffer, cookie: Buffer, now: int) -> Cookie:
     out, staleness = c.Cookie(), c_uint64()
     time = number(now, 0xFFFFFFFFFFFFFFFF, "now")
     state = functions.dcsctp_open_cookie(*_bytes(key), data, count, time, byref(out), byref(staleness))
-    if state != v.CookieState.GOOD:
-        raise v.CookieError(v.CookieState(state), staleness.value)
+    if state == v.CookieState.INVALID:
+        raise v.CookieError(v.CookieState.INVALID)
     start, size = out.addresses_offset, out.addresses_size
-    return Cookie(**{name: getattr(out, name) for name, *_ in _NUMBERS}, addresses=data[start : start + size])
+    says = Cookie(**{name: getattr(out, name) for name, *_ in _NUMBERS}, addresses=data[start : start + size])
+    if state == v.CookieState.STALE:
+        raise v.CookieError(v.CookieState.STALE, staleness.value, says)
+    return says

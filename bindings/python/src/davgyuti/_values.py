@@ -4,7 +4,10 @@
 from dataclasses import dataclass, field, fields, replace
 from enum import IntEnum
 from ipaddress import IPv4Address, IPv6Address
-from typing import ClassVar, NamedTuple, TypeAlias, TypeVar
+from typing import TYPE_CHECKING, ClassVar, NamedTuple, TypeAlias, TypeVar
+
+if TYPE_CHECKING:
+    from ._authentication import Cookie
 
 _D = TypeVar("_D", bound="_UserData")
 Address: TypeAlias = IPv4Address | IPv6Address
@@ -152,10 +155,12 @@ class CookieError(Error, ValueError):
     staleness: int
     """For how many microseconds a stale one hasn't been good: registered.StaleCookie has the lower 32 bits (section
     3.3.10.3). 0 of one that is invalid."""
+    cookie: "Cookie | None"
+    """What a stale one says; None of one that is invalid."""
 
-    def __init__(self, code: CookieState, staleness: int = 0) -> None:
-        super().__init__(code, staleness)
-        self.code, self.staleness = code, staleness
+    def __init__(self, code: CookieState, staleness: int = 0, cookie: "Cookie | None" = None) -> None:
+        super().__init__(code, staleness, cookie)
+        self.code, self.staleness, self.cookie = code, staleness, cookie
 
     def __str__(self) -> str:
         return f"{self.text}, for {self.staleness} microseconds" if self.staleness else self.text
