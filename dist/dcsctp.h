@@ -622,6 +622,178 @@ uint32_t dcsctp_add_re_config(uint8_t *packet, size_t room, size_t *size, size_t
 uint32_t dcsctp_add_missing_parameters(uint8_t *packet, size_t room, size_t *size, size_t start, const uint16_t *types,
                                        size_t type_count);
 
+/* ---- adding what the rest of the registry has
+
+   By the struct that dcsctp_registered_.. writes. `bytes` are those in which its address and its rest lie: where it was read,
+   these bytes. What the type does not carry is ignored; flags and reserved bytes are zero. They return what the functions
+   above return; DCSCTP_BAD_VALUE also for a type that dcsctp_registered_.. does not read, an address or a rest that does not
+   lie within the bytes, an address whose size is neither 4 nor 16 (of IPv4 or IPv6 Address, not that of its type), a rest that
+   isn't whole items or numbers where the type has such a list, and lists of an NR-SACK with other counts than its numbers. */
+
+/* Adds ECNE, CWR, AUTH, NR-SACK, ASCONF, ASCONF ACK, PKTDROP or PAD. */
+uint32_t dcsctp_add_registered_chunk(uint8_t *packet, size_t room, size_t *size, uint8_t type,
+                                     const struct dcsctp_registered *registered, const uint8_t *bytes, size_t length);
+
+/* Adds a parameter of a type that is marked above as bytes to this library, to the chunk that begins at `start`. */
+uint32_t dcsctp_add_registered_parameter(uint8_t *packet, size_t room, size_t *size, size_t start, uint16_t type,
+                                         const struct dcsctp_registered *registered, const uint8_t *bytes, size_t length);
+
+/* Adds an error cause of a code that is marked above as bytes to this library, to the chunk that begins at `start`. */
+uint32_t dcsctp_add_registered_cause(uint8_t *packet, size_t room, size_t *size, size_t start, uint16_t code,
+                                     const struct dcsctp_registered *registered, const uint8_t *bytes, size_t length);
+
+/* ---- what is asked of whoever receives a packet
+
+   Answers of RFC 9260 that take no state but what is passed. Of the packet only the common header, the types of its chunks and
+   the T bit are looked at, up to the first chunk whose length is impossible; without a common header it is discarded. Check it
+   first. */
+
+/* What is done with a chunk or a parameter of a type that your program doesn't know. */
+enum dcsctp_action {
+    DCSCTP_ACTION_STOP = 0,            /* no further chunk of the packet, or parameter of the chunk, is processed */
+    DCSCTP_ACTION_STOP_AND_REPORT = 1, /* the same; and it is reported */
+    DCSCTP_ACTION_SKIP = 2,            /* the next one is processed */
+    DCSCTP_ACTION_SKIP_AND_REPORT = 3  /* the same; and it is reported */
+};
+
+/* Returns a dcsctp_action, by the two highest-order bits of a chunk's type (section 3.2), or of a parameter's (section
+   3.2.1). */
+uint32_t dcsctp_unrecognized_chunk(uint8_t type);
+uint32_t dcsctp_unrecognized_parameter(uint16_t type);
+
+/* What you know of an association before you look at the tag of a packet. */
+struct dcsctp_association {
+    uint32_t own_tag;   /* the initiate tag that you sent */
+    uint32_t peer_tag;  /* the initiate tag that the peer sent */
+    bool has_peer_tag;  /* whether it has sent one */
+    bool awaits_cookie; /* whether you are in the state COOKIE-WAIT or COOKIE-ECHOED */
+};
+
+/* What is done with a packet, by its verification tag. */
+enum dcsctp_tag_verdict {
+    DCSCTP_TAG_ACCEPT = 0,          /* the tag is right: the packet is processed */
+    DCSCTP_TAG_ESTABLISH = 1,       /* an INIT alone under the tag 0, or COOKIE ECHO first: section 5 says what is done */
+    DCSCTP_TAG_OUT_OF_THE_BLUE = 2, /* the packet is treated as if it belonged to no association */
+    DCSCTP_TAG_DISCARD = 3          /* the packet is discarded, without an answer */
+};
+
+/* Returns a dcsctp_tag_verdict (sections 8.5 and 8.5.1). */
+uint32_t dcsctp_verify_tag(const uint8_t *packet, size_t length, const struct dcsctp_association *association);
+
+/* What is done with a packet that belongs to no association. */
+enum dcsctp_answer {
+    DCSCTP_ANSWER_DISCARD = 0,           /* it is discarded, without an answer */
+    DCSCTP_ANSWER_INIT = 1,              /* its INIT is processed (section 5.1) */
+    DCSCTP_ANSWER_COOKIE_ECHO = 2,       /* its COOKIE ECHO is processed (section 5.1) */
+    DCSCTP_ANSWER_SHUTDOWN_COMPLETE = 3, /* dcsctp_reply writes what is sent back */
+    DCSCTP_ANSWER_ABORT = 4              /* the same */
+};
+
+/* Returns a dcsctp_answer (section 8.4). `is_unicast` says whether the packet is to and from unicast addresses. */
+uint32_t dcsctp_out_of_the_blue(const uint8_t *packet, size_t length, bool is_unicast);
+
+/* Writes what DCSCTP_ANSWER_SHUTDOWN_COMPLETE or DCSCTP_ANSWER_ABORT sends back to the sender of a packet with this header:
+   16 bytes with the ports swapped, the tag reflected and the T bit, and a checksum field of zero, which dcsctp_seal fills. No
+   end that does as dcsctp_out_of_the_blue says answers it. Returns DCSCTP_OK; or changes nothing, and returns
+   DCSCTP_BAD_VALUE for another answer, else DCSCTP_NO_ROOM. */
+uint32_t dcsctp_reply(uint8_t *packet, size_t room, size_t *size, const struct dcsctp_header *header, uint32_t answer);
+
+/* What is wrong with a packet that carries INIT or INIT ACK: the first of these that is so. */
+enum dcsctp_init_fault {
+    DCSCTP_INIT_NO_FAULT = 0,            /* it can be processed */
+    DCSCTP_INIT_NOT_ALONE = 1,           /* the packet doesn't hold this chunk alone */
+    DCSCTP_INIT_TOO_SHORT = 2,           /* the chunk has no room for its numbers */
+    DCSCTP_INIT_TAG_ZERO = 3,            /* the initiate tag is 0 */
+    DCSCTP_INIT_SMALL_WINDOW = 4,        /* the window is smaller than 1,500 bytes */
+    DCSCTP_INIT_NO_OUTBOUND_STREAMS = 5, /* their number is 0 */
+    DCSCTP_INIT_NO_INBOUND_STREAMS = 6,  /* their number is 0 */
+    DCSCTP_INIT_NO_STATE_COOKIE = 7      /* INIT ACK lacks its State Cookie */
+};
+
+/* Returns a dcsctp_init_fault of an INIT (section 3.3.2), or of an INIT ACK (section 3.3.3) where `is_ack` is true. Of the
+   parameters the State Cookie alone is looked for. */
+uint32_t dcsctp_init_fault(const uint8_t *packet, size_t length, bool is_ack);
+
+/* What is done with a packet whose INIT or INIT ACK isn't processed. */
+enum dcsctp_refusal {
+    DCSCTP_REFUSAL_DISCARD = 0,          /* it is discarded, without an answer */
+    DCSCTP_REFUSAL_ABORT = 1,            /* dcsctp_init_abort writes what is sent; no association changes its state */
+    DCSCTP_REFUSAL_DESTROY_AND_ABORT = 2 /* the same; and the association ends */
+};
+
+/* Returns a dcsctp_refusal, by the fault (sections 3.3.2, 3.3.3, 5.1 and 8.5.1), and of an INIT ACK by whether you are in the
+   state COOKIE-WAIT; DCSCTP_REFUSAL_DISCARD for a number that is no fault's. */
+uint32_t dcsctp_init_refusal(uint32_t fault, bool is_ack, bool in_cookie_wait);
+
+/* Writes the packet with the ABORT that says this fault, of at most 28 bytes, to the sender of an INIT or INIT ACK with this
+   initiate tag in a packet with this header. Its cause is Missing Mandatory Parameter or Invalid Mandatory Parameter; it has
+   none for DCSCTP_INIT_NOT_ALONE and DCSCTP_INIT_TOO_SHORT, which no ABORT answers. Its tag is the initiate tag; where that is
+   0, the packet's own, with the T bit. Its checksum field is zero, which dcsctp_seal fills. Returns DCSCTP_OK; or changes
+   nothing, and returns DCSCTP_BAD_VALUE for a number that is no fault's, else DCSCTP_NO_ROOM. */
+uint32_t dcsctp_init_abort(uint8_t *packet, size_t room, size_t *size, const struct dcsctp_header *header,
+                           uint32_t initiate_tag, uint32_t fault);
+
+/* ---- what is authenticated, under keys of yours
+
+   Chunks after AUTH (RFC 4895) and State Cookies (section 5.1.3), by HMACs with SHA-1 or SHA-256. A key has any length. Two
+   HMACs are compared to their end, wherever they differ; nothing is proved of the time that this takes. */
+
+/* Returns whether a chunk of this type has to come after AUTH: `list` is the value of the receiver's Chunk List, a type in
+   each byte, in which INIT, INIT ACK, SHUTDOWN COMPLETE and AUTH are ignored (RFC 4895 section 3.2). */
+bool dcsctp_is_listed(const uint8_t *list, size_t list_size, uint8_t type);
+
+/* Writes an association shared key (RFC 4895 section 6.1): the endpoint pair shared key, which may be empty, and then the key
+   vectors of both ends in the order that the section gives, whichever is passed first. A key vector is the parameters Random,
+   Chunk List and Requested HMAC Algorithm that an end sent, in this order, each with its header and without padding. Returns
+   DCSCTP_OK; or DCSCTP_NO_ROOM, and changes nothing. */
+uint32_t dcsctp_shared_key(uint8_t *output, size_t room, size_t *size, const uint8_t *pair_key, size_t pair_key_size,
+                           const uint8_t *one, size_t one_size, const uint8_t *other, size_t other_size);
+
+/* Returns whether the HMAC of an AUTH chunk is right under an association shared key (RFC 4895 section 6.3). `bytes` are those
+   of the packet from the AUTH chunk on, up to its end. False also where no AUTH is there, its HMAC identifier is another than
+   1 and 3, or its HMAC is not as long as that of SHA-1 or SHA-256. */
+bool dcsctp_verify_auth(const uint8_t *key, size_t key_size, const uint8_t *bytes, size_t length);
+
+/* Writes the HMAC into an AUTH chunk, whose field has to be as long (RFC 4895 section 6.2); all other bytes stay. `bytes` are
+   those from the AUTH chunk on, and the packet is sealed after this. Returns false, and changes nothing, where
+   dcsctp_verify_auth would return false whatever the HMAC is. */
+bool dcsctp_sign_auth(const uint8_t *key, size_t key_size, uint8_t *bytes, size_t length);
+
+/* What a State Cookie says: what its sender needs to set up the association, and for how long. *Local* is the end that seals
+   and opens it. */
+struct dcsctp_cookie {
+    uint64_t created;           /* in microseconds, on your clock */
+    uint64_t lifespan;          /* in microseconds */
+    uint32_t local_tag;         /* the initiate tag of the INIT ACK */
+    uint32_t peer_tag;          /* that of the INIT */
+    uint32_t local_initial_tsn; /* the initial TSN of the INIT ACK */
+    uint32_t peer_initial_tsn;  /* that of the INIT */
+    uint16_t local_port;
+    uint16_t peer_port;
+    uint16_t outbound_streams;  /* on which the local end sends */
+    uint16_t inbound_streams;
+    size_t addresses_offset;    /* in the cookie: of the bytes that were sealed after the numbers; sealing ignores both */
+    size_t addresses_size;
+};
+
+/* What a cookie is. */
+enum dcsctp_cookie_state {
+    DCSCTP_COOKIE_GOOD = 0,   /* it was sealed under the key */
+    DCSCTP_COOKIE_STALE = 1,  /* the same, but it is no longer good */
+    DCSCTP_COOKIE_INVALID = 2 /* it wasn't sealed under the key */
+};
+
+/* Writes a State Cookie: 72 bytes, with an HMAC over what it says, and `addresses`, which are bytes of yours: the peer's
+   addresses, the parameters of its INIT. Returns DCSCTP_OK; or DCSCTP_NO_ROOM, and changes nothing. */
+uint32_t dcsctp_seal_cookie(uint8_t *output, size_t room, size_t *size, const uint8_t *key, size_t key_size,
+                            const struct dcsctp_cookie *cookie, const uint8_t *addresses, size_t addresses_size);
+
+/* Opens a State Cookie at a time in microseconds, on the clock by which it was sealed. Returns a dcsctp_cookie_state. Of a
+   cookie that is good or stale, `cookie` is written, and `staleness`: for how many microseconds it hasn't been good, 0 while
+   it is, the number of the cause Stale Cookie (section 3.3.10.3); of any other bytes nothing. */
+uint32_t dcsctp_open_cookie(const uint8_t *key, size_t key_size, const uint8_t *bytes, size_t length, uint64_t now,
+                            struct dcsctp_cookie *cookie, uint64_t *staleness);
+
 /* ---- the blocks of a SACK that is to be sent */
 
 /* Brings gap ack blocks into order, joins those that overlap or touch, and drops those that end before their start: what

@@ -215,6 +215,59 @@ DCSCTP_MSAN_ADD(dcsctp_add_missing_parameters, (DCSCTP_MSAN_TO, size_t start, co
                 (packet, room, size, start, types, type_count), DCSCTP_MSAN_READS_NUMBERS(start);
                 DCSCTP_MSAN_READS(types, type_count))
 
+#define DCSCTP_MSAN_READS_REGISTERED                                                                                     \
+    DCSCTP_MSAN_READS(registered, 1);                                                                                    \
+    DCSCTP_MSAN_READS(bytes, length)
+DCSCTP_MSAN_ADD(dcsctp_add_registered_chunk,
+                (DCSCTP_MSAN_TO, uint8_t type, const struct dcsctp_registered *registered, const uint8_t *bytes, size_t length),
+                (packet, room, size, type, registered, bytes, length), DCSCTP_MSAN_READS_NUMBERS(type);
+                DCSCTP_MSAN_READS_REGISTERED)
+DCSCTP_MSAN_ADD(dcsctp_add_registered_parameter,
+                (DCSCTP_MSAN_TO, size_t start, uint16_t type, const struct dcsctp_registered *registered, const uint8_t *bytes,
+                 size_t length),
+                (packet, room, size, start, type, registered, bytes, length), DCSCTP_MSAN_READS_NUMBERS(start ^ type);
+                DCSCTP_MSAN_READS_REGISTERED)
+DCSCTP_MSAN_ADD(dcsctp_add_registered_cause,
+                (DCSCTP_MSAN_TO, size_t start, uint16_t code, const struct dcsctp_registered *registered, const uint8_t *bytes,
+                 size_t length),
+                (packet, room, size, start, code, registered, bytes, length), DCSCTP_MSAN_READS_NUMBERS(start ^ code);
+                DCSCTP_MSAN_READS_REGISTERED)
+
+DCSCTP_MSAN(uint32_t, dcsctp_reply, (DCSCTP_MSAN_TO, const struct dcsctp_header *header, uint32_t answer),
+            (packet, room, size, header, answer), DCSCTP_MSAN_READS_NUMBERS(answer);
+            DCSCTP_MSAN_READS_FIELDS(header, source_port, verification_tag),
+            DCSCTP_MSAN_WRITES(returned == DCSCTP_OK, size, 1); DCSCTP_MSAN_WRITES(returned == DCSCTP_OK, packet, 16))
+
+DCSCTP_MSAN(uint32_t, dcsctp_init_abort,
+            (DCSCTP_MSAN_TO, const struct dcsctp_header *header, uint32_t initiate_tag, uint32_t fault),
+            (packet, room, size, header, initiate_tag, fault), DCSCTP_MSAN_READS_NUMBERS(initiate_tag ^ fault);
+            DCSCTP_MSAN_READS_FIELDS(header, source_port, verification_tag),
+            DCSCTP_MSAN_WRITES(returned == DCSCTP_OK, size, 1); DCSCTP_MSAN_WRITES(returned == DCSCTP_OK, packet, *size))
+
+DCSCTP_MSAN(uint32_t, dcsctp_shared_key,
+            (uint8_t *output, size_t room, size_t *size, const uint8_t *pair_key, size_t pair_key_size, const uint8_t *one,
+             size_t one_size, const uint8_t *other, size_t other_size),
+            (output, room, size, pair_key, pair_key_size, one, one_size, other, other_size),
+            DCSCTP_MSAN_READS(pair_key, pair_key_size); DCSCTP_MSAN_READS(one, one_size); DCSCTP_MSAN_READS(other, other_size),
+            DCSCTP_MSAN_WRITES(returned == DCSCTP_OK, size, 1); DCSCTP_MSAN_WRITES(returned == DCSCTP_OK, output, *size))
+DCSCTP_MSAN(bool, dcsctp_sign_auth, (const uint8_t *key, size_t key_size, uint8_t *bytes, size_t length),
+            (key, key_size, bytes, length), DCSCTP_MSAN_READS(key, key_size); DCSCTP_MSAN_READS(bytes, length < 8 ? length : 8),
+            DCSCTP_MSAN_WRITES(returned, bytes + 8, (size_t)(bytes[2] * 256 + bytes[3] - 8)))
+DCSCTP_MSAN(uint32_t, dcsctp_seal_cookie,
+            (uint8_t *output, size_t room, size_t *size, const uint8_t *key, size_t key_size, const struct dcsctp_cookie *cookie,
+             const uint8_t *addresses, size_t addresses_size),
+            (output, room, size, key, key_size, cookie, addresses, addresses_size),
+            DCSCTP_MSAN_READS(key, key_size); DCSCTP_MSAN_READS(addresses, addresses_size);
+            DCSCTP_MSAN_READS_FIELDS(cookie, created, inbound_streams),
+            DCSCTP_MSAN_WRITES(returned == DCSCTP_OK, size, 1); DCSCTP_MSAN_WRITES(returned == DCSCTP_OK, output, *size))
+DCSCTP_MSAN(uint32_t, dcsctp_open_cookie,
+            (const uint8_t *key, size_t key_size, const uint8_t *bytes, size_t length, uint64_t now, struct dcsctp_cookie *cookie,
+             uint64_t *staleness),
+            (key, key_size, bytes, length, now, cookie, staleness), DCSCTP_MSAN_READS(key, key_size);
+            DCSCTP_MSAN_READS(bytes, length); DCSCTP_MSAN_READS(&now, 1),
+            DCSCTP_MSAN_WRITES(returned != DCSCTP_COOKIE_INVALID, cookie, 1);
+            DCSCTP_MSAN_WRITES(returned != DCSCTP_COOKIE_INVALID, staleness, 1))
+
 DCSCTP_MSAN(size_t, dcsctp_clean_blocks, (struct dcsctp_gap_ack_block *blocks, size_t block_count),
             (blocks, block_count), DCSCTP_MSAN_READS(blocks, block_count), DCSCTP_MSAN_NOTHING)
 

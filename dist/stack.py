@@ -57,9 +57,9 @@ def functions(text, is_arm):
             at[0] += int(push[1] or 8)
         if take := words["take"].match(line):
             at[0] += int(take[1]) << int(take[2] or 0)
-        is_by_table = any(words["table"].match(it) for it in before[-6:])
+        is_by_table = any(words["table"].match(it) for it in before[-12:])
         if words["pointer"].match(line) or words["jump"].match(line) and not is_by_table:
-            fail(f"calls by a pointer: {line}, after {before[-6:]}")
+            fail(f"calls by a pointer: {line}, after {before[-12:]}")
         if call := words["call"].match(line):
             at[1].add(call[1])
         before.append(line)
