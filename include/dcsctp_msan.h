@@ -233,6 +233,26 @@ DCSCTP_MSAN_ADD(dcsctp_add_registered_cause,
                 (packet, room, size, start, code, registered, bytes, length), DCSCTP_MSAN_READS_NUMBERS(start ^ code);
                 DCSCTP_MSAN_READS_REGISTERED)
 
+DCSCTP_MSAN(uint32_t, dcsctp_unrecognized_chunk, (uint8_t type), (type), DCSCTP_MSAN_READS_NUMBERS(type), DCSCTP_MSAN_NOTHING)
+DCSCTP_MSAN(uint32_t, dcsctp_unrecognized_parameter, (uint16_t type), (type), DCSCTP_MSAN_READS_NUMBERS(type),
+            DCSCTP_MSAN_NOTHING)
+DCSCTP_MSAN(uint32_t, dcsctp_verify_tag,
+            (const uint8_t *packet, size_t length, const struct dcsctp_association *association), (packet, length, association),
+            DCSCTP_MSAN_READS_PACKET(packet, length); DCSCTP_MSAN_READS_FIELDS(association, own_tag, own_tag);
+            DCSCTP_MSAN_READS_FIELDS(association, has_peer_tag, awaits_cookie);
+            if (association->has_peer_tag) DCSCTP_MSAN_READS_FIELDS(association, peer_tag, peer_tag), DCSCTP_MSAN_NOTHING)
+DCSCTP_MSAN(uint32_t, dcsctp_out_of_the_blue, (const uint8_t *packet, size_t length, bool is_unicast),
+            (packet, length, is_unicast), DCSCTP_MSAN_READS_PACKET(packet, length); DCSCTP_MSAN_READS_NUMBERS(is_unicast),
+            DCSCTP_MSAN_NOTHING)
+DCSCTP_MSAN(uint32_t, dcsctp_init_fault, (const uint8_t *packet, size_t length, bool is_ack), (packet, length, is_ack),
+            DCSCTP_MSAN_READS_PACKET(packet, length); DCSCTP_MSAN_READS_NUMBERS(is_ack), DCSCTP_MSAN_NOTHING)
+DCSCTP_MSAN(uint32_t, dcsctp_init_refusal, (uint32_t fault, bool is_ack, bool in_cookie_wait), (fault, is_ack, in_cookie_wait),
+            DCSCTP_MSAN_READS_NUMBERS(fault ^ is_ack ^ in_cookie_wait), DCSCTP_MSAN_NOTHING)
+DCSCTP_MSAN(bool, dcsctp_is_listed, (const uint8_t *list, size_t list_size, uint8_t type), (list, list_size, type),
+            DCSCTP_MSAN_READS(list, list_size); DCSCTP_MSAN_READS_NUMBERS(type), DCSCTP_MSAN_NOTHING)
+DCSCTP_MSAN(bool, dcsctp_verify_auth, (const uint8_t *key, size_t key_size, const uint8_t *bytes, size_t length),
+            (key, key_size, bytes, length), DCSCTP_MSAN_READS(key, key_size); DCSCTP_MSAN_READS(bytes, length),
+            DCSCTP_MSAN_NOTHING)
 DCSCTP_MSAN(uint32_t, dcsctp_reply, (DCSCTP_MSAN_TO, const struct dcsctp_header *header, uint32_t answer),
             (packet, room, size, header, answer), DCSCTP_MSAN_READS_NUMBERS(answer);
             DCSCTP_MSAN_READS_FIELDS(header, source_port, verification_tag),
