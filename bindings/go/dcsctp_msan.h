@@ -215,9 +215,15 @@ DCSCTP_MSAN_ADD(dcsctp_add_missing_parameters, (DCSCTP_MSAN_TO, size_t start, co
                 (packet, room, size, start, types, type_count), DCSCTP_MSAN_READS_NUMBERS(start);
                 DCSCTP_MSAN_READS(types, type_count))
 
+/* (the struct has padding, which nobody writes; of the bytes, those in which its parts lie) */
+#define DCSCTP_MSAN_READS_PART(offset, size)                                                                             \
+    DCSCTP_MSAN_READS(bytes + ((offset) < length ? (offset) : 0),                                                        \
+                      (offset) <= length && (size) <= length - (offset) ? (size) : 0)
 #define DCSCTP_MSAN_READS_REGISTERED                                                                                     \
-    DCSCTP_MSAN_READS(registered, 1);                                                                                    \
-    DCSCTP_MSAN_READS(bytes, length)
+    DCSCTP_MSAN_READS_FIELDS(registered, number, third_short_number);                                                    \
+    DCSCTP_MSAN_READS_FIELDS(registered, address_offset, rest_size);                                                     \
+    DCSCTP_MSAN_READS_PART(registered->address_offset, registered->address_size);                                        \
+    DCSCTP_MSAN_READS_PART(registered->rest_offset, registered->rest_size)
 DCSCTP_MSAN_ADD(dcsctp_add_registered_chunk,
                 (DCSCTP_MSAN_TO, uint8_t type, const struct dcsctp_registered *registered, const uint8_t *bytes, size_t length),
                 (packet, room, size, type, registered, bytes, length), DCSCTP_MSAN_READS_NUMBERS(type);
