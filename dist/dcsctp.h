@@ -644,9 +644,9 @@ uint32_t dcsctp_add_registered_cause(uint8_t *packet, size_t room, size_t *size,
 
 /* ---- what is asked of whoever receives a packet
 
-   Answers of RFC 9260 that take no state but what is passed. Of the packet only the common header, the types of its chunks and
-   the T bit are looked at, up to the first chunk whose length is impossible; without a common header it is discarded. Check it
-   first. */
+   Answers of RFC 9260 that take no state but what is passed. Of the packet the common header is looked at and the chunks up to
+   the first whose length is impossible: their types, the T bit, the codes of an ERROR's causes, the numbers of INIT and INIT
+   ACK. Without a common header a packet is discarded. Check it first. */
 
 /* What is done with a chunk or a parameter of a type that your program doesn't know. */
 enum dcsctp_action {

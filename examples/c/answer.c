@@ -19,14 +19,13 @@ int main(void)
         return 1;
     }
 
-    /* Is it an INIT, and nothing else? */
+    /* Is it an INIT that can be processed, and nothing else? */
     struct dcsctp_header header;
     struct dcsctp_chunk chunk;
     struct dcsctp_init init;
-    if (!dcsctp_header(bytes, length, &header) || !dcsctp_chunk_at(bytes, length, DCSCTP_FIRST_CHUNK, &chunk)
-        || !dcsctp_init(bytes, length, &chunk, &init) || chunk.type != DCSCTP_CHUNK_INIT || chunk.next < length
-        || header.verification_tag != 0 || header.source_port == 0 || header.destination_port == 0
-        || init.initiate_tag == 0 || init.outbound_streams == 0 || init.inbound_streams == 0)
+    if (dcsctp_init_fault(bytes, length, false) != DCSCTP_INIT_NO_FAULT || !dcsctp_header(bytes, length, &header)
+        || !dcsctp_chunk_at(bytes, length, DCSCTP_FIRST_CHUNK, &chunk) || !dcsctp_init(bytes, length, &chunk, &init)
+        || header.verification_tag != 0 || header.source_port == 0 || header.destination_port == 0)
         return 1;
 
     /* The answer goes back under the tag that the INIT asks for. */
