@@ -149,7 +149,9 @@ pub struct Cookie<'a> {
     pub outbound_streams: u16,
     /// The number of streams on which the peer sends.
     pub inbound_streams: u16,
-    /// Bytes of yours: the peer's addresses, the parameters of its INIT.
+    /// Bytes of yours, as the parameters of the peer's INIT by
+    /// [`Parameters::as_bytes`](crate::Parameters::as_bytes), with its addresses, which
+    /// [`Parameters::of`](crate::Parameters::of) reads back.
     pub addresses: &'a [u8],
 }
 

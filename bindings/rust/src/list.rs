@@ -317,11 +317,13 @@ impl<'a> Parameter<'a> {
     /// Unrecognized Parameter (section 3.3.3.1.2) and the cause Unrecognized Parameters (section
     /// 3.3.10.8) have to hold.
     ///
-    /// Of a parameter that isn't known, two bits of the type say what to do (section 3.2.1): with
-    /// 0x4000 it is reported; without 0x8000 it is the last of its chunk that is processed.
+    /// What is done with a parameter that isn't known,
+    /// [`unrecognized_parameter`](crate::unrecognized_parameter) says (section 3.2.1). To keep
+    /// several, take [`Parameters::as_bytes`], which has the padding between them.
     ///
     /// ```
-    /// use davgyuti::{ChunkBuilder, ParameterType, Parameters, WriteError};
+    /// use davgyuti::{Action, ChunkBuilder, ParameterType, Parameters, WriteError};
+    /// use davgyuti::unrecognized_parameter;
     ///
     /// /// What this side knows of the parameters of an INIT.
     /// const KNOWN: [ParameterType; 3] = [
@@ -333,11 +335,11 @@ impl<'a> Parameter<'a> {
     /// /// Adds what the INIT ACK says of the parameters of an INIT that aren't known.
     /// fn report(parameters: Parameters, init_ack: &mut ChunkBuilder) -> Result<(), WriteError> {
     ///     for it in parameters.filter(|it| !KNOWN.contains(&it.parameter_type())) {
-    ///         let ParameterType(number) = it.parameter_type();
-    ///         if number & 0x4000 != 0 {
+    ///         let action = unrecognized_parameter(it.parameter_type());
+    ///         if matches!(action, Action::StopAndReport | Action::SkipAndReport) {
     ///             init_ack.parameter(ParameterType::UNRECOGNIZED_PARAMETER, it.as_bytes())?;
     ///         }
-    ///         if number & 0x8000 == 0 {
+    ///         if matches!(action, Action::Stop | Action::StopAndReport) {
     ///             break;
     ///         }
     ///     }
