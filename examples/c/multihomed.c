@@ -86,6 +86,16 @@ static bool add_own_addresses(uint16_t type)
     return true;
 }
 
+static bool is_reported(uint32_t action)
+{
+    return action == DCSCTP_ACTION_STOP_AND_REPORT || action == DCSCTP_ACTION_SKIP_AND_REPORT;
+}
+
+static bool is_skipped(uint32_t action)
+{
+    return action == DCSCTP_ACTION_SKIP || action == DCSCTP_ACTION_SKIP_AND_REPORT;
+}
+
 /* Answers an INIT, which has to be alone and under tag 0. */
 static bool answer_init(const struct dcsctp_header *header)
 {
@@ -95,8 +105,8 @@ static bool answer_init(const struct dcsctp_header *header)
     size_t type_count = 2, at;
     struct dcsctp_init init;
     struct dcsctp_parameter item;
-    if (header->verification_tag != 0 || chunk.next < length || !dcsctp_init(CHUNK, &init) || init.initiate_tag == 0
-        || init.outbound_streams == 0 || init.inbound_streams == 0)
+    if (header->verification_tag != 0 || dcsctp_init_fault(bytes, length, false) != DCSCTP_INIT_NO_FAULT
+        || !dcsctp_init(CHUNK, &init))
         return false;
     memset(&peer, 0, sizeof peer);
     peer.header = *header;
@@ -125,12 +135,12 @@ static bool answer_init(const struct dcsctp_header *header)
             return !dcsctp_begin(TO, header->destination_port, header->source_port, peer.tag)
                 && !dcsctp_add_chunk(TO, DCSCTP_CHUNK_ABORT, 0, NULL, 0)
                 && !dcsctp_add_registered_cause(TO, DCSCTP_FIRST_CHUNK, DCSCTP_CAUSE_UNRESOLVABLE_ADDRESS, &it, bytes, length);
-        default: /* unknown: the second bit asks for a report (section 3.2.1) */
-            if (item.type & 0x4000
+        default: /* unknown: reported, and perhaps the last that is looked at (section 3.2.1) */
+            if (is_reported(dcsctp_unrecognized_parameter(item.type))
                 && dcsctp_add_registered_parameter(TO, DCSCTP_FIRST_CHUNK, DCSCTP_PARAMETER_UNRECOGNIZED_PARAMETER, &it,
                                                    bytes, length))
                 return false;
-            if (!(item.type & 0x8000)) /* and without the first one no more is looked at */
+            if (!is_skipped(dcsctp_unrecognized_parameter(item.type)))
                 item.next = length;
         }
     }
@@ -214,9 +224,10 @@ static bool answer_asconf(const struct dcsctp_header *header)
             code = refusal(item.type, &address);
         }
         const bool is_unknown = code == DCSCTP_CAUSE_UNRECOGNIZED_PARAMETERS;
-        if ((!is_unknown || item.type & 0x4000) && !add_response(at, &item, request.number, code))
+        const uint32_t action = dcsctp_unrecognized_parameter(item.type);
+        if ((!is_unknown || is_reported(action)) && !add_response(at, &item, request.number, code))
             return false;
-        if (is_unknown && !(item.type & 0x8000))
+        if (is_unknown && !is_skipped(action))
             break;
     }
     peer.next_serial++;

@@ -16,7 +16,7 @@ from collections.abc import Iterator
 from ipaddress import ip_address
 
 import davgyuti
-from davgyuti import ParameterType, registered
+from davgyuti import Action, ParameterType, registered
 
 SHA_256 = 3
 KNOWN = {
@@ -119,12 +119,13 @@ def refused(number: int, cause: davgyuti.Cause) -> davgyuti.Parameter:
 
 
 def reported(parameters: tuple[davgyuti.Parameter, ...]) -> Iterator[davgyuti.Parameter]:
-    """RFC 9260 section 3.2.1: the two high bits of a type that isn't known say what to do."""
+    """Those that aren't known and are reported, up to one at which to stop (RFC 9260 section 3.2.1)."""
     for it in parameters:
         if it.type not in KNOWN:
-            if it.type & 0x4000:
+            action = davgyuti.unrecognized_parameter(it.type)
+            if action in (Action.STOP_AND_REPORT, Action.SKIP_AND_REPORT):
                 yield it
-            if not it.type & 0x8000:
+            if action in (Action.STOP, Action.STOP_AND_REPORT):
                 return
 
 

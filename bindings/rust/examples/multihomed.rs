@@ -14,9 +14,9 @@
 //! It is no association: the cookie says nothing, and nothing is sent again.
 
 use davgyuti::{
-    Causes, Chunk, ChunkBuilder, Content, FIRST_CHUNK, Header, Init, MAX_PACKET, Packet,
+    Action, Causes, Chunk, ChunkBuilder, Content, FIRST_CHUNK, Header, Init, MAX_PACKET, Packet,
     PacketBuilder, Parameter, ParameterType, Parameters, RegisteredCause, RegisteredChunk,
-    RegisteredParameter, WriteError, seal, sign_auth, verify_auth,
+    RegisteredParameter, WriteError, seal, sign_auth, unrecognized_parameter, verify_auth,
 };
 use std::fmt::Write;
 use std::io::{self, BufRead};
@@ -116,15 +116,15 @@ impl Host {
             })?;
         }
         init_ack.parameter(ParameterType::STATE_COOKIE, b"abcd")?;
-        // RFC 9260 section 3.2.1: the two high bits of a type that isn't known say what to do.
+        // RFC 9260 section 3.2.1: what isn't known is reported, or not; and perhaps the last.
         for it in parameters.filter(|it| !KNOWN.contains(&it.parameter_type())) {
-            let ParameterType(number) = it.parameter_type();
-            if number & 0x4000 != 0 {
+            let action = unrecognized_parameter(it.parameter_type());
+            if matches!(action, Action::StopAndReport | Action::SkipAndReport) {
                 let parameters = Parameters::of(it.as_bytes());
                 let unknown = RegisteredParameter::UnrecognizedParameter { parameters };
                 init_ack.registered_parameter(&unknown)?;
             }
-            if number & 0x8000 == 0 {
+            if matches!(action, Action::Stop | Action::StopAndReport) {
                 break;
             }
         }
