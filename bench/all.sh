@@ -14,7 +14,7 @@ machine. It takes five minutes once the library, the C library and sctp_dump are
   --help    prints this
 
 The variable ORIGINAL names a program that times the Rust crate too (bench/run.sh --help). bench/packages.py --help says what
-the packages are timed beside; what isn't there of that, and tshark, is left out. Needed are the toolchain, gcc, Python from 3.9
+the packages are timed beside; what of that is missing, and tshark, is left out. Needed are the toolchain, gcc, Python from 3.9
 on and /usr/bin/time.'
 
 case $#:${1:-} in

@@ -1,4 +1,5 @@
 # SPDX-License-Identifier: Apache-2.0
+# shellcheck shell=bash
 # What the scripts of bench/ do first; they source it. Its functions run at the root of the repository, and what they make
 # goes to the folder $out.
 

@@ -236,8 +236,8 @@ unwound() {
 
 # So it does in a debugger.
 by_gdb() {
-    local words=() i
-    for i in {1..11}; do words+=(-ex bt -ex continue); done
+    local words=() _
+    for _ in {1..11}; do words+=(-ex bt -ex continue); done
     "$cc" -O1 -g -I "$dist" -o crashes "$root/tests/c/unwind.c" "$elf" &&
         [ "$(gdb -q -batch -ex run "${words[@]}" ./crashes | tee crashes.txt | grep -c '^#.* main (')" -eq 11 ] || { cat crashes.txt; return 1; }
 }

@@ -171,6 +171,7 @@ def is_for(words, kind):
 
 def places_of(kind):
     """The file of each place that is for a kind, and the line that it has there."""
+    path = ''
     for line in read(PLACES).splitlines():
         if line.startswith('['):
             is_for_it = is_for(line, kind)

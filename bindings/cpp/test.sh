@@ -39,7 +39,7 @@ done
 printf 'INIT ACK: State Cookie\nCOOKIE ACK to tag 1294857517\nAdd IP Address: 1\n' >"$work/readme.expected"
 
 flags=(-Wall -Wextra -Wpedantic -Wconversion -Wshadow -Werror -I . -I "$dist")
-sanitizers=(-g -fsanitize=address,undefined -fno-sanitize-recover=all)
+sanitizers=(-g "-fsanitize=address,undefined" -fno-sanitize-recover=all)
 tried=0
 for compiler in g++ clang++; do
     command -v "$compiler" >"$work/log" || { echo "bindings/cpp: left out, since it isn't here: $compiler" && continue; }

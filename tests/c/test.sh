@@ -23,7 +23,7 @@ case ${1:-1000000} in
         ;;
 esac
 packets=${1:-1000000}
-cd "$(dirname "$0")/../.."
+cd "$(dirname "$0")/../.." || exit
 export PYTHONDONTWRITEBYTECODE=1
 
 work=$(mktemp -d)
@@ -189,9 +189,9 @@ answer_by_hand() {
 
 answer_by_pkg_config() {
     local flags
-    flags=$(PKG_CONFIG_PATH=$prefix/lib/pkgconfig pkg-config --cflags --libs dcsctp) &&
-        # shellcheck disable=SC2086 # a list of options
-        "$cc" -o "$work/answer" examples/c/answer.c $flags && LD_LIBRARY_PATH=$prefix/lib answers_an_init
+    flags=$(PKG_CONFIG_PATH=$prefix/lib/pkgconfig pkg-config --cflags --libs dcsctp) || return
+    # shellcheck disable=SC2086 # a list of options
+    "$cc" -o "$work/answer" examples/c/answer.c $flags && LD_LIBRARY_PATH=$prefix/lib answers_an_init
 }
 
 # ---- edges, and packets at random

@@ -4,7 +4,6 @@
 from ctypes import byref, c_uint64, sizeof
 from dataclasses import dataclass
 from itertools import chain
-from typing import Any
 
 from . import _library as c
 from . import _values as v

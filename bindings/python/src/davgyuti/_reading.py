@@ -1,11 +1,10 @@
 # SPDX-License-Identifier: Apache-2.0
 """Reading packets."""
 
-import ctypes
 import operator
 import struct
 from collections.abc import Callable, Iterator
-from ctypes import byref, c_size_t, c_uint8, c_uint16, c_uint32
+from ctypes import byref, c_size_t, c_uint8, c_uint32
 from functools import partial
 from ipaddress import ip_address
 from itertools import chain, islice, product
