@@ -22,12 +22,12 @@ ask() {
     fi
 }
 
-go_is_formatted() { ! files '*.go' | xargs -0 gofmt -l | grep .; }
-python_is_clean() { files '*.py' | xargs -0 flake8; }
-scripts_parse() { files '*.sh' .ci/run | xargs -0 -n 1 bash -n; }
-scripts_are_clean() { files '*.sh' .ci/run | xargs -0 shellcheck -S warning; }
+go_is_formatted() { ! files '*.go' | xargs -r0 gofmt -l | grep .; }
+python_is_clean() { files '*.py' | xargs -r0 flake8; }
+scripts_parse() { files '*.sh' .ci/run | xargs -r0 -n 1 bash -n; }
+scripts_are_clean() { files '*.sh' .ci/run | xargs -r0 shellcheck -S warning; }
 c_is_clean() {
-    files 'examples/c/*.c' | xargs -0 cppcheck --quiet --enable=warning,portability -I include --error-exitcode=1
+    files 'examples/c/*.c' | xargs -r0 cppcheck --quiet --enable=warning,portability -I include --error-exitcode=1
 }
 
 ask gofmt go_is_formatted
