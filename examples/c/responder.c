@@ -1,17 +1,27 @@
 /* SPDX-License-Identifier: Apache-2.0 */
 /* A responder to start from: the side of an association that is called (RFC 9260), and takes user data. No byte is written
    by hand, and there is no I/O and no clock: packets and the time go in, and packets come out. Left out: user data that is
-   sent, and with it timers; messages put together, and streams in order; addresses; a peer that begins anew (section 5.2).
-   There is one association at a time. */
+   sent, and with it timers; messages put together, and streams in order; addresses. There is one association at a time. */
 #include <dcsctp.h>
 #include <string.h>
 
-enum { COOKIE_LIFE = 60000000, MOST_BLOCKS = 64, MOST_DUPLICATES = 16 };
+enum { COOKIE_LIFE = 60000000, MOST_BLOCKS = 64, MOST_DUPLICATES = 16, MOST_KEPT = 512, SHA_1 = 1, SHA_256 = 3 };
+
+/* Bytes of the caller's. */
+struct bytes {
+    const uint8_t *at;
+    size_t size;
+};
 
 struct responder {
-    /* What the caller sets; all else is 0 at first. The tag, not 0, and the TSN are drawn anew for each association. */
+    /* What the caller sets; all else is 0 at first. The tag, not 0, the TSN and `random` are of the next association: they are
+       drawn anew once `association` has the tag. */
     struct dcsctp_init own;
+    uint8_t random[32];
     uint8_t key[32]; /* drawn once: who knows it can forge cookies */
+    struct bytes listed; /* types of chunks that count after AUTH alone (RFC 4895), not COOKIE ECHO; if empty, there is no AUTH */
+    struct bytes pair_key; /* the endpoint pair shared key, which may be empty, and its identifier */
+    uint16_t pair_key_identifier;
     void *user;
     void (*take_data)(void *user, const struct dcsctp_data *data, const uint8_t *payload); /* each TSN once, as it comes */
     enum { CLOSED, ESTABLISHED, SHUTDOWN_ACK_SENT } state;
@@ -20,6 +30,9 @@ struct responder {
     struct dcsctp_gap_ack_block blocks[MOST_BLOCKS];
     uint32_t duplicates[MOST_DUPLICATES]; /* since the last SACK */
     size_t block_count, duplicate_count;
+    uint8_t shared_key[MOST_KEPT + 64], peer_listed[256]; /* of AUTH; no bytes where one of the ends has none */
+    size_t shared_key_size, peer_listed_size;
+    uint16_t hmac; /* that the peer asks for */
 };
 
 /* A packet that came, its chunk that is looked at, and the packet that answers. What has no room there is as if lost. */
@@ -29,10 +42,16 @@ struct exchange {
     size_t length, room, size;
     struct dcsctp_header header;
     struct dcsctp_chunk chunk;
-    bool is_sack_due;
+    bool is_sack_due, is_authenticated;
 };
 #define CHUNK(x) (x)->bytes, (x)->length, &(x)->chunk
 #define TO(x) (x)->packet, (x)->room, &(x)->size
+
+/* Whether a packet has the ports of the association. */
+static bool has_its_ports(const struct responder *r, const struct exchange *x)
+{
+    return x->header.source_port == r->association.peer_port && x->header.destination_port == r->association.local_port;
+}
 
 static bool is_reported(uint32_t action)
 {
@@ -44,30 +63,103 @@ static bool is_skipped(uint32_t action)
     return action == DCSCTP_ACTION_SKIP || action == DCSCTP_ACTION_SKIP_AND_REPORT;
 }
 
-/* Answers an INIT by INIT ACK; or by the ABORT that says what is wrong with it, where it asks for one. */
+/* Adds the parameters of AUTH to the INIT ACK. */
+static bool add_auth_parameters(const struct responder *r, struct exchange *x)
+{
+    const uint8_t hmacs[] = {0, SHA_256, 0, SHA_1}; /* the first is preferred */
+    return !dcsctp_add_parameter(TO(x), DCSCTP_FIRST_CHUNK, DCSCTP_PARAMETER_RANDOM, r->random, sizeof r->random)
+        && !dcsctp_add_parameter(TO(x), DCSCTP_FIRST_CHUNK, DCSCTP_PARAMETER_CHUNK_LIST, r->listed.at, r->listed.size)
+        && !dcsctp_add_parameter(TO(x), DCSCTP_FIRST_CHUNK, DCSCTP_PARAMETER_REQUESTED_HMAC_ALGORITHM, hmacs, sizeof hmacs);
+}
+
+/* Writes the key vector of a packet with INIT or INIT ACK: some of its parameters, in this order (RFC 4895 section 6.1). Returns
+   its size. */
+static size_t key_vector(const uint8_t *bytes, size_t length, uint8_t *vector, size_t room)
+{
+    const uint16_t types[] = {DCSCTP_PARAMETER_RANDOM, DCSCTP_PARAMETER_CHUNK_LIST, DCSCTP_PARAMETER_REQUESTED_HMAC_ALGORITHM};
+    struct dcsctp_chunk chunk;
+    struct dcsctp_parameter it;
+    size_t size = 0;
+    for (int i = 0; i < 3 && dcsctp_chunk_at(bytes, length, DCSCTP_FIRST_CHUNK, &chunk); i++)
+        for (size_t at = dcsctp_list_offset(&chunk); dcsctp_parameter_at(bytes, length, &chunk, at, &it); at = it.next) {
+            const size_t whole = it.value_offset + it.value_size - at;
+            if (it.type == types[i] && whole <= room - size)
+                memcpy(vector + size, bytes + at, whole), size += whole;
+        }
+    return size;
+}
+
+/* Returns how long the cookie is good that answers an INIT: longer, if that asks for it (section 3.3.2.1.3), but not too long. */
+static uint64_t lifespan(const struct exchange *x)
+{
+    struct dcsctp_parameter it;
+    uint32_t increment; /* in milliseconds */
+    for (size_t at = dcsctp_list_offset(&x->chunk); dcsctp_parameter_at(CHUNK(x), at, &it); at = it.next)
+        if (it.type == DCSCTP_PARAMETER_COOKIE_PRESERVATIVE && dcsctp_number(x->bytes, x->length, &it, &increment))
+            return COOKIE_LIFE + (increment < COOKIE_LIFE / 1000 ? increment * UINT64_C(1000) : COOKIE_LIFE);
+    return COOKIE_LIFE;
+}
+
+/* What is sealed in a State Cookie after its numbers: this, and the key vectors of both ends. */
+struct kept {
+    uint32_t local_tie_tag, peer_tie_tag; /* the tags of the association that is there; 0 if none is (section 5.2.2) */
+    uint32_t own_vector_size;
+};
+
+/* Answers what comes anew while the association shuts down: the peer hasn't got the SHUTDOWN ACK's answer through, or has begun
+   anew (sections 9.2 and 5.2.4). */
+static bool answer_shutting_down(const struct responder *r, struct exchange *x)
+{
+    const bool has_cookie = x->chunk.type == DCSCTP_CHUNK_COOKIE_ECHO;
+    if (dcsctp_begin(TO(x), r->association.local_port, r->association.peer_port, r->association.peer_tag)
+        || dcsctp_add_shutdown_ack(TO(x)))
+        return false;
+    const size_t start = x->size;
+    return !has_cookie || (!dcsctp_add_chunk(TO(x), DCSCTP_CHUNK_ERROR, 0, NULL, 0)
+        && !dcsctp_add_parameter(TO(x), start, DCSCTP_CAUSE_COOKIE_RECEIVED_WHILE_SHUTTING_DOWN, NULL, 0));
+}
+
+/* Answers an INIT by INIT ACK, also of a peer that begins anew; or by the ABORT that says what is wrong with it, where it asks
+   for one. */
 static bool answer_init(const struct responder *r, uint64_t now, struct exchange *x)
 {
     const uint8_t extensions[] = {DCSCTP_CHUNK_RE_CONFIG, DCSCTP_CHUNK_I_DATA, DCSCTP_CHUNK_FORWARD_TSN,
-                                  DCSCTP_CHUNK_I_FORWARD_TSN};
+                                  DCSCTP_CHUNK_I_FORWARD_TSN, DCSCTP_CHUNK_AUTH};
+    const bool has_auth = r->listed.size > 0;
     const uint32_t fault = dcsctp_init_fault(x->bytes, x->length, false);
     struct dcsctp_init peer;
     struct dcsctp_parameter it;
-    uint8_t sealed[72]; /* a cookie without addresses */
-    size_t sealed_size;
-    if (!dcsctp_init(CHUNK(x), &peer) || (r->state != CLOSED && peer.initiate_tag != r->association.peer_tag))
+    struct kept kept = {0};
+    uint8_t rest[MOST_KEPT], sealed[72 + MOST_KEPT];
+    size_t rest_size = sizeof kept, sealed_size;
+    if (!dcsctp_init(CHUNK(x), &peer) || (r->state != CLOSED && (!has_its_ports(r, x)
+                                                                 || r->own.initiate_tag == r->association.local_tag)))
         return false;
     if (fault != DCSCTP_INIT_NO_FAULT)
         return dcsctp_init_refusal(fault, false, false) == DCSCTP_REFUSAL_ABORT
             && !dcsctp_init_abort(TO(x), &x->header, peer.initiate_tag, fault);
+    if (r->state == SHUTDOWN_ACK_SENT)
+        return answer_shutting_down(r, x);
     const struct dcsctp_cookie cookie = {
-        .created = now, .lifespan = COOKIE_LIFE, .local_tag = r->own.initiate_tag, .peer_tag = peer.initiate_tag,
+        .created = now, .lifespan = lifespan(x), .local_tag = r->own.initiate_tag, .peer_tag = peer.initiate_tag,
         .local_initial_tsn = r->own.initial_tsn, .peer_initial_tsn = peer.initial_tsn, .local_port = x->header.destination_port,
         .peer_port = x->header.source_port, .outbound_streams = r->own.outbound_streams,
         .inbound_streams = peer.outbound_streams};
-    if (dcsctp_seal_cookie(sealed, sizeof sealed, &sealed_size, r->key, sizeof r->key, &cookie, NULL, 0)
-        || dcsctp_begin(TO(x), cookie.local_port, cookie.peer_port, cookie.peer_tag) || dcsctp_add_init_ack(TO(x), &r->own)
+    if (dcsctp_begin(TO(x), cookie.local_port, cookie.peer_port, cookie.peer_tag) || dcsctp_add_init_ack(TO(x), &r->own))
+        return false;
+    if (r->state != CLOSED)
+        kept.local_tie_tag = r->association.local_tag, kept.peer_tie_tag = r->association.peer_tag;
+    if (has_auth) {
+        const size_t own_size = add_auth_parameters(r, x) ? key_vector(x->packet, x->size, rest + rest_size, MOST_KEPT / 2) : 0;
+        kept.own_vector_size = (uint32_t)own_size;
+        rest_size += own_size;
+        rest_size += key_vector(x->bytes, x->length, rest + rest_size, MOST_KEPT - rest_size);
+    }
+    memcpy(rest, &kept, sizeof kept);
+    if (dcsctp_seal_cookie(sealed, sizeof sealed, &sealed_size, r->key, sizeof r->key, &cookie, rest, rest_size)
         || dcsctp_add_parameter(TO(x), DCSCTP_FIRST_CHUNK, DCSCTP_PARAMETER_STATE_COOKIE, sealed, sealed_size)
-        || dcsctp_add_parameter(TO(x), DCSCTP_FIRST_CHUNK, DCSCTP_PARAMETER_SUPPORTED_EXTENSIONS, extensions, sizeof extensions)
+        || dcsctp_add_parameter(TO(x), DCSCTP_FIRST_CHUNK, DCSCTP_PARAMETER_SUPPORTED_EXTENSIONS, extensions,
+                                sizeof extensions - !has_auth)
         || dcsctp_add_parameter(TO(x), DCSCTP_FIRST_CHUNK, DCSCTP_PARAMETER_FORWARD_TSN_SUPPORTED, NULL, 0))
         return false;
     for (size_t at = dcsctp_list_offset(&x->chunk); dcsctp_parameter_at(CHUNK(x), at, &it); at = it.next)
@@ -98,22 +190,57 @@ static bool answer_stale(const struct dcsctp_cookie *cookie, uint64_t staleness,
         && !dcsctp_add_registered_cause(TO(x), DCSCTP_FIRST_CHUNK, DCSCTP_CAUSE_STALE_COOKIE, &cause, NULL, 0);
 }
 
-/* Opens the association of a COOKIE ECHO; one that is open stays. Returns whether it is open; if not, what answers is written
-   where there is an answer. */
+/* Takes the key vectors of both ends: the association shared key, and what the peer asks for. */
+static void open_auth(struct responder *r, const uint8_t *own, size_t own_size, const uint8_t *peer, size_t peer_size)
+{
+    uint16_t hmacs[8];
+    struct dcsctp_parameter it;
+    bool is_random = false;
+    r->shared_key_size = r->peer_listed_size = r->hmac = 0;
+    for (size_t at = 0; dcsctp_item_at(peer, peer_size, at, &it); at = it.value_offset + it.value_size) { /* (no padding) */
+        is_random = is_random || (it.type == DCSCTP_PARAMETER_RANDOM && it.value_size == sizeof r->random);
+        if (it.type == DCSCTP_PARAMETER_CHUNK_LIST && it.value_size <= sizeof r->peer_listed)
+            memcpy(r->peer_listed, peer + it.value_offset, r->peer_listed_size = it.value_size);
+        if (it.type == DCSCTP_PARAMETER_REQUESTED_HMAC_ALGORITHM)
+            for (size_t i = dcsctp_short_numbers(peer, peer_size, &it, hmacs, 8); i-- > 0;)
+                r->hmac = hmacs[i] == SHA_1 || hmacs[i] == SHA_256 ? hmacs[i] : r->hmac; /* the first of these */
+    }
+    if (is_random && r->hmac != 0)
+        dcsctp_shared_key(r->shared_key, sizeof r->shared_key, &r->shared_key_size, r->pair_key.at, r->pair_key.size, own,
+                          own_size, peer, peer_size);
+}
+
+/* Opens the association of a COOKIE ECHO, also if the peer begins anew; one that is open stays. Returns whether it is open; if
+   not, what answers is written where there is an answer. */
 static bool open_association(struct responder *r, uint64_t now, struct exchange *x)
 {
+    const uint8_t *rest = x->bytes + x->chunk.value_offset;
     struct dcsctp_cookie cookie;
+    struct kept kept;
     uint64_t staleness;
-    const uint32_t state = dcsctp_open_cookie(r->key, sizeof r->key, x->bytes + x->chunk.value_offset, x->chunk.value_size, now,
-                                              &cookie, &staleness);
-    if (state == DCSCTP_COOKIE_INVALID || cookie.local_tag != r->own.initiate_tag
-        || x->header.verification_tag != cookie.local_tag || x->header.destination_port != cookie.local_port
-        || x->header.source_port != cookie.peer_port)
+    const uint32_t state = dcsctp_open_cookie(r->key, sizeof r->key, rest, x->chunk.value_size, now, &cookie, &staleness);
+    if (state == DCSCTP_COOKIE_INVALID || x->header.verification_tag != cookie.local_tag
+        || x->header.destination_port != cookie.local_port || x->header.source_port != cookie.peer_port
+        || cookie.addresses_size < sizeof kept)
         return false;
-    if (r->state != CLOSED) /* however old the cookie is (section 5.2.4) */
-        return cookie.peer_tag == r->association.peer_tag;
+    memcpy(&kept, rest + cookie.addresses_offset, sizeof kept);
+    rest += cookie.addresses_offset + sizeof kept;
+    const size_t rest_size = cookie.addresses_size - sizeof kept;
+    const bool is_there = r->state != CLOSED, is_next = cookie.local_tag == r->own.initiate_tag;
+    const bool is_local = is_there && cookie.local_tag == r->association.local_tag;
+    const bool is_peers = is_there && cookie.peer_tag == r->association.peer_tag;
+    const bool is_tied = kept.local_tie_tag == r->association.local_tag && kept.peer_tie_tag == r->association.peer_tag;
+    if (is_local && is_peers) /* however old the cookie is (section 5.2.4, action D) */
+        return true;
     if (state == DCSCTP_COOKIE_STALE) {
         if (!answer_stale(&cookie, staleness, x))
+            x->size = 0;
+        return false;
+    }
+    if (!is_local && (!is_next || (is_there && (is_peers || !is_tied)))) /* neither action A nor B, and none of a new one */
+        return false;
+    if (r->state == SHUTDOWN_ACK_SENT) {
+        if (!answer_shutting_down(r, x))
             x->size = 0;
         return false;
     }
@@ -122,6 +249,8 @@ static bool open_association(struct responder *r, uint64_t now, struct exchange 
     r->cumulative_tsn = cookie.peer_initial_tsn - 1;
     r->next_request = cookie.peer_initial_tsn; /* RFC 6525 section 5.1.1 */
     r->block_count = r->duplicate_count = 0;
+    if (kept.own_vector_size <= rest_size)
+        open_auth(r, rest, kept.own_vector_size, rest + kept.own_vector_size, rest_size - kept.own_vector_size);
     return true;
 }
 
@@ -239,13 +368,63 @@ static bool answer_chunk(struct responder *r, struct exchange *x, size_t at)
     }
 }
 
+/* Takes an AUTH, which begins at an offset. Returns whether those after it are looked at (RFC 4895 section 6.3). */
+static bool take_auth(struct responder *r, struct exchange *x, size_t at)
+{
+    struct dcsctp_registered auth;
+    const size_t start = x->size;
+    if (x->is_authenticated || !dcsctp_registered_chunk(CHUNK(x), &auth))
+        return false;
+    const struct dcsctp_registered cause = {.short_number = auth.second_short_number};
+    if (cause.short_number != SHA_1 && cause.short_number != SHA_256) {
+        if (!dcsctp_add_chunk(TO(x), DCSCTP_CHUNK_ERROR, 0, NULL, 0)
+            && dcsctp_add_registered_cause(TO(x), start, DCSCTP_CAUSE_UNSUPPORTED_HMAC_IDENTIFIER, &cause, NULL, 0))
+            x->size = start;
+        return false;
+    }
+    return x->is_authenticated = auth.short_number == r->pair_key_identifier && r->shared_key_size > 0
+        && dcsctp_verify_auth(r->shared_key, r->shared_key_size, x->bytes + at, x->length - at);
+}
+
+/* The same of any chunk: one that counts after AUTH alone is discarded elsewhere. */
+static bool take_chunk(struct responder *r, struct exchange *x, size_t at)
+{
+    if (r->listed.size > 0 && x->chunk.type == DCSCTP_CHUNK_AUTH)
+        return take_auth(r, x, at);
+    return (!x->is_authenticated && dcsctp_is_listed(r->listed.at, r->listed.size, x->chunk.type)) || answer_chunk(r, x, at);
+}
+
+/* Puts an AUTH before the first chunk of the answer that has to come after one (RFC 4895 section 6.2). Returns false where it
+   has no room. */
+static bool sign(const struct responder *r, struct exchange *x)
+{
+    const uint8_t zeros[32] = {0};
+    const struct dcsctp_registered numbers = {.short_number = r->pair_key_identifier, .second_short_number = r->hmac,
+                                              .rest_size = r->hmac == SHA_1 ? 20 : 32};
+    const size_t end = x->size;
+    uint8_t auth[40];
+    size_t at = DCSCTP_FIRST_CHUNK;
+    struct dcsctp_chunk chunk;
+    for (; dcsctp_chunk_at(x->packet, end, at, &chunk); at = chunk.next)
+        if (dcsctp_is_listed(r->peer_listed, r->peer_listed_size, chunk.type))
+            break;
+    if (at == end)
+        return true;
+    if (dcsctp_add_registered_chunk(TO(x), DCSCTP_CHUNK_AUTH, &numbers, zeros, sizeof zeros))
+        return false;
+    const size_t auth_size = x->size - end; /* it is added at the end, and goes to its place */
+    memcpy(auth, x->packet + end, auth_size);
+    memmove(x->packet + at + auth_size, x->packet + at, end - at);
+    memcpy(x->packet + at, auth, auth_size);
+    return dcsctp_sign_auth(r->shared_key, r->shared_key_size, x->packet + at, x->size - at);
+}
+
 /* Says what is done with a packet, by its ports and its tag. */
 static uint32_t verdict_of(const struct responder *r, const struct exchange *x)
 {
-    const struct dcsctp_association association = {r->own.initiate_tag, r->association.peer_tag, true, false};
-    return r->state == CLOSED || x->header.source_port != r->association.peer_port
-            || x->header.destination_port != r->association.local_port
-        ? DCSCTP_TAG_OUT_OF_THE_BLUE : dcsctp_verify_tag(x->bytes, x->length, &association);
+    const struct dcsctp_association association = {r->association.local_tag, r->association.peer_tag, true, false};
+    return r->state == CLOSED || !has_its_ports(r, x) ? DCSCTP_TAG_OUT_OF_THE_BLUE
+                                                      : dcsctp_verify_tag(x->bytes, x->length, &association);
 }
 
 /* Answers the chunks of a packet of the association. */
@@ -254,12 +433,12 @@ static bool answer_chunks(struct responder *r, struct exchange *x)
     size_t at = DCSCTP_FIRST_CHUNK;
     if (dcsctp_begin(TO(x), r->association.local_port, r->association.peer_port, r->association.peer_tag))
         return false;
-    for (size_t next; answer_chunk(r, x, at) && (next = x->chunk.next, dcsctp_chunk_at(x->bytes, x->length, next, &x->chunk));)
+    for (size_t next; take_chunk(r, x, at) && (next = x->chunk.next, dcsctp_chunk_at(x->bytes, x->length, next, &x->chunk));)
         at = next;
     if (x->is_sack_due && r->state != CLOSED && !dcsctp_add_sack(TO(x), r->cumulative_tsn, r->own.a_rwnd, r->blocks,
                                                                  r->block_count, r->duplicates, r->duplicate_count))
         r->duplicate_count = 0;
-    return x->size > DCSCTP_FIRST_CHUNK;
+    return x->size > DCSCTP_FIRST_CHUNK && (r->shared_key_size == 0 || sign(r, x));
 }
 
 /* Answers a packet: one that belongs to no association as section 8.4 says. Returns whether there is an answer. */

@@ -1505,7 +1505,9 @@ static size_t ask(const uint8_t *bytes, size_t length, uint8_t *answer, size_t r
     }
     REQUIRE(size <= room && (size == 0 || dcsctp_check(answer, size, dcsctp_word(answer, size), &policies[3]) == DCSCTP_OK));
     for (size_t at = 12; size > 0 && dcsctp_chunk_at(answer, size, at, &chunk); at = chunk.next)
-        REQUIRE(chunk.type != DCSCTP_CHUNK_SACK || dcsctp_validate_sack(answer, size, &chunk));
+        REQUIRE((chunk.type != DCSCTP_CHUNK_SACK || dcsctp_validate_sack(answer, size, &chunk))
+                && (chunk.type != DCSCTP_CHUNK_AUTH || dcsctp_verify_auth(responder.shared_key, responder.shared_key_size,
+                                                                          answer + at, size - at)));
     return size;
 }
 
@@ -1515,24 +1517,33 @@ static size_t ask(const uint8_t *bytes, size_t length, uint8_t *answer, size_t r
 static void call_responder(void)
 {
     static uint32_t sum;
+    static const uint8_t listed[] = {DCSCTP_CHUNK_ASCONF};
     const struct dcsctp_init peer = {(uint32_t)draw() | 1, 1 << 16, 9, 9, (uint32_t)draw()};
     const uint16_t types[] = {5, 12, 0x8005, 0xc00f, below(2) ? 0x4001 : 0x3fff, 0xc010}; /* RFC 9260 section 3.2.1 */
-    uint8_t packet[200], answer[200];
+    uint8_t packet[400], answer[400];
     struct dcsctp_chunk chunk;
     struct dcsctp_parameter cookie, it;
     size_t size, answered, reports = 0;
     responder = (struct responder){.own = {(uint32_t)draw() | 1, 1 << 16, 9, 9, (uint32_t)draw()}, .user = &sum,
                                    .take_data = read_payload};
+    if (below(2)) /* with AUTH before a chunk that the responder doesn't know, and before SACK and HEARTBEAT ACK of its own */
+        responder.listed = (struct bytes){listed, sizeof listed};
     for (size_t i = 0; i < sizeof responder.key; i++)
         responder.key[i] = (uint8_t)draw();
     responder_time = 0;
-    REQUIRE(!dcsctp_begin(packet, 200, &size, 1, 2, 0) && !dcsctp_add_init(packet, 200, &size, &peer));
+    REQUIRE(!dcsctp_begin(packet, 400, &size, 1, 2, 0) && !dcsctp_add_init(packet, 400, &size, &peer));
+    if (responder.listed.size > 0)
+        REQUIRE(!dcsctp_add_parameter(packet, 400, &size, 12, DCSCTP_PARAMETER_RANDOM, noise, 32)
+                && !dcsctp_add_parameter(packet, 400, &size, 12, DCSCTP_PARAMETER_CHUNK_LIST, (const uint8_t[]){3, 5, 0xc1}, 3)
+                && !dcsctp_add_parameter(packet, 400, &size, 12, DCSCTP_PARAMETER_REQUESTED_HMAC_ALGORITHM,
+                                         (const uint8_t[]){0, 2, 0, (uint8_t)(below(2) ? 1 : 3)}, 4));
     for (size_t i = 0; i < sizeof types / sizeof *types; i++)
-        REQUIRE(!dcsctp_add_parameter(packet, 200, &size, 12, types[i], (const uint8_t *)"abcdef", i));
+        REQUIRE(!dcsctp_add_parameter(packet, 400, &size, 12, types[i], (const uint8_t *)"abcdef", i));
     REQUIRE(!dcsctp_seal(packet, size));
-    answered = ask(packet, size, answer, 200);
+    answered = ask(packet, size, answer, 400);
     REQUIRE(u32(answer + 4) == peer.initiate_tag && dcsctp_chunk_at(answer, answered, 12, &chunk) && chunk.type == DCSCTP_CHUNK_INIT_ACK);
-    REQUIRE(dcsctp_parameter_at(answer, answered, &chunk, dcsctp_list_offset(&chunk), &cookie) && cookie.type == DCSCTP_PARAMETER_STATE_COOKIE);
+    size_t first = dcsctp_list_offset(&chunk) + (responder.listed.size > 0 ? 36 + 8 + 8 : 0); /* after the parameters of AUTH */
+    REQUIRE(dcsctp_parameter_at(answer, answered, &chunk, first, &cookie) && cookie.type == DCSCTP_PARAMETER_STATE_COOKIE);
     for (size_t at = cookie.next; dcsctp_parameter_at(answer, answered, &chunk, at, &it); at = it.next)
         if (it.type == DCSCTP_PARAMETER_UNRECOGNIZED_PARAMETER) {
             REQUIRE(it.value_size == 4 + 3 + reports && u32(answer + it.value_offset) >> 16 == types[3 + reports]);
@@ -1543,8 +1554,8 @@ static void call_responder(void)
         const size_t at = cookie.value_offset + below(cookie.value_size), bit = below(8);
         answer[at] ^= (uint8_t)((wrong == 1) << bit);
         responder_time = wrong == 2 ? COOKIE_LIFE + 1 : below(COOKIE_LIFE + 1);
-        REQUIRE(!dcsctp_begin(packet, 200, &size, 1, 2, responder.own.initiate_tag));
-        REQUIRE(!dcsctp_add_cookie_echo(packet, 200, &size, answer + cookie.value_offset, cookie.value_size) && !dcsctp_seal(packet, size));
+        REQUIRE(!dcsctp_begin(packet, 400, &size, 1, 2, responder.own.initiate_tag));
+        REQUIRE(!dcsctp_add_cookie_echo(packet, 400, &size, answer + cookie.value_offset, cookie.value_size) && !dcsctp_seal(packet, size));
         answer[at] ^= (uint8_t)((wrong == 1) << bit);
         uint8_t last[200];
         REQUIRE((ask(packet, size, last, 200) == (wrong == 2 ? 24 : wrong ? 0 : 16)) && responder.state == (wrong ? CLOSED : ESTABLISHED));
@@ -1552,6 +1563,8 @@ static void call_responder(void)
         REQUIRE(wrong != 2 || (last[12] == DCSCTP_CHUNK_ERROR && u32(last + 4) == peer.initiate_tag && u32(last + 16) == 0x00030008
                                && u32(last + 20) == responder_time - COOKIE_LIFE));
     }
+    REQUIRE((responder.shared_key_size > 0) == (responder.listed.size > 0));
+    responder.own.initiate_tag = (uint32_t)draw() | 1;
 }
 
 /* Gives the responder a packet under its own ports and tag, so that it looks at the chunks; the first of these mostly has a TSN
@@ -1565,7 +1578,7 @@ static void try_responder(const uint8_t *bytes, size_t length, enum placing plac
     if (length >= 12 && below(20)) {
         memcpy(input.bytes, (uint8_t[8]){0, 1, 0, 2}, 8);
         if (length < 13 || input.bytes[12] != DCSCTP_CHUNK_INIT)
-            dcsctp_set_tag(input.bytes, length, responder.own.initiate_tag);
+            dcsctp_set_tag(input.bytes, length, responder.association.local_tag);
         if (length >= 24 && (input.bytes[12] == DCSCTP_CHUNK_RE_CONFIG || numbers_before_list(input.bytes[12], 1)) && below(8)) {
             bool is_request = input.bytes[12] == DCSCTP_CHUNK_RE_CONFIG;
             uint32_t tsn = responder.cumulative_tsn - 3 + (uint32_t)below(below(2) ? 12 : 70000);
