@@ -8,6 +8,9 @@
    and dropped by examples/c/filter.c with a bit changed. Then noise goes into every bit that a receiver ignores, and the other
    side gets what the filter makes of that: it has to be what was sent. Each message has to arrive once, and in order.
 
+   Where the responder is called, there are scenarios that lose, hold back, change or forget something on purpose, and look at
+   what it answers: AUTH, a peer that begins anew, late cookies, unknown types, and packets out of the blue.
+
    usrsctp asks this program for the time and for random numbers: so a run depends on its seed alone, and waits for no timer.
    Only the nanoseconds that are printed differ. That takes the shared libusrsctp, whose calls of gettimeofday and read_random
    reach the functions here. */
@@ -26,6 +29,7 @@
 
 enum { MOST = 65536, STREAMS = 16, MORE_STREAMS = 64, LARGEST = 20000, STEP = 5 /* of the clock, in milliseconds */ };
 enum { INTERLEAVING_SUPPORTED = 0x1206 }; /* usrsctp's SCTP_INTERLEAVING_SUPPORTED, which its header leaves out */
+enum { KEY_IDENTIFIER = 7 };              /* of the endpoint pair shared key, where there is one */
 
 /* ---- scenarios: those that are short run where none is named */
 
@@ -36,7 +40,18 @@ struct scenario {
     bool aborts;                   /* the end is ABORT in place of SHUTDOWN */
     bool is_answered;              /* the second side is the responder, which sends no messages */
     unsigned lost, late;           /* packets of a hundred */
+    bool is_authenticated;         /* chunks come after AUTH (RFC 4895), with SHA-1: Debian's usrsctp has no other HMAC */
+    const char *key, *wrong_key;   /* the endpoint pair shared key; what the responder takes for it */
+    void (*run)(void);             /* what is done with an association, in place of messages and its end */
 };
+
+static void run_wrong_key(void);
+static void run_restart(void);
+static void run_cookies(void);
+static void run_shutting_down(void);
+static void run_stale(void);
+static void run_unknown(void);
+static void run_forgotten(void);
 
 /* Not here, since usrsctp itself stops now and then: I-DATA with loss and partial reliability, and SCTP_RESET_ASSOC. */
 static const struct scenario scenarios[] = {
@@ -53,6 +68,17 @@ static const struct scenario scenarios[] = {
     {.name = "responder-partial", .is_answered = true, .abandons = true, .lost = 5, .late = 10},
     {.name = "responder-streams", .is_short = true, .is_answered = true, .is_interleaved = true, .changes = true},
     {.name = "responder-abort", .is_answered = true, .aborts = true},
+    {.name = "responder-auth", .is_short = true, .is_answered = true, .lost = 5, .late = 10, .is_authenticated = true},
+    {.name = "responder-key", .is_short = true, .is_answered = true, .changes = true, .is_authenticated = true, .key = "a key"},
+    {.name = "responder-wrong-key", .is_short = true, .is_answered = true, .is_authenticated = true, .key = "a key",
+     .wrong_key = "another", .run = run_wrong_key},
+    {.name = "responder-restart", .is_short = true, .is_answered = true, .run = run_restart},
+    {.name = "responder-auth-restart", .is_short = true, .is_answered = true, .is_authenticated = true, .run = run_restart},
+    {.name = "responder-cookies", .is_short = true, .is_answered = true, .run = run_cookies},
+    {.name = "responder-shutting-down", .is_short = true, .is_answered = true, .run = run_shutting_down},
+    {.name = "responder-stale", .is_short = true, .is_answered = true, .run = run_stale},
+    {.name = "responder-unknown", .is_short = true, .is_answered = true, .run = run_unknown},
+    {.name = "responder-forgotten", .is_short = true, .is_answered = true, .run = run_forgotten},
 };
 enum { SCENARIOS = sizeof scenarios / sizeof *scenarios };
 
@@ -409,6 +435,7 @@ static size_t pass(const uint8_t *sent, size_t length, uint8_t *passed)
     struct plain_item chunk;
     check(sent, length, ACCEPTED, length);
     memset(ignored, 0, length);
+    memset(noise, 0, length);
     for (size_t at = PLAIN_HEADER; plain_chunk_at(sent, at, length, &chunk); at = chunk.next) {
         tally.kinds[chunk.type]++;
         tally.chunks++;
@@ -423,7 +450,7 @@ static size_t pass(const uint8_t *sent, size_t length, uint8_t *passed)
     check(changed, length, WRONG_CHECKSUM, 8);
     REQUIRE(filtered(changed, length, passed) == 0);
 
-    fill(noise, length, &state);
+    fill(noise, is_authenticated(sent, length) ? 0 : length, &state); /* an HMAC covers ignored bits too */
     for (size_t i = 0; i < length; i++)
         changed[i] = sent[i] ^ (noise[i] & ignored[i]);
     seal(changed, length);
@@ -622,41 +649,74 @@ static void take_parts(struct side *side)
     }
 }
 
-static void begin_responder(size_t messages)
+static const uint8_t authenticated[] = {PLAIN_DATA, PLAIN_SACK, PLAIN_HEARTBEAT, PLAIN_HEARTBEAT_ACK, PLAIN_ABORT,
+    PLAIN_SHUTDOWN, PLAIN_SHUTDOWN_ACK, PLAIN_ERROR, PLAIN_RE_CONFIG, PLAIN_COOKIE_ACK};
+
+/* Draws what the responder's next association has. */
+static void draw_next(void)
 {
-    responder = (struct responder){.take_data = keep_part};
-    responder.own = (struct dcsctp_init){.a_rwnd = 1 << 20, .outbound_streams = 1, .inbound_streams = MORE_STREAMS};
     responder.own.initiate_tag = (uint32_t)draw(&state) | 1;
     responder.own.initial_tsn = (uint32_t)draw(&state);
+    if (scenario->is_authenticated)
+        fill(responder.random, sizeof responder.random, &state);
+}
+
+static void begin_responder(size_t messages)
+{
+    const char *key = scenario->wrong_key ? scenario->wrong_key : scenario->key;
+    responder = (struct responder){.take_data = keep_part};
+    responder.own = (struct dcsctp_init){.a_rwnd = 1 << 20, .outbound_streams = 1, .inbound_streams = MORE_STREAMS};
+    draw_next();
     for (size_t i = 0; i < sizeof responder.key; i++)
         responder.key[i] = (uint8_t)draw(&state);
+    if (scenario->is_authenticated)
+        responder.listed = (struct bytes){authenticated, sizeof authenticated};
+    if (key) {
+        responder.pair_key = (struct bytes){(const uint8_t *)key, strlen(key)};
+        responder.pair_key_identifier = KEY_IDENTIFIER;
+    }
     part_room = messages * (2 + LARGEST / 400);
     part_count = 0;
     parts = calloc(part_room, sizeof *parts);
     REQUIRE(parts);
 }
 
+static void forget_parts(void)
+{
+    for (size_t i = 0; i < part_room; i++) {
+        free(parts[i].payload);
+        parts[i].payload = NULL;
+    }
+    part_count = 0;
+}
+
 static void end_responder(void)
 {
-    for (size_t i = 0; i < part_room; i++)
-        free(parts[i].payload);
+    forget_parts();
     free(parts);
     parts = NULL;
 }
 
+static uint8_t answer_given[1400]; /* the responder's last one */
+static size_t answer_size;
+
 /* Gives a packet to a side. */
 static void give(struct side *side, const uint8_t *bytes, size_t length)
 {
-    static uint8_t reply[1400];
     if (!scenario->is_answered || side == &sides[0]) {
         usrsctp_conninput(side, bytes, length, 0);
         return;
     }
-    size_t size = responder_receive(&responder, now * 1000, bytes, length, reply, sizeof reply);
+    const uint32_t tag = responder.association.local_tag;
+    answer_size = responder_receive(&responder, now * 1000, bytes, length, answer_given, sizeof answer_given);
+    if (responder.association.local_tag != tag) {
+        forget_parts();
+        draw_next();
+    }
     if (responder.state != CLOSED)
         take_parts(side);
-    if (size > 0)
-        send_packet(side, reply, size, 0, 0);
+    if (answer_size > 0)
+        send_packet(side, answer_given, answer_size, 0, 0);
 }
 
 /* usrsctp's call: with a message, with an event of streams that changed, or with no data at the end. */
@@ -681,6 +741,9 @@ static int receive(struct socket *socket, union sctp_sockstore from, void *data,
 
 /* ---- the clock, by which usrsctp's timers run too: if they ran faster, it would sometimes not send its last packet again */
 
+/* What a scenario does with a packet before a side gets it: the new size; 0 where it is lost. There is room for MOST bytes. */
+static size_t (*meddle)(const struct side *to, uint8_t *bytes, size_t length);
+
 static void step(void)
 {
     for (int i = 0; i < 2; i++)
@@ -689,8 +752,14 @@ static void step(void)
     now += STEP;
     while (under_way && under_way->due <= now) {
         struct packet *packet = under_way;
+        static uint8_t bytes[MOST];
+        size_t size = packet->size;
         under_way = packet->next;
-        give(packet->to, packet->bytes, packet->size);
+        memcpy(bytes, packet->bytes, size);
+        if (meddle)
+            size = meddle(packet->to, bytes, size);
+        if (size > 0)
+            give(packet->to, bytes, size);
         free(packet);
     }
     usrsctp_handle_timers(STEP);
@@ -713,6 +782,25 @@ static void set(struct socket *socket, int option, const void *value, size_t siz
     REQUIRE(!usrsctp_setsockopt(socket, IPPROTO_SCTP, option, value, (socklen_t)size));
 }
 
+/* Asks for AUTH before chunks of some types. */
+static void authenticate(struct socket *socket)
+{
+    uint32_t words[32] = {0};
+    struct sctp_authkey *key = (struct sctp_authkey *)(void *)words;
+    struct sctp_authkeyid active = {.scact_keynumber = KEY_IDENTIFIER};
+    for (size_t i = 0; i < sizeof authenticated - (scenario->wrong_key != NULL); i++) {
+        struct sctp_authchunk chunk = {.sauth_chunk = authenticated[i]};
+        set(socket, SCTP_AUTH_CHUNK, &chunk, sizeof chunk);
+    }
+    if (scenario->key) {
+        key->sca_keynumber = KEY_IDENTIFIER;
+        key->sca_keylength = (uint16_t)strlen(scenario->key);
+        memcpy(key->sca_key, scenario->key, key->sca_keylength);
+        set(socket, SCTP_AUTH_KEY, key, sizeof *key + key->sca_keylength);
+        set(socket, SCTP_AUTH_ACTIVE_KEY, &active, sizeof active);
+    }
+}
+
 static struct socket *open_socket(struct side *side)
 {
     const int level = 2;
@@ -733,6 +821,8 @@ static struct socket *open_socket(struct side *side)
         set(socket, SCTP_FRAGMENT_INTERLEAVE, &level, sizeof level);
         set(socket, INTERLEAVING_SUPPORTED, &interleaving, sizeof interleaving);
     }
+    if (scenario->is_authenticated)
+        authenticate(socket);
     REQUIRE(!usrsctp_bind(socket, (struct sockaddr *)&address, sizeof address));
     return socket;
 }
@@ -748,15 +838,20 @@ static int32_t state_of(const struct side *side)
     return usrsctp_getsockopt(side->socket, IPPROTO_SCTP, SCTP_STATUS, &status, &size) ? -1 : status.sstat_state;
 }
 
-static void connect_sides(void)
+static void call(void)
 {
     struct sockaddr_conn to = address_of(&sides[0]);
+    sides[0].socket = open_socket(&sides[0]);
+    REQUIRE(usrsctp_connect(sides[0].socket, (struct sockaddr *)&to, sizeof to) < 0 && errno == EINPROGRESS);
+}
+
+static void connect_sides(void)
+{
     if (!scenario->is_answered) {
         sides[1].listener = open_socket(&sides[1]);
         REQUIRE(!usrsctp_listen(sides[1].listener, 1));
     }
-    sides[0].socket = open_socket(&sides[0]);
-    REQUIRE(usrsctp_connect(sides[0].socket, (struct sockaddr *)&to, sizeof to) < 0 && errno == EINPROGRESS);
+    call();
     if (!scenario->is_answered) {
         RUN_UNTIL((sides[1].socket = usrsctp_accept(sides[1].listener, NULL, NULL)));
         REQUIRE(!usrsctp_set_non_blocking(sides[1].socket, 1));
@@ -827,10 +922,471 @@ static void check_kinds(void)
         [PLAIN_SACK] = true, [PLAIN_HEARTBEAT] = true, [PLAIN_HEARTBEAT_ACK] = true, [PLAIN_DATA] = !scenario->is_interleaved,
         [PLAIN_I_DATA] = scenario->is_interleaved, [PLAIN_FORWARD_TSN] = scenario->abandons,
         [PLAIN_RE_CONFIG] = scenario->changes, [PLAIN_ABORT] = scenario->aborts, [PLAIN_SHUTDOWN] = !scenario->aborts,
-        [PLAIN_SHUTDOWN_ACK] = !scenario->aborts, [PLAIN_SHUTDOWN_COMPLETE] = !scenario->aborts};
+        [PLAIN_SHUTDOWN_ACK] = !scenario->aborts, [PLAIN_SHUTDOWN_COMPLETE] = !scenario->aborts,
+        [DCSCTP_CHUNK_AUTH] = scenario->is_authenticated};
     for (int type = 0; type < 256; type++)
         REQUIRE((tally.kinds[type] > 0) == is_due[type]);
-    REQUIRE((tally.blocks > 0) == (scenario->lost > 0) && tally.noisy > tally.packets / 2);
+    REQUIRE((tally.blocks > 0) == (scenario->lost > 0) && (scenario->is_authenticated || tally.noisy > tally.packets / 2));
+}
+
+/* ---- what the RFCs ask of the responder */
+
+static void run_for(uint64_t time)
+{
+    for (uint64_t end = now + time; now < end;)
+        step();
+}
+
+/* Whether a packet begins with a chunk of this type. */
+static bool begins_with(const uint8_t *bytes, size_t length, uint8_t type)
+{
+    return length > PLAIN_HEADER && bytes[PLAIN_HEADER] == type;
+}
+
+/* Whether the responder's last answer has the header of its association's peer, and these chunks: their types, as bytes. */
+static bool answers(const char *types, size_t count)
+{
+    struct plain_item chunk;
+    size_t at = PLAIN_HEADER, i = 0;
+    for (; answer_size > 0 && plain_chunk_at(answer_given, at, answer_size, &chunk); at = chunk.next, i++)
+        if (i == count || chunk.type != (uint8_t)types[i])
+            return false;
+    return i == count;
+}
+
+/* Whether the last answer is one chunk with the T bit, and has the tag of the packet that it answers (section 8.4). */
+static bool answers_blue(const uint8_t *bytes, uint8_t type)
+{
+    return answer_size == PLAIN_HEADER + 4 && begins_with(answer_given, answer_size, type) && answer_given[PLAIN_HEADER + 1] == 1
+        && plain_u32(answer_given + 4) == plain_u32(bytes + 4);
+}
+
+static size_t lose_all(const struct side *to, uint8_t *bytes, size_t length)
+{
+    (void)to, (void)bytes, (void)length;
+    return 0;
+}
+
+/* Loses a chunk's packets on their way to the responder. */
+static uint8_t lost_type;
+
+static size_t lose_type(const struct side *to, uint8_t *bytes, size_t length)
+{
+    return to == &sides[1] && begins_with(bytes, length, lost_type) ? 0 : length;
+}
+
+/* Ends usrsctp's association without a word to the responder. */
+static void crash(void)
+{
+    const struct linger linger = {.l_onoff = 1, .l_linger = 0};
+    meddle = lose_all;
+    REQUIRE(!usrsctp_setsockopt(sides[0].socket, SOL_SOCKET, SO_LINGER, &linger, sizeof linger));
+    usrsctp_close(sides[0].socket);
+    sides[0].socket = NULL;
+    RUN_UNTIL(!under_way);
+    meddle = NULL;
+}
+
+/* Begins a packet to a side in the other's name, under the tag that the side has. */
+static uint8_t written[200];
+static size_t written_size;
+
+#define TO_WRITTEN written, sizeof written, &written_size
+
+static void begin_to(const struct side *side)
+{
+    const struct dcsctp_cookie *it = &responder.association;
+    REQUIRE(!dcsctp_begin(TO_WRITTEN, 5000, 5000, side == &sides[0] ? it->peer_tag : it->local_tag));
+}
+
+static void give_written(struct side *side)
+{
+    seal(written, written_size);
+    give(side, written, written_size);
+}
+
+/* RFC 4895 section 6.3: what comes after an AUTH that isn't right is discarded, and no state changes. Nor does usrsctp take what
+   the responder signs. */
+static void run_wrong_key(void)
+{
+    struct sctp_status status;
+    socklen_t size = sizeof status;
+    connect_sides();
+    RUN_UNTIL(!under_way);
+    const struct responder before = responder;
+    answer_size = 0;
+    plan_messages(&sides[0], 20);
+    for (uint64_t end = now + 20000; now < end; step())
+        REQUIRE(!memcmp(&responder, &before, sizeof before) && answers("", 0));
+    REQUIRE(sides[0].sent > 0 && sides[1].received == 0 && tally.kinds[DCSCTP_CHUNK_AUTH] > 5);
+    REQUIRE(!usrsctp_getsockopt(sides[0].socket, IPPROTO_SCTP, SCTP_STATUS, &status, &size) && status.sstat_unackdata > 0);
+
+    /* What isn't after an AUTH is discarded too (section 6.3); what needn't be isn't. */
+    const struct dcsctp_data data = {.tsn = before.cumulative_tsn + 1, .is_beginning = true};
+    begin_to(&sides[1]);
+    REQUIRE(!dcsctp_add_data(TO_WRITTEN, &data, (const uint8_t *)"a", 1));
+    give_written(&sides[1]);
+    REQUIRE(!memcmp(&responder, &before, sizeof before) && answers("", 0));
+
+    /* Under the responder's own key: another shared key identifier is discarded, and another HMAC identifier reported (section
+       4.1); so is a second AUTH (section 5.1). */
+    const uint16_t identifiers[][2] = {{KEY_IDENTIFIER + 1, SHA_1}, {KEY_IDENTIFIER, 2}, {KEY_IDENTIFIER, SHA_1}};
+    for (int i = 0; i < 4; i++) {
+        const uint16_t *it = identifiers[i < 3 ? i : 2];
+        const struct dcsctp_registered auth = {.short_number = it[0], .second_short_number = it[1], .rest_size = 20};
+        const size_t starts[] = {PLAIN_HEADER, PLAIN_HEADER + 28};
+        begin_to(&sides[1]);
+        for (int k = 0; k < (i == 2 ? 2 : 1); k++)
+            REQUIRE(!dcsctp_add_registered_chunk(TO_WRITTEN, DCSCTP_CHUNK_AUTH, &auth, (const uint8_t[20]){0}, 20));
+        REQUIRE(!dcsctp_add_data(TO_WRITTEN, &data, (const uint8_t *)"a", 1));
+        for (int k = i == 2; k >= 0; k--)
+            REQUIRE(dcsctp_sign_auth(responder.shared_key, responder.shared_key_size, written + starts[k], written_size - starts[k])
+                    == (i != 1));
+        give_written(&sides[1]);
+        if (i == 1) {
+            REQUIRE(answers((const char[]){DCSCTP_CHUNK_AUTH, PLAIN_ERROR}, 2));
+            REQUIRE(!memcmp(answer_given + answer_size - 8, (const uint8_t[]){1, 5, 0, 6, 0, 2, 0, 0}, 8));
+        } else {
+            REQUIRE(i == 3 ? answers((const char[]){DCSCTP_CHUNK_AUTH, PLAIN_SACK}, 2) : answers("", 0));
+        }
+        REQUIRE(!memcmp(&responder, &before, sizeof before) == (i != 3));
+    }
+    crash();
+}
+
+/* Loses the COOKIE ECHO, so that an INIT alone arrives: INIT ACK has a new tag, and nothing changes (section 5.2.2). */
+static void call_anew(void)
+{
+    const struct responder before = responder;
+    const unsigned echoes = tally.kinds[PLAIN_COOKIE_ECHO];
+    lost_type = PLAIN_COOKIE_ECHO;
+    meddle = lose_type;
+    call();
+    RUN_UNTIL(tally.kinds[PLAIN_COOKIE_ECHO] > echoes && !under_way);
+    REQUIRE(answers((const char[]){PLAIN_INIT_ACK}, 1) && plain_u32(answer_given + 16) == before.own.initiate_tag);
+    REQUIRE(before.own.initiate_tag != before.association.local_tag && !memcmp(&responder, &before, sizeof before));
+}
+
+/* A peer that begins anew (sections 5.2.2 and 5.2.4, action A). */
+static void run_restart(void)
+{
+    connect_sides();
+    for (int i = 0; i < 3; i++) {
+        exchange_messages(20);
+        crash();
+        const struct responder before = responder;
+        call_anew();
+        meddle = NULL;
+        RUN_UNTIL(state_of(&sides[0]) == SCTP_ESTABLISHED);
+        REQUIRE(responder.state == ESTABLISHED && responder.association.local_tag == before.own.initiate_tag);
+        REQUIRE(responder.association.peer_tag != before.association.peer_tag);
+    }
+    exchange_messages(20);
+    end_association();
+}
+
+/* Table 12 of section 5.2.4: of the tags and the Tie-Tags of a cookie M is the association's, X another one, and 0 none. The
+   local tag X is the next one's; E is one of an association that has ended. */
+static const char *const table_12[] = {"XXM A", "XX0 -", "XXX -", "MXM B", "MX0 B", "MXX B", "XMM -", "XM0 C", "XMX -",
+                                       "MMM D", "MM0 D", "MMX D", "EXM -", "EX0 -"};
+
+static void run_cookies(void)
+{
+    connect_sides();
+    RUN_UNTIL(!under_way);
+    meddle = lose_all;
+    const struct responder before = responder;
+    const uint32_t next = before.own.initiate_tag;
+    for (size_t i = 0; i < 2 * sizeof table_12 / sizeof *table_12; i++) {
+        const char *row = table_12[i / 2], action = row[4];
+        const bool is_old = i % 2 == 0;
+        struct dcsctp_cookie cookie = before.association;
+        struct kept kept = {0};
+        uint8_t sealed[100];
+        size_t sealed_size;
+        cookie.created = now * 1000 - is_old;
+        cookie.lifespan = 0;
+        cookie.local_tag = row[0] == 'M' ? cookie.local_tag : row[0] == 'X' ? next : next ^ 4;
+        cookie.peer_tag += row[1] != 'M';
+        if (row[2] != '0')
+            kept.local_tie_tag = before.association.local_tag, kept.peer_tie_tag = before.association.peer_tag + (row[2] == 'X');
+        REQUIRE(!dcsctp_seal_cookie(sealed, sizeof sealed, &sealed_size, before.key, sizeof before.key, &cookie,
+                                    (const uint8_t *)&kept, sizeof kept));
+        REQUIRE(!dcsctp_begin(TO_WRITTEN, 5000, 5000, cookie.local_tag));
+        REQUIRE(!dcsctp_add_cookie_echo(TO_WRITTEN, sealed, sealed_size));
+        give_written(&sides[1]);
+        const bool is_taken = !is_old && (action == 'A' || action == 'B');
+        REQUIRE(action == 'D' || is_taken ? answers((const char[]){PLAIN_COOKIE_ACK}, 1)
+                : is_old ? answers((const char[]){PLAIN_ERROR}, 1) && plain_u16(answer_given + 16) == 3
+                : answers("", 0));
+        REQUIRE(!answer_size || plain_u32(answer_given + 4) == cookie.peer_tag);
+        REQUIRE(is_taken || !memcmp(&responder, &before, sizeof before));
+        REQUIRE(responder.state == ESTABLISHED && (!is_taken || (responder.association.local_tag == cookie.local_tag
+                                                                 && responder.association.peer_tag == cookie.peer_tag)));
+        responder = before;
+    }
+
+    /* The last one opens no association where none is; and there is no INIT ACK while no new tag is drawn. */
+    responder.state = CLOSED;
+    give_written(&sides[1]);
+    REQUIRE(responder.state == CLOSED);
+    responder = before;
+    responder.own.initiate_tag = before.association.local_tag;
+    const struct dcsctp_init init = {5, 1 << 20, 1, 1, 1};
+    REQUIRE(!dcsctp_begin(TO_WRITTEN, 5000, 5000, 0) && !dcsctp_add_init(TO_WRITTEN, &init));
+    give_written(&sides[1]);
+    REQUIRE(answers("", 0));
+    responder.own.initiate_tag = next;
+    give_written(&sides[1]);
+    REQUIRE(answers((const char[]){PLAIN_INIT_ACK}, 1));
+    crash();
+}
+
+/* The same while the association shuts down: an INIT gets SHUTDOWN ACK again (section 9.2), and a COOKIE ECHO an ERROR too
+   (section 5.2.4). usrsctp answers that by SHUTDOWN COMPLETE, and its next INIT or COOKIE ECHO opens an association. */
+static void run_shutting_down(void)
+{
+    connect_sides();
+    exchange_messages(20);
+    lost_type = PLAIN_SHUTDOWN_COMPLETE;
+    meddle = lose_type;
+    REQUIRE(!usrsctp_shutdown(sides[0].socket, SHUT_WR));
+    RUN_UNTIL(state_of(&sides[0]) < 0 && !under_way);
+    REQUIRE(responder.state == SHUTDOWN_ACK_SENT);
+    meddle = NULL;
+    usrsctp_close(sides[0].socket);
+    const unsigned calls = tally.kinds[PLAIN_INIT];
+    call();
+    RUN_UNTIL(tally.kinds[PLAIN_INIT] > calls && !under_way);
+    REQUIRE(responder.state == CLOSED && answers("", 0) && tally.kinds[PLAIN_INIT_ACK] == 1);
+    RUN_UNTIL(state_of(&sides[0]) == SCTP_ESTABLISHED);
+    exchange_messages(20);
+
+    crash();
+    call_anew();
+    meddle = lose_all;
+    begin_to(&sides[1]);
+    REQUIRE(!dcsctp_add_shutdown(TO_WRITTEN, responder.association.local_initial_tsn - 1));
+    give_written(&sides[1]);
+    REQUIRE(responder.state == SHUTDOWN_ACK_SENT);
+    RUN_UNTIL(!under_way);
+    meddle = NULL;
+    RUN_UNTIL(answers((const char[]){PLAIN_SHUTDOWN_ACK, PLAIN_ERROR}, 2));
+    REQUIRE(responder.state == SHUTDOWN_ACK_SENT && !memcmp(answer_given + answer_size - 4, (const uint8_t[]){0, 10, 0, 4}, 4));
+    RUN_UNTIL(state_of(&sides[0]) == SCTP_ESTABLISHED);
+    exchange_messages(20);
+    end_association();
+}
+
+/* A COOKIE ECHO that comes too late (section 5.1.5); usrsctp asks for a longer life (section 5.2.6), and gets it. */
+static uint32_t increment; /* that the last INIT asks for, in milliseconds */
+
+static size_t lose_cookies(const struct side *to, uint8_t *bytes, size_t length)
+{
+    struct plain_item init, item;
+    if (to == &sides[1] && begins_with(bytes, length, PLAIN_INIT) && plain_chunk_at(bytes, PLAIN_HEADER, length, &init)) {
+        increment = 0;
+        for (size_t at = init.value + 16; plain_item_at(bytes, at, init.value + init.size, &item); at = item.next)
+            if (item.type == 9)
+                increment = plain_u32(bytes + item.value);
+    }
+    return lose_type(to, bytes, length);
+}
+
+static void run_stale(void)
+{
+    enum { LIFE = COOKIE_LIFE / 1000 };
+    lost_type = PLAIN_COOKIE_ECHO;
+    meddle = lose_cookies;
+    call();
+    RUN_UNTIL(answers((const char[]){PLAIN_INIT_ACK}, 1));
+    uint64_t created = now;
+    REQUIRE(increment == 0);
+    run_for(LIFE);
+    meddle = NULL;
+    RUN_UNTIL(answers((const char[]){PLAIN_ERROR}, 1));
+    REQUIRE(now > created + LIFE && responder.state == CLOSED && plain_are(answer_given + 16, "224", 3, 8, 1000 * (now - created - LIFE)));
+    meddle = lose_cookies;
+    RUN_UNTIL(answers((const char[]){PLAIN_INIT_ACK}, 1));
+    created = now;
+    REQUIRE(increment > 0);
+    run_for(LIFE + 1);
+    meddle = NULL;
+    RUN_UNTIL(state_of(&sides[0]) == SCTP_ESTABLISHED);
+    REQUIRE(now > created + LIFE && now <= created + LIFE + increment + 1000);
+    REQUIRE(responder.association.lifespan == 1000 * (LIFE + (uint64_t)increment));
+    exchange_messages(20);
+    end_association();
+}
+
+/* Sections 3.2 and 3.2.1: what is done with an unknown type, by its two highest-order bits. */
+static const struct unknown {
+    uint8_t chunk;
+    uint16_t parameter;
+    bool is_reported, is_skipped;
+} unknown[] = {
+    {0x3e, 0x3ffe, false, false},
+    {0x7e, 0x7ffe, true, false},
+    {0xbe, 0xbffe, false, true},
+    {0xfe, 0xfffe, true, true},
+}, *added;
+static bool is_added;
+static const uint8_t unknown_value[] = {'a', 'b', 'c', 'd', 'e'}, next_parameter[] = {0xff, 0xfd, 0, 5, 'f'};
+
+/* Adds an unknown parameter and another one to an INIT, or puts an unknown chunk before DATA. */
+static size_t add_unknown(const struct side *to, uint8_t *bytes, size_t length)
+{
+    static uint8_t copy[MOST];
+    size_t size = PLAIN_HEADER;
+    if (to != &sides[1] || is_added)
+        return length;
+    if (begins_with(bytes, length, PLAIN_INIT)) {
+        memcpy(copy, bytes, size = length);
+        REQUIRE(!dcsctp_add_parameter(TO_COPY, PLAIN_HEADER, added->parameter, unknown_value, sizeof unknown_value));
+        REQUIRE(!dcsctp_add_parameter(TO_COPY, PLAIN_HEADER, 0xfffd, next_parameter + 4, 1));
+    } else if (begins_with(bytes, length, PLAIN_DATA)) {
+        memcpy(copy, bytes, size);
+        REQUIRE(!dcsctp_add_chunk(TO_COPY, added->chunk, 0xa5, unknown_value, sizeof unknown_value));
+        memcpy(copy + size, bytes + PLAIN_HEADER, length - PLAIN_HEADER);
+        size += length - PLAIN_HEADER;
+    } else {
+        return length;
+    }
+    is_added = true;
+    seal(copy, size);
+    memcpy(bytes, copy, size);
+    return size;
+}
+
+/* The last item of a type in the last answer's first chunk, of those after `numbers` bytes: where it begins; 0 if there is none. */
+static size_t place_in_answer(size_t numbers, uint16_t type, const uint8_t *value, size_t value_size)
+{
+    struct plain_item chunk, item;
+    size_t found = 0;
+    REQUIRE(plain_chunk_at(answer_given, PLAIN_HEADER, answer_size, &chunk));
+    for (size_t at = chunk.value + numbers; plain_item_at(answer_given, at, chunk.value + chunk.size, &item); at = item.next)
+        if (item.type == type && item.size == value_size && !memcmp(answer_given + item.value, value, value_size))
+            found = at;
+    return found;
+}
+
+static void run_unknown(void)
+{
+    const struct unknown *end = unknown + sizeof unknown / sizeof *unknown;
+    for (added = unknown; added < end; added++) {
+        const uint8_t parameter[] = {(uint8_t)(added->parameter >> 8), 0xfe, 0, 9, 'a', 'b', 'c', 'd', 'e'};
+        const uint8_t chunk[] = {added->chunk, 0xa5, 0, 9, 'a', 'b', 'c', 'd', 'e'};
+        meddle = add_unknown;
+        is_added = false;
+        call();
+        RUN_UNTIL(is_added);
+        REQUIRE(answers((const char[]){PLAIN_INIT_ACK}, 1));
+        REQUIRE((place_in_answer(16, 8, parameter, sizeof parameter) > 0) == added->is_reported);
+        REQUIRE((place_in_answer(16, 8, next_parameter, sizeof next_parameter) > 0) == added->is_skipped);
+        RUN_UNTIL(state_of(&sides[0]) == SCTP_ESTABLISHED && !under_way);
+        const uint32_t tsn = responder.cumulative_tsn;
+        is_added = false;
+        plan_messages(&sides[0], 1);
+        sides[0].messages[sides[0].planned - 1].size = 1; /* one packet */
+        RUN_UNTIL(is_added);
+        REQUIRE((responder.cumulative_tsn != tsn) == added->is_skipped);
+        REQUIRE(answers((const char[]){PLAIN_ERROR, PLAIN_SACK} + !added->is_reported, added->is_reported + added->is_skipped));
+        REQUIRE(!added->is_reported || place_in_answer(0, 6, chunk, sizeof chunk) > 0);
+        exchange_messages(20);
+        end_association();
+        usrsctp_close(sides[0].socket);
+    }
+    sides[0].socket = NULL;
+}
+
+/* Section 8.4: the responder forgets its association as a packet comes that begins with a chunk of some type. */
+static const struct forgotten {
+    uint8_t type;
+    uint8_t answer; /* 0: none */
+} kinds_forgotten[] = {
+    {PLAIN_DATA, PLAIN_ABORT},
+    {PLAIN_SACK, PLAIN_ABORT},
+    {PLAIN_HEARTBEAT, PLAIN_ABORT},
+    {PLAIN_HEARTBEAT_ACK, PLAIN_ABORT},
+    {PLAIN_ABORT, 0},
+    {PLAIN_SHUTDOWN, PLAIN_ABORT},
+    {PLAIN_SHUTDOWN_ACK, PLAIN_SHUTDOWN_COMPLETE},
+    {PLAIN_ERROR, PLAIN_ABORT},
+    {PLAIN_SHUTDOWN_COMPLETE, 0},
+    {PLAIN_RE_CONFIG, PLAIN_ABORT},
+    {PLAIN_FORWARD_TSN, PLAIN_ABORT},
+}, *forgotten;
+static uint8_t blue[MOST];
+static bool is_blue;
+
+static size_t forget(const struct side *to, uint8_t *bytes, size_t length)
+{
+    if (to != &sides[1] || is_blue)
+        return length;
+    if (begins_with(bytes, length, forgotten->type)) {
+        memcpy(blue, bytes, length);
+        is_blue = true;
+        responder.state = CLOSED;
+    }
+    return is_blue || !begins_with(bytes, length, PLAIN_DATA) ? length : 0;
+}
+
+/* Makes usrsctp send such a packet. */
+static void provoke(uint8_t type)
+{
+    const struct dcsctp_data data = {.tsn = responder.association.local_initial_tsn, .is_beginning = true};
+    struct sctp_reset_streams request = {.srs_flags = SCTP_STREAM_RESET_OUTGOING};
+    struct sctp_sndinfo info = {.snd_flags = SCTP_ABORT};
+    begin_to(&sides[0]);
+    switch (type) {
+    case PLAIN_FORWARD_TSN: case PLAIN_DATA:
+        plan_messages(&sides[0], 1);
+        sides[0].messages[sides[0].planned - 1].may_be_lost = true;
+        return;
+    case PLAIN_SHUTDOWN: case PLAIN_SHUTDOWN_COMPLETE: REQUIRE(!usrsctp_shutdown(sides[0].socket, SHUT_WR)); return;
+    case PLAIN_ABORT: usrsctp_sendv(sides[0].socket, "a", 1, NULL, 0, &info, sizeof info, SCTP_SENDV_SNDINFO, 0); return;
+    case PLAIN_RE_CONFIG: set(sides[0].socket, SCTP_RESET_STREAMS, &request, sizeof request); return;
+    case PLAIN_HEARTBEAT: return; /* it comes by itself */
+    case PLAIN_SACK: REQUIRE(!dcsctp_add_data(TO_WRITTEN, &data, (const uint8_t *)"a", 1)); break;
+    case PLAIN_HEARTBEAT_ACK: REQUIRE(!dcsctp_add_heartbeat(TO_WRITTEN, false, (const uint8_t *)"a", 1)); break;
+    case PLAIN_SHUTDOWN_ACK: REQUIRE(!dcsctp_add_shutdown(TO_WRITTEN, responder.association.peer_initial_tsn - 1)); break;
+    case PLAIN_ERROR: REQUIRE(!dcsctp_add_chunk(TO_WRITTEN, 0x7e, 0, NULL, 0)); break;
+    }
+    give_written(&sides[0]);
+}
+
+static void run_forgotten(void)
+{
+    const struct forgotten *end = kinds_forgotten + sizeof kinds_forgotten / sizeof *kinds_forgotten;
+    for (forgotten = kinds_forgotten; forgotten < end; forgotten++) {
+        connect_sides();
+        RUN_UNTIL(!under_way);
+        is_blue = false;
+        meddle = forget;
+        provoke(forgotten->type);
+        RUN_UNTIL(is_blue);
+        REQUIRE(forgotten->answer ? answers_blue(blue, forgotten->answer) : answers("", 0));
+        REQUIRE(responder.state == CLOSED);
+        run_for(30); /* the answer is under way for 10 ms */
+        REQUIRE(state_of(&sides[0]) < 0);
+        usrsctp_close(sides[0].socket);
+        RUN_UNTIL(!under_way);
+        meddle = NULL;
+    }
+    sides[0].socket = NULL;
+}
+
+static void run_association(size_t messages)
+{
+    connect_sides();
+    exchange_messages(messages);
+    RUN_UNTIL(tally.kinds[PLAIN_HEARTBEAT_ACK] && !under_way); /* an idle association asks after half a minute */
+    if (scenario->changes) {
+        change_streams();
+        exchange_messages((messages + 4) / 5);
+    }
+    end_association();
+    check_kinds();
 }
 
 static void run_scenario(size_t messages, uint64_t seed)
@@ -847,15 +1403,11 @@ static void run_scenario(size_t messages, uint64_t seed)
     }
     if (scenario->is_answered)
         begin_responder(2 * messages);
-    connect_sides();
-    exchange_messages(messages);
-    RUN_UNTIL(tally.kinds[PLAIN_HEARTBEAT_ACK] && !under_way); /* an idle association asks after half a minute */
-    if (scenario->changes) {
-        change_streams();
-        exchange_messages((messages + 4) / 5);
-    }
-    end_association();
-    check_kinds();
+    if (scenario->run)
+        scenario->run();
+    else
+        run_association(messages);
+    meddle = NULL;
     printf("interop: %s: %u packets (%u lost) of %u chunks; %u with a flipped bit dropped; %u passed as sent, %u of them with"
            " noise; the filter took %.0f ns for both; %zu and %zu messages of %zu each\n", scenario->name, tally.packets, tally.lost, tally.chunks,
            tally.packets, tally.packets, tally.noisy, tally.filtering / tally.packets, sides[1].received, sides[0].received,
