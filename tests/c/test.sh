@@ -9,8 +9,8 @@ Builds the C library, and tries it: the header against the library, the examples
 at the edges, associations of a real stack, and a million packets that are made at random, or PACKETS. The last line is:
 c: N passed, M failed.
 
-Without the toolchain the library is that of the text in dist/. Needed are what tools/build.sh needs. Python, C++, pkg-config and
-usrsctp are used where they are there.'
+Without the toolchain the library is that of the text in dist/. Needed are what tools/build.sh needs. Python, C++, pkg-config,
+valgrind and usrsctp are used where they are there.'
 
 case ${1:-1000000} in
     *[!0-9]*)
@@ -213,6 +213,28 @@ authenticated() {
     compile_sanitized -pedantic -Werror -o "$work/auth" tests/c/auth.c "$prefix/lib/libdcsctp.a" && "$work/auth"
 }
 
+# Whether there are as many different counts of a call's instructions, or of those of `control`, for HMACs that are wrong in these
+# places.
+counts() {
+    local symbol=$1 name=$2 wanted=$3 place
+    shift 3
+    for place in "$@"; do
+        valgrind --tool=callgrind --callgrind-out-file=/dev/null --toggle-collect="$symbol" "$work/same_time" "$name" "$place" \
+            2>"$work/counted" | tr '\n' ' '
+        sed -n 's/.* Collected : //p' "$work/counted"
+    done | sort -u >"$work/counts"
+    sed "s/^/$name: /" "$work/counts"
+    [ "$(wc -l <"$work/counts")" -eq "$wanted" ] && [ "$(grep -c '^wrong [1-9]' "$work/counts")" -eq "$wanted" ]
+}
+
+same_time() {
+    compile -pedantic -Werror -o "$work/same_time" tests/c/same_time.c "$prefix/lib/libdcsctp.a" &&
+        counts dcsctp_verify_auth verify_auth_1 1 0 10 19 all &&
+        counts dcsctp_verify_auth verify_auth_3 1 0 16 31 all &&
+        counts dcsctp_open_cookie open_cookie 1 0 16 31 all &&
+        counts control control 3 0 16 31
+}
+
 # By the Python that has scapy: that of Debian's package may not be the first on PATH.
 multihomed() {
     local python=python3
@@ -287,6 +309,11 @@ try 'calls on captured packets and at the edges, and each allocation refused' ed
 try "what IANA's registry has beyond the kinds, field by field" registered
 try "what is asked of whoever receives a packet, sentence by sentence" receive
 try 'State Cookies, AUTH chunks and shared keys, beside Python' authenticated
+if has valgrind; then
+    try 'HMACs take the same instructions to compare, wherever they differ' same_time
+else
+    left_out valgrind 'the instructions that it takes to compare HMACs'
+fi
 if has python3; then
     try 'the example with several addresses, beside Python, scapy and tshark' multihomed
 else
