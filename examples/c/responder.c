@@ -5,7 +5,7 @@
 #include <dcsctp.h>
 #include <string.h>
 
-enum { COOKIE_LIFE = 60000000, MOST_BLOCKS = 64, MOST_DUPLICATES = 16, MOST_KEPT = 512, SHA_1 = 1, SHA_256 = 3 };
+enum { COOKIE_LIFE = 60000000, MOST_BLOCKS = 64, MOST_DUPLICATES = 16, MOST_KEPT = 1024, SHA_1 = 1, SHA_256 = 3 };
 
 /* Bytes of the caller's. */
 struct bytes {
@@ -63,8 +63,8 @@ static bool is_skipped(uint32_t action)
     return action == DCSCTP_ACTION_SKIP || action == DCSCTP_ACTION_SKIP_AND_REPORT;
 }
 
-/* Adds the parameters of AUTH to the INIT ACK. */
-static bool add_auth_parameters(const struct responder *r, struct exchange *x)
+/* Adds this end's parameters of AUTH to the first chunk, in the order of a key vector (RFC 4895 section 6.1). */
+static bool add_own_auth(const struct responder *r, struct exchange *x)
 {
     const uint8_t hmacs[] = {0, SHA_256, 0, SHA_1}; /* the first is preferred */
     return !dcsctp_add_parameter(TO(x), DCSCTP_FIRST_CHUNK, DCSCTP_PARAMETER_RANDOM, r->random, sizeof r->random)
@@ -72,21 +72,47 @@ static bool add_auth_parameters(const struct responder *r, struct exchange *x)
         && !dcsctp_add_parameter(TO(x), DCSCTP_FIRST_CHUNK, DCSCTP_PARAMETER_REQUESTED_HMAC_ALGORITHM, hmacs, sizeof hmacs);
 }
 
-/* Writes the key vector of a packet with INIT or INIT ACK: some of its parameters, in this order (RFC 4895 section 6.1). Returns
-   its size. */
-static size_t key_vector(const uint8_t *bytes, size_t length, uint8_t *vector, size_t room)
+/* Adds those of an INIT likewise. */
+static bool add_peer_auth(const struct exchange *init, struct exchange *x)
 {
     const uint16_t types[] = {DCSCTP_PARAMETER_RANDOM, DCSCTP_PARAMETER_CHUNK_LIST, DCSCTP_PARAMETER_REQUESTED_HMAC_ALGORITHM};
-    struct dcsctp_chunk chunk;
     struct dcsctp_parameter it;
-    size_t size = 0;
-    for (int i = 0; i < 3 && dcsctp_chunk_at(bytes, length, DCSCTP_FIRST_CHUNK, &chunk); i++)
-        for (size_t at = dcsctp_list_offset(&chunk); dcsctp_parameter_at(bytes, length, &chunk, at, &it); at = it.next) {
-            const size_t whole = it.value_offset + it.value_size - at;
-            if (it.type == types[i] && whole <= room - size)
-                memcpy(vector + size, bytes + at, whole), size += whole;
-        }
-    return size;
+    for (int i = 0; i < 3; i++)
+        for (size_t at = dcsctp_list_offset(&init->chunk); dcsctp_parameter_at(CHUNK(init), at, &it); at = it.next)
+            if (it.type == types[i] && dcsctp_add_parameter(TO(x), DCSCTP_FIRST_CHUNK, it.type, init->bytes + it.value_offset,
+                                                            it.value_size))
+                return false;
+    return true;
+}
+
+/* Writes the Tie-Tags (section 5.2.2): a State Cookie with the numbers of the association that is there. */
+static bool seal_ties(const struct responder *r, uint8_t ties[72])
+{
+    size_t size;
+    return !dcsctp_seal_cookie(ties, 72, &size, r->key, sizeof r->key, &r->association, NULL, 0);
+}
+
+/* Writes what the cookie for an INIT holds after its numbers, as the parameters of a chunk: the Tie-Tags, if there is an
+   association, and the parameters of AUTH of both ends. */
+static bool write_kept(const struct responder *r, const struct exchange *init, struct exchange *x)
+{
+    uint8_t ties[72];
+    return !dcsctp_begin(TO(x), 0, 0, 0) && !dcsctp_add_chunk(TO(x), DCSCTP_CHUNK_HEARTBEAT, 0, NULL, 0)
+        && (r->state == CLOSED
+            || (seal_ties(r, ties)
+                && !dcsctp_add_parameter(TO(x), DCSCTP_FIRST_CHUNK, DCSCTP_PARAMETER_STATE_COOKIE, ties, sizeof ties)))
+        && (r->listed.size == 0 || (add_own_auth(r, x) && add_peer_auth(init, x)))
+        && dcsctp_chunk_at(x->packet, x->size, DCSCTP_FIRST_CHUNK, &x->chunk);
+}
+
+/* Whether an INIT has a Random that doesn't have 32 bytes. */
+static bool has_wrong_random(const struct exchange *x)
+{
+    struct dcsctp_parameter it;
+    for (size_t at = dcsctp_list_offset(&x->chunk); dcsctp_parameter_at(CHUNK(x), at, &it); at = it.next)
+        if (it.type == DCSCTP_PARAMETER_RANDOM && it.value_size != 32)
+            return true;
+    return false;
 }
 
 /* Returns how long the cookie is good that answers an INIT: longer, if that asks for it (section 3.3.2.1.3), but not too long. */
@@ -99,12 +125,6 @@ static uint64_t lifespan(const struct exchange *x)
             return COOKIE_LIFE + (increment < COOKIE_LIFE / 1000 ? increment * UINT64_C(1000) : COOKIE_LIFE);
     return COOKIE_LIFE;
 }
-
-/* What is sealed in a State Cookie after its numbers: this, and the key vectors of both ends. */
-struct kept {
-    uint32_t local_tie_tag, peer_tie_tag; /* the tags of the association that is there; 0 if none is (section 5.2.2) */
-    uint32_t own_vector_size;
-};
 
 /* Answers what comes anew while the association shuts down: the peer hasn't got the SHUTDOWN ACK's answer through, or has begun
    anew (sections 9.2 and 5.2.4). */
@@ -129,9 +149,9 @@ static bool answer_init(const struct responder *r, uint64_t now, struct exchange
     const uint32_t fault = dcsctp_init_fault(x->bytes, x->length, false);
     struct dcsctp_init peer;
     struct dcsctp_parameter it;
-    struct kept kept = {0};
-    uint8_t rest[MOST_KEPT], sealed[72 + MOST_KEPT];
-    size_t rest_size = sizeof kept, sealed_size;
+    uint8_t kept_bytes[MOST_KEPT], sealed[72 + MOST_KEPT];
+    struct exchange kept = {.packet = kept_bytes, .room = sizeof kept_bytes};
+    size_t sealed_size;
     if (!dcsctp_init(CHUNK(x), &peer) || (r->state != CLOSED && (!has_its_ports(r, x)
                                                                  || r->own.initiate_tag == r->association.local_tag)))
         return false;
@@ -140,23 +160,20 @@ static bool answer_init(const struct responder *r, uint64_t now, struct exchange
             && !dcsctp_init_abort(TO(x), &x->header, peer.initiate_tag, fault);
     if (r->state == SHUTDOWN_ACK_SENT)
         return answer_shutting_down(r, x);
+    if (has_auth && has_wrong_random(x)) /* RFC 4895 section 6.1 */
+        return !dcsctp_begin(TO(x), x->header.destination_port, x->header.source_port, peer.initiate_tag)
+            && !dcsctp_add_chunk(TO(x), DCSCTP_CHUNK_ABORT, 0, NULL, 0)
+            && !dcsctp_add_parameter(TO(x), DCSCTP_FIRST_CHUNK, DCSCTP_CAUSE_PROTOCOL_VIOLATION, NULL, 0);
     const struct dcsctp_cookie cookie = {
         .created = now, .lifespan = lifespan(x), .local_tag = r->own.initiate_tag, .peer_tag = peer.initiate_tag,
         .local_initial_tsn = r->own.initial_tsn, .peer_initial_tsn = peer.initial_tsn, .local_port = x->header.destination_port,
         .peer_port = x->header.source_port, .outbound_streams = r->own.outbound_streams,
         .inbound_streams = peer.outbound_streams};
-    if (dcsctp_begin(TO(x), cookie.local_port, cookie.peer_port, cookie.peer_tag) || dcsctp_add_init_ack(TO(x), &r->own))
-        return false;
-    if (r->state != CLOSED)
-        kept.local_tie_tag = r->association.local_tag, kept.peer_tie_tag = r->association.peer_tag;
-    if (has_auth) {
-        const size_t own_size = add_auth_parameters(r, x) ? key_vector(x->packet, x->size, rest + rest_size, MOST_KEPT / 2) : 0;
-        kept.own_vector_size = (uint32_t)own_size;
-        rest_size += own_size;
-        rest_size += key_vector(x->bytes, x->length, rest + rest_size, MOST_KEPT - rest_size);
-    }
-    memcpy(rest, &kept, sizeof kept);
-    if (dcsctp_seal_cookie(sealed, sizeof sealed, &sealed_size, r->key, sizeof r->key, &cookie, rest, rest_size)
+    if (!write_kept(r, x, &kept)
+        || dcsctp_seal_cookie(sealed, sizeof sealed, &sealed_size, r->key, sizeof r->key, &cookie,
+                              kept.packet + kept.chunk.value_offset, kept.chunk.value_size)
+        || dcsctp_begin(TO(x), cookie.local_port, cookie.peer_port, cookie.peer_tag) || dcsctp_add_init_ack(TO(x), &r->own)
+        || (has_auth && !add_own_auth(r, x))
         || dcsctp_add_parameter(TO(x), DCSCTP_FIRST_CHUNK, DCSCTP_PARAMETER_STATE_COOKIE, sealed, sealed_size)
         || dcsctp_add_parameter(TO(x), DCSCTP_FIRST_CHUNK, DCSCTP_PARAMETER_SUPPORTED_EXTENSIONS, extensions,
                                 sizeof extensions - !has_auth)
@@ -190,46 +207,55 @@ static bool answer_stale(const struct dcsctp_cookie *cookie, uint64_t staleness,
         && !dcsctp_add_registered_cause(TO(x), DCSCTP_FIRST_CHUNK, DCSCTP_CAUSE_STALE_COOKIE, &cause, NULL, 0);
 }
 
-/* Takes the key vectors of both ends: the association shared key, and what the peer asks for. */
-static void open_auth(struct responder *r, const uint8_t *own, size_t own_size, const uint8_t *peer, size_t peer_size)
+/* Takes the parameters of AUTH from what a cookie holds after its numbers, first the three of this end: they are the key vectors,
+   without padding. */
+static void open_auth(struct responder *r, const uint8_t *kept, size_t size)
 {
+    uint8_t vectors[2][MOST_KEPT];
+    size_t sizes[2] = {0, 0}, count = 0;
     uint16_t hmacs[8];
     struct dcsctp_parameter it;
-    bool is_random = false;
+    bool has_random = false;
     r->shared_key_size = r->peer_listed_size = r->hmac = 0;
-    for (size_t at = 0; dcsctp_item_at(peer, peer_size, at, &it); at = it.value_offset + it.value_size) { /* (no padding) */
-        is_random = is_random || (it.type == DCSCTP_PARAMETER_RANDOM && it.value_size == sizeof r->random);
-        if (it.type == DCSCTP_PARAMETER_CHUNK_LIST && it.value_size <= sizeof r->peer_listed)
-            memcpy(r->peer_listed, peer + it.value_offset, r->peer_listed_size = it.value_size);
-        if (it.type == DCSCTP_PARAMETER_REQUESTED_HMAC_ALGORITHM)
-            for (size_t i = dcsctp_short_numbers(peer, peer_size, &it, hmacs, 8); i-- > 0;)
-                r->hmac = hmacs[i] == SHA_1 || hmacs[i] == SHA_256 ? hmacs[i] : r->hmac; /* the first of these */
+    for (size_t at = 0; size <= MOST_KEPT && dcsctp_item_at(kept, size, at, &it); at = it.next) {
+        const size_t whole = it.value_offset + it.value_size - at, i = count >= 3;
+        if (it.type == DCSCTP_PARAMETER_STATE_COOKIE)
+            continue;
+        memcpy(vectors[i] + sizes[i], kept + at, whole);
+        sizes[i] += whole;
+        count++;
+        has_random = has_random || (i == 1 && it.type == DCSCTP_PARAMETER_RANDOM);
+        if (i == 1 && it.type == DCSCTP_PARAMETER_CHUNK_LIST && it.value_size <= sizeof r->peer_listed)
+            memcpy(r->peer_listed, kept + it.value_offset, r->peer_listed_size = it.value_size);
+        if (i == 1 && it.type == DCSCTP_PARAMETER_REQUESTED_HMAC_ALGORITHM)
+            for (size_t k = dcsctp_short_numbers(kept, size, &it, hmacs, 8); k-- > 0;)
+                r->hmac = hmacs[k] == SHA_1 || hmacs[k] == SHA_256 ? hmacs[k] : r->hmac; /* the first of these */
     }
-    if (is_random && r->hmac != 0)
-        dcsctp_shared_key(r->shared_key, sizeof r->shared_key, &r->shared_key_size, r->pair_key.at, r->pair_key.size, own,
-                          own_size, peer, peer_size);
+    if (has_random && r->hmac != 0)
+        dcsctp_shared_key(r->shared_key, sizeof r->shared_key, &r->shared_key_size, r->pair_key.at, r->pair_key.size, vectors[0],
+                          sizes[0], vectors[1], sizes[1]);
 }
 
 /* Opens the association of a COOKIE ECHO, also if the peer begins anew; one that is open stays. Returns whether it is open; if
    not, what answers is written where there is an answer. */
 static bool open_association(struct responder *r, uint64_t now, struct exchange *x)
 {
-    const uint8_t *rest = x->bytes + x->chunk.value_offset;
+    const uint8_t *kept = x->bytes + x->chunk.value_offset;
     struct dcsctp_cookie cookie;
-    struct kept kept;
+    struct dcsctp_parameter it;
+    uint8_t ties[72];
     uint64_t staleness;
-    const uint32_t state = dcsctp_open_cookie(r->key, sizeof r->key, rest, x->chunk.value_size, now, &cookie, &staleness);
+    bool is_tied = false;
+    const uint32_t state = dcsctp_open_cookie(r->key, sizeof r->key, kept, x->chunk.value_size, now, &cookie, &staleness);
     if (state == DCSCTP_COOKIE_INVALID || x->header.verification_tag != cookie.local_tag
-        || x->header.destination_port != cookie.local_port || x->header.source_port != cookie.peer_port
-        || cookie.addresses_size < sizeof kept)
+        || x->header.destination_port != cookie.local_port || x->header.source_port != cookie.peer_port || !seal_ties(r, ties))
         return false;
-    memcpy(&kept, rest + cookie.addresses_offset, sizeof kept);
-    rest += cookie.addresses_offset + sizeof kept;
-    const size_t rest_size = cookie.addresses_size - sizeof kept;
+    kept += cookie.addresses_offset;
+    for (size_t at = 0; dcsctp_item_at(kept, cookie.addresses_size, at, &it); at = it.next)
+        is_tied = is_tied || (it.value_size == sizeof ties && !memcmp(kept + it.value_offset, ties, sizeof ties));
     const bool is_there = r->state != CLOSED, is_next = cookie.local_tag == r->own.initiate_tag;
     const bool is_local = is_there && cookie.local_tag == r->association.local_tag;
     const bool is_peers = is_there && cookie.peer_tag == r->association.peer_tag;
-    const bool is_tied = kept.local_tie_tag == r->association.local_tag && kept.peer_tie_tag == r->association.peer_tag;
     if (is_local && is_peers) /* however old the cookie is (section 5.2.4, action D) */
         return true;
     if (state == DCSCTP_COOKIE_STALE) {
@@ -249,8 +275,7 @@ static bool open_association(struct responder *r, uint64_t now, struct exchange 
     r->cumulative_tsn = cookie.peer_initial_tsn - 1;
     r->next_request = cookie.peer_initial_tsn; /* RFC 6525 section 5.1.1 */
     r->block_count = r->duplicate_count = 0;
-    if (kept.own_vector_size <= rest_size)
-        open_auth(r, rest, kept.own_vector_size, rest + kept.own_vector_size, rest_size - kept.own_vector_size);
+    open_auth(r, kept, cookie.addresses_size);
     return true;
 }
 

@@ -2,7 +2,7 @@
 /* Two sockets of usrsctp, a real stack of SCTP, talk to each other in one process, with the library between them; or one calls
    examples/c/responder.c.
 
-   usage: interop [SCENARIO ..] [--messages N] [--seed N]
+   usage: interop [SCENARIO ..] [--messages N] [--seed N] [--rows FILE]
 
    Each packet is checked as by a socket, read by every reader and compared with plain_reader.h, written anew from what was read,
    and dropped by examples/c/filter.c with a bit changed. Then noise goes into every bit that a receiver ignores, and the other
@@ -83,6 +83,7 @@ static const struct scenario scenarios[] = {
 enum { SCENARIOS = sizeof scenarios / sizeof *scenarios };
 
 static const struct scenario *scenario = &scenarios[0];
+static FILE *rows;   /* what passes at the responder is written there, with short messages */
 static uint64_t now; /* the clock, in milliseconds */
 
 /* What passed in the scenario. */
@@ -536,7 +537,7 @@ static void plan_messages(struct side *side, size_t count)
 {
     for (; count > 0; count--) {
         struct message *message = &side->messages[side->planned++];
-        size_t limit = below(10) < 7 ? 300 : below(3) ? 3000 : LARGEST;
+        size_t limit = rows ? 40 : below(10) < 7 ? 300 : below(3) ? 3000 : LARGEST;
         *message = (struct message){.seed = draw(&state) | 1, .size = 1 + below(limit)};
         message->stream = (uint16_t)below(side->streams);
         message->is_unordered = below(5) == 0;
@@ -649,6 +650,58 @@ static void take_parts(struct side *side)
     }
 }
 
+/* ---- what passes at the responder, as rows for those in other languages (bindings/rust/examples/responder.txt) */
+
+static uint8_t answer_given[1400]; /* the responder's last one */
+static size_t answer_size;
+
+static void write_bytes(const uint8_t *bytes, size_t size)
+{
+    fputc(' ', rows);
+    for (size_t i = 0; i < size; i++)
+        fprintf(rows, "%02x", bytes[i]);
+    fputs(size ? "" : "-", rows);
+}
+
+static void write_next(void)
+{
+    if (rows) {
+        fprintf(rows, "next %08x %08x", responder.own.initiate_tag, responder.own.initial_tsn);
+        write_bytes(responder.random, scenario->is_authenticated ? sizeof responder.random : 0);
+        fputc('\n', rows);
+    }
+}
+
+static void write_new(void)
+{
+    if (rows) {
+        fprintf(rows, "# %s\nnew %u", scenario->name, responder.pair_key_identifier);
+        write_bytes(responder.pair_key.at, responder.pair_key.size);
+        write_bytes(responder.listed.at, responder.listed.size);
+        write_bytes(responder.key, sizeof responder.key);
+        fputc('\n', rows);
+        write_next();
+    }
+}
+
+static void write_word(const char *word)
+{
+    if (rows)
+        fprintf(rows, "%s\n", word);
+}
+
+static void write_row(const uint8_t *bytes, size_t length)
+{
+    if (rows) {
+        fprintf(rows, "%llu", (unsigned long long)now * 1000);
+        write_bytes(bytes, length);
+        write_bytes(answer_given, answer_size);
+        fputc('\n', rows);
+    }
+}
+
+/* ---- the beginning and the end of the responder */
+
 static const uint8_t authenticated[] = {PLAIN_DATA, PLAIN_SACK, PLAIN_HEARTBEAT, PLAIN_HEARTBEAT_ACK, PLAIN_ABORT,
     PLAIN_SHUTDOWN, PLAIN_SHUTDOWN_ACK, PLAIN_ERROR, PLAIN_RE_CONFIG, PLAIN_COOKIE_ACK};
 
@@ -675,6 +728,7 @@ static void begin_responder(size_t messages)
         responder.pair_key = (struct bytes){(const uint8_t *)key, strlen(key)};
         responder.pair_key_identifier = KEY_IDENTIFIER;
     }
+    write_new();
     part_room = messages * (2 + LARGEST / 400);
     part_count = 0;
     parts = calloc(part_room, sizeof *parts);
@@ -697,9 +751,6 @@ static void end_responder(void)
     parts = NULL;
 }
 
-static uint8_t answer_given[1400]; /* the responder's last one */
-static size_t answer_size;
-
 /* Gives a packet to a side. */
 static void give(struct side *side, const uint8_t *bytes, size_t length)
 {
@@ -709,9 +760,11 @@ static void give(struct side *side, const uint8_t *bytes, size_t length)
     }
     const uint32_t tag = responder.association.local_tag;
     answer_size = responder_receive(&responder, now * 1000, bytes, length, answer_given, sizeof answer_given);
+    write_row(bytes, length);
     if (responder.association.local_tag != tag) {
         forget_parts();
         draw_next();
+        write_next();
     }
     if (responder.state != CLOSED)
         take_parts(side);
@@ -1018,7 +1071,7 @@ static void run_wrong_key(void)
     plan_messages(&sides[0], 20);
     for (uint64_t end = now + 20000; now < end; step())
         REQUIRE(!memcmp(&responder, &before, sizeof before) && answers("", 0));
-    REQUIRE(sides[0].sent > 0 && sides[1].received == 0 && tally.kinds[DCSCTP_CHUNK_AUTH] > 5);
+    REQUIRE(sides[0].sent > 0 && sides[1].received == 0 && tally.kinds[DCSCTP_CHUNK_AUTH] > 2);
     REQUIRE(!usrsctp_getsockopt(sides[0].socket, IPPROTO_SCTP, SCTP_STATUS, &status, &size) && status.sstat_unackdata > 0);
 
     /* What isn't after an AUTH is discarded too (section 6.3); what needn't be isn't. */
@@ -1051,6 +1104,14 @@ static void run_wrong_key(void)
         }
         REQUIRE(!memcmp(&responder, &before, sizeof before) == (i != 3));
     }
+
+    /* A Random of another size than 32 bytes (section 6.1). */
+    const struct dcsctp_init init = {5, 1 << 20, 1, 1, 1};
+    REQUIRE(!dcsctp_begin(TO_WRITTEN, 5000, 5000, 0) && !dcsctp_add_init(TO_WRITTEN, &init));
+    REQUIRE(!dcsctp_add_parameter(TO_WRITTEN, PLAIN_HEADER, DCSCTP_PARAMETER_RANDOM, responder.random, 31));
+    give_written(&sides[1]);
+    REQUIRE(answers((const char[]){PLAIN_ABORT}, 1) && plain_u32(answer_given + 4) == 5);
+    REQUIRE(!memcmp(answer_given + answer_size - 4, (const uint8_t[]){0, 13, 0, 4}, 4));
     crash();
 }
 
@@ -1095,23 +1156,24 @@ static void run_cookies(void)
     connect_sides();
     RUN_UNTIL(!under_way);
     meddle = lose_all;
+    write_word("save");
     const struct responder before = responder;
     const uint32_t next = before.own.initiate_tag;
     for (size_t i = 0; i < 2 * sizeof table_12 / sizeof *table_12; i++) {
         const char *row = table_12[i / 2], action = row[4];
         const bool is_old = i % 2 == 0;
         struct dcsctp_cookie cookie = before.association;
-        struct kept kept = {0};
-        uint8_t sealed[100];
+        struct responder tied = before;
+        uint8_t sealed[72 + 76], ties[76] = {0, DCSCTP_PARAMETER_STATE_COOKIE, 0, sizeof ties};
         size_t sealed_size;
         cookie.created = now * 1000 - is_old;
         cookie.lifespan = 0;
         cookie.local_tag = row[0] == 'M' ? cookie.local_tag : row[0] == 'X' ? next : next ^ 4;
         cookie.peer_tag += row[1] != 'M';
-        if (row[2] != '0')
-            kept.local_tie_tag = before.association.local_tag, kept.peer_tie_tag = before.association.peer_tag + (row[2] == 'X');
-        REQUIRE(!dcsctp_seal_cookie(sealed, sizeof sealed, &sealed_size, before.key, sizeof before.key, &cookie,
-                                    (const uint8_t *)&kept, sizeof kept));
+        tied.association.peer_tag += row[2] == 'X';
+        REQUIRE(seal_ties(&tied, ties + 4));
+        REQUIRE(!dcsctp_seal_cookie(sealed, sizeof sealed, &sealed_size, before.key, sizeof before.key, &cookie, ties,
+                                    row[2] == '0' ? 0 : sizeof ties));
         REQUIRE(!dcsctp_begin(TO_WRITTEN, 5000, 5000, cookie.local_tag));
         REQUIRE(!dcsctp_add_cookie_echo(TO_WRITTEN, sealed, sealed_size));
         give_written(&sides[1]);
@@ -1124,19 +1186,24 @@ static void run_cookies(void)
         REQUIRE(responder.state == ESTABLISHED && (!is_taken || (responder.association.local_tag == cookie.local_tag
                                                                  && responder.association.peer_tag == cookie.peer_tag)));
         responder = before;
+        write_word("restore");
     }
 
     /* The last one opens no association where none is; and there is no INIT ACK while no new tag is drawn. */
     responder.state = CLOSED;
+    write_word("forget");
     give_written(&sides[1]);
     REQUIRE(responder.state == CLOSED);
     responder = before;
     responder.own.initiate_tag = before.association.local_tag;
+    write_word("restore");
+    write_next();
     const struct dcsctp_init init = {5, 1 << 20, 1, 1, 1};
     REQUIRE(!dcsctp_begin(TO_WRITTEN, 5000, 5000, 0) && !dcsctp_add_init(TO_WRITTEN, &init));
     give_written(&sides[1]);
     REQUIRE(answers("", 0));
     responder.own.initiate_tag = next;
+    write_next();
     give_written(&sides[1]);
     REQUIRE(answers((const char[]){PLAIN_INIT_ACK}, 1));
     crash();
@@ -1327,6 +1394,7 @@ static size_t forget(const struct side *to, uint8_t *bytes, size_t length)
         memcpy(blue, bytes, length);
         is_blue = true;
         responder.state = CLOSED;
+        write_word("forget");
     }
     return is_blue || !begins_with(bytes, length, PLAIN_DATA) ? length : 0;
 }
@@ -1397,12 +1465,12 @@ static void run_scenario(size_t messages, uint64_t seed)
     usrsctp_init_nothreads(0, send_packet, NULL);
     usrsctp_sysctl_set_sctp_recvspace(1 << 20); /* I-DATA needs room for a part of a message on each stream */
     for (int i = 0; i < 2; i++) {
-        sides[i] = (struct side){.streams = STREAMS, .messages = calloc(2 * messages, sizeof *sides[i].messages)};
+        sides[i] = (struct side){.streams = STREAMS, .messages = calloc(2 * messages + 200, sizeof *sides[i].messages)};
         REQUIRE(sides[i].messages);
         usrsctp_register_address(&sides[i]);
     }
     if (scenario->is_answered)
-        begin_responder(2 * messages);
+        begin_responder(2 * messages + 200);
     if (scenario->run)
         scenario->run();
     else
@@ -1429,7 +1497,7 @@ static void run_scenario(size_t messages, uint64_t seed)
 
 static int give_up(void)
 {
-    fputs("usage: interop [SCENARIO ..] [--messages N] [--seed N]\nscenarios:", stderr);
+    fputs("usage: interop [SCENARIO ..] [--messages N] [--seed N] [--rows FILE]\nscenarios:", stderr);
     for (int i = 0; i < SCENARIOS; i++)
         fprintf(stderr, " %s%s", scenarios[i].name, scenarios[i].is_short ? "*" : "");
     fputs("\n1,000 messages go each way; where none is named, those with a star run, with 200 if both sides are usrsctp\n", stderr);
@@ -1449,6 +1517,8 @@ int main(int count, char **words)
             messages = strtoul(words[++i], NULL, 10);
         else if (!strcmp(words[i], "--seed") && i + 1 < count)
             seed = strtoul(words[++i], NULL, 10);
+        else if (!strcmp(words[i], "--rows") && i + 1 < count && !rows)
+            REQUIRE((rows = fopen(words[++i], "w")));
         else
             return give_up();
     }
@@ -1458,5 +1528,6 @@ int main(int count, char **words)
             scenario = &scenarios[i];
             run_scenario(messages ? messages : chosen || scenario->is_answered ? 1000 : 200, seed);
         }
+    REQUIRE(!rows || !fclose(rows));
     return 0;
 }
