@@ -813,6 +813,8 @@ static void step(void)
             size = meddle(packet->to, bytes, size);
         if (size > 0)
             give(packet->to, bytes, size);
+        if (size > 0 && rows && scenario->is_answered && !scenario->run && packet->to == &sides[1])
+            give(packet->to, bytes, size); /* rows have each packet twice */
         free(packet);
     }
     usrsctp_handle_timers(STEP);

@@ -247,6 +247,11 @@ has_usrsctp() {
     echo '#include <usrsctp.h>' | "$cc" -fsyntax-only -x c - 2>"$work/log"
 }
 
+rows() {
+    compile_sanitized -pedantic -Werror -o "$work/rows" tests/c/rows.c "$prefix/lib/libdcsctp.a" &&
+        "$work/rows" bindings/rust/examples/responder.txt
+}
+
 # With the shared libusrsctp, which then takes the time from the program.
 interop() {
     compile_sanitized -pedantic -Werror -o "$work/interop" tests/c/interop.c "$prefix/lib/libdcsctp.a" -lusrsctp && "$work/interop"
@@ -319,6 +324,7 @@ if has python3; then
 else
     left_out python3 'the example with several addresses'
 fi
+try "the responder's answers, those of the responders in other languages too" rows
 if has_usrsctp; then
     try 'two sockets of usrsctp with the filter between them, and one that calls the responder' interop
 else
