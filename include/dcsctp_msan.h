@@ -254,6 +254,8 @@ DCSCTP_MSAN(uint32_t, dcsctp_init_fault, (const uint8_t *packet, size_t length, 
             DCSCTP_MSAN_READS_PACKET(packet, length); DCSCTP_MSAN_READS_NUMBERS(is_ack), DCSCTP_MSAN_NOTHING)
 DCSCTP_MSAN(uint32_t, dcsctp_init_refusal, (uint32_t fault, bool is_ack, bool in_cookie_wait), (fault, is_ack, in_cookie_wait),
             DCSCTP_MSAN_READS_NUMBERS(fault ^ is_ack ^ in_cookie_wait), DCSCTP_MSAN_NOTHING)
+DCSCTP_MSAN(uint32_t, dcsctp_broken_rules, (const uint8_t *packet, size_t length, const struct dcsctp_known *known),
+            (packet, length, known), DCSCTP_MSAN_READS(packet, length); DCSCTP_MSAN_READS(known, 1), DCSCTP_MSAN_NOTHING)
 DCSCTP_MSAN(bool, dcsctp_is_listed, (const uint8_t *list, size_t list_size, uint8_t type), (list, list_size, type),
             DCSCTP_MSAN_READS(list, list_size); DCSCTP_MSAN_READS_NUMBERS(type), DCSCTP_MSAN_NOTHING)
 DCSCTP_MSAN(bool, dcsctp_verify_auth, (const uint8_t *key, size_t key_size, const uint8_t *bytes, size_t length),
