@@ -10,7 +10,7 @@ LEVELS = {'CHUNK_TYPE': 'chunk', 'PARAMETER_TYPE': 'parameter', 'CAUSE_CODE': 'c
 # Whose kinds the definitions of a crate are.
 CRATES = {'dcsctp_chunk': 'chunk', 'dcsctp_wire': 'chunk', 'dcsctp_tlv': 'parameter', 'dcsctp_cause': 'cause'}
 LAWS = 'crates/dcsctp_wire/src/laws.rt'
-CHUNK_TYPES = 'crates/dump_analysis/src/chunk_type.rt'
+CHUNK_TYPES = 'crates/dcsctp_receive/src/chunk_type.rt'
 
 # What the name of a file or of a definition says in other words than the table.
 RENAMED = {'initiation': 'init', 'missing_parameters': 'missing_mandatory_parameter', 'cookie': 'cookie_echo',

@@ -46,7 +46,7 @@ crates/dump_report/src/chunks.rt = SHUTDOWN ACK =         8 |
 crates/dump_report/src/parameters.rt = Forward-TSN-Supported = | 0xc000
 crates/dump_report/src/causes.rt = Protocol Violation = | 13
 crates/dump_report/src/fault.rt = RE-CONFIG = | 130
-crates/dump_analysis/src/chunk_test.rt = RE-CONFIG = 130 |
+crates/dcsctp_receive/src/chunk_test.rt = RE-CONFIG = 130 |
 crates/test_values/src/tests/facade.rt = INIT = (init_chunk::CHUNK_TYPE, 1),
 crates/test_rows/src/kinds.rt = State Cookie = 7 => write_read(alloc, bytes, StateCookie::try_from(alloc, raw), out),
 crates/test_rows/src/in_place.rt = COOKIE ACK = Chunk::CookieAck(_) |

@@ -308,7 +308,7 @@ def item_of(lines, at, found, owner, sentence):
     """The item of a line."""
     signature, conditions = signature_of(lines, at)
     value = signature.partition(' = ')[2] if found['kind'] == 'const' else ''
-    signature = re.sub(r': (\w+) = \1$', r': \1', signature.removeprefix('pub '))  # (the value is on further lines)
+    signature = re.sub(r': (\w+) = \1(?: \{.*)?$', r': \1', signature.removeprefix('pub '))  # (without the fields of its value)
     if owner:
         signature = signature.replace(found['name'], f'{owner}::{found["name"]}', 1)
     if found['kind'] == 'struct' and re.match(r'pub struct \w+;$', lines[at]):

@@ -2,8 +2,10 @@
 # SPDX-License-Identifier: Apache-2.0
 """usage: tools/rules.py --compare | --try PROGRAM | --help
 
-Compares the table of rules in docs/DUMP.md with the code, crates/dump_analysis/src/rule.rt: the names in the
-order of `Rule::ALL`, the requirement, the section and the sentence of each; and the names in tests/dump/rules.txt.
+Compares the table of rules in docs/DUMP.md with the code, crates/dcsctp_receive/src/rule.rt: the names in the
+order of `Rule::ALL`, the requirement, the section and the sentence of each; the names in tests/dump/rules.txt; and the
+constants of include/dcsctp.h, bit i for the i-th rule, with their comments, and what dcsctp_rule_name and
+dcsctp_rule_text return.
 
   --compare      prints a line for each difference, with status 1, or one line that there is none, with status 0
   --try PROGRAM  the same of what sctp_dump --check prints of each row of tests/dump/rules.txt, in its three forms: the
@@ -11,6 +13,7 @@ order of `Rule::ALL`, the requirement, the section and the sentence of each; and
   --help         prints this
 """
 import collections
+import itertools
 import json
 import os
 import re
@@ -18,7 +21,8 @@ import subprocess
 import sys
 
 ROOT = os.path.dirname(os.path.dirname(os.path.abspath(__file__)))
-CODE = os.path.join(ROOT, 'crates', 'dump_analysis', 'src', 'rule.rt')
+CODE = os.path.join(ROOT, 'crates', 'dcsctp_receive', 'src', 'rule.rt')
+HEADER = os.path.join(ROOT, 'include', 'dcsctp.h')
 PAGE = os.path.join(ROOT, 'docs', 'DUMP.md')
 ROWS = os.path.join(ROOT, 'tests', 'dump', 'rules.txt')
 COLUMNS = ['name', 'requirement', 'section', 'sentence']
@@ -52,6 +56,28 @@ def rules_of_page():
     return [[cell.strip().strip('`') for cell in row[:len(COLUMNS)]] for row in rows]
 
 
+def rules_of_header():
+    """Of each constant its name, its value, the sentence and the section of its comment, and what two functions return."""
+    text = read(HEADER)
+    constants = text.split('enum dcsctp_rule {', 1)[1].split('};', 1)[0]
+    named, sentences = (dict(re.findall(r'case DCSCTP_(\w+): return "(.*)";', text.split(f'*{function}(', 1)[1].split('\n}\n', 1)[0]))
+                        for function in ('dcsctp_rule_name', 'dcsctp_rule_text'))
+    rules = [(name, int(value, 0), sentence, section, named.pop(name, None), sentences.pop(name, None)) for name, value, sentence, section
+             in re.findall(r'^ +DCSCTP_(\w+) = (\w+),? +/\* (.*) \((RFC .*)\) \*/$', constants, flags=re.M)]
+    return rules + [(name,) for name in [*named, *sentences]], constants.count(' = ')
+
+
+def differences_of_header(code):
+    header, count = rules_of_header()
+    wanted = [('RULE_' + name.upper().replace('-', '_'), 1 << bit, sentence, section, name, sentence)
+              for bit, (name, _, section, sentence) in enumerate(code)]
+    if count != len(code):
+        yield f'include/dcsctp.h has {count} rules, and the code {len(code)}'
+    for have, want in itertools.zip_longest(header, wanted):
+        if have != want:
+            yield f'include/dcsctp.h has {have}, and the code {want}'
+
+
 def rows():
     """Of each row its packets, and the names of the rules that one of them breaks."""
     for line in read(ROWS).split('\n'):
@@ -76,6 +102,7 @@ def differences():
                 yield f'{rule[0]}: {column}: docs/DUMP.md has {cell!r}, and the code {text!r}'
     for name in sorted(set(names) ^ names_of_rows()):
         yield f'{name}: is in one alone of tests/dump/rules.txt and the code'
+    yield from differences_of_header(code)
 
 
 def run(program, packets, *words):
@@ -124,7 +151,7 @@ def report(found, where):
 def main():
     words = sys.argv[1:]
     if words == ['--compare']:
-        report(list(differences()), 'docs/DUMP.md')
+        report(list(differences()), 'docs/DUMP.md and include/dcsctp.h')
     elif words[:1] == ['--try'] and len(words) == 2:
         report(list(differences_of_rows(words[1])), 'tests/dump/rules.txt')
     elif words in ([], ['--help']):

@@ -1,3 +1,6 @@
 pub mod ItemLists
 pub mod Aborts
 pub mod Replies
+pub mod Blocks
+pub mod SackBlocks
+pub mod Marks

@@ -1,6 +1,7 @@
 -- The chunks of a packet that may hold anything (RFC 9260 section 3), and what the rules of chapter
 -- 8 ask of them.
 use Rattle.std.specs.Prelude.{◌==◌, ◌&&◌, Bool, false, ℕ, zero, suc, nat_lt, if◌then◌else◌, List, [], ◌∷◌, Option, Some, None, find, length, drop}
+use Rattle.std.specs.List.{list_any}
 use Rattle.std.specs.Option.{is_some}
 use Rattle.dcsctp_tlv.specs.Number.{number32}
 use Rattle.dcsctp_chunk.specs.Flags.{is_set}
@@ -30,9 +31,12 @@ has_header packet = nat_lt 11 (length packet)
 abbrev pub tag_of : List ℕ → ℕ
 tag_of packet = number32 (drop 4 packet)
 
--- its chunks, behind the common header
+-- where its chunks lie, behind the common header
+abbrev pub chunk_part : Part → Part
+chunk_part packet = after 12 packet
+
 abbrev pub chunks_of : List ℕ → List Item
-chunks_of packet = items_of (after 12 (whole packet))
+chunks_of packet = items_of (chunk_part (whole packet))
 
 -- ---- chunks
 
@@ -47,13 +51,9 @@ abbrev pub is_wanted : Wanted → Item → Bool
 is_wanted (wanted.Chunk typ) i = is_of_type typ i
 is_wanted (wanted.Numbered typ) i = is_numbered typ i
 
--- Some item meets the test.
-abbrev pub has : (Item → Bool) → List Item → Bool
-has test items = is_some (find test items)
-
 -- The packet contains a chunk of this type.
 abbrev pub contains : ℕ → List Item → Bool
-contains typ chunks = has (is_of_type typ) chunks
+contains typ chunks = list_any (is_of_type typ) chunks
 
 -- The first chunk has this type.
 abbrev pub begins_with : ℕ → List Item → Bool

@@ -1,11 +1,12 @@
 -- What is wrong with a packet that carries an INIT or an INIT ACK (RFC 9260 sections 3.3.2, 3.3.3
 -- and 5.1), what is done with it then, and the ABORT that says it.
 use Rattle.std.specs.Prelude.{◌==◌, Bool, true, false, ℕ, nat_lt, if◌then◌else◌, List, [], ◌∷◌, Option, Some, None, length}
+use Rattle.std.specs.List.{list_any}
 use Rattle.dcsctp_cause.specs.Cause.{CauseTree, MissingMandatoryParameter, Unknown}
 use Rattle.dcsctp_wire.specs.{InitFields.{numbers_at}, Packet.{Meaning}, Chunk.{ChunkTree}, declared.packet.common_header.CommonHeader.{CommonHeader}, declared.packet.init_chunk.InitNumbers.{InitNumbers}}
 use Rattle.dcsctp_wire.specs.Chunk as tree
 use Rattle.dcsctp_borrowed.specs.Part.{Item, after}
-use Rattle.dcsctp_receive.specs.{Chunks.{chunks_of, items_of, has, is_numbered, only}, OutOfTheBlue.{back}}
+use Rattle.dcsctp_receive.specs.{Chunks.{chunks_of, items_of, is_numbered, only}, OutOfTheBlue.{back}}
 use Rattle.dcsctp_receive.specs.declared.initiation.InitFault.{InitFault}
 use Rattle.dcsctp_receive.specs.declared.initiation.InitFault.TheVariants.{NotAlone, TooShort, InitiateTagZero, SmallWindow, NoOutboundStreams, NoInboundStreams, NoStateCookie}
 use Rattle.dcsctp_receive.specs.declared.initiation.Refusal.{Refusal}
@@ -30,7 +31,7 @@ numbers_fault n =
 abbrev pub cookie_fault : Item → Option InitFault
 cookie_fault c =
     if c.first == 2 then
-    (if has (is_numbered 7) (items_of (after 16 c.value)) then None else Some NoStateCookie) else
+    (if list_any (is_numbered 7) (items_of (after 16 c.value)) then None else Some NoStateCookie) else
     None
 
 abbrev pub first_fault : Option InitFault → Option InitFault → Option InitFault

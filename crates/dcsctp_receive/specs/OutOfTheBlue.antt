@@ -1,18 +1,15 @@
 -- What is done with an "Out of the Blue" packet (RFC 9260 section 8.4): one that is correctly
 -- formed, of which the receiver can't tell to which association it belongs.
 use Rattle.std.specs.Prelude.{◌==◌, ◌&&◌, ◌||◌, not, Bool, true, ℕ, if◌then◌else◌, List, [], ◌∷◌}
+use Rattle.std.specs.List.{list_any}
 use Rattle.dcsctp_borrowed.specs.Part.{Item}
 use Rattle.dcsctp_wire.specs.{Packet.{Meaning}, Chunk.{ChunkTree}, declared.packet.common_header.CommonHeader.{CommonHeader}}
 use Rattle.dcsctp_wire.specs.Chunk as tree
-use Rattle.dcsctp_receive.specs.Chunks.{has_header, tag_of, chunks_of, items_of, has, is_of_type, is_numbered, contains, begins_with}
+use Rattle.dcsctp_receive.specs.{Chunks.{has_header, tag_of, chunks_of, contains, begins_with}, Fields.{is_stale_cookie_error}}
 use Rattle.dcsctp_receive.specs.declared.out_of_the_blue.OutOfTheBlue.{OutOfTheBlue}
 use Rattle.dcsctp_receive.specs.declared.out_of_the_blue.OutOfTheBlue.TheVariants.{Discard, Init, CookieEcho, Respond}
 use Rattle.dcsctp_receive.specs.declared.out_of_the_blue.Reply.{Reply}
 use Rattle.dcsctp_receive.specs.declared.out_of_the_blue.Reply.TheVariants.{ShutdownComplete, Abort}
-
--- "an ERROR chunk with the "Stale Cookie" error cause", code 3 (section 3.3.10.3)
-abbrev pub is_stale_cookie_error : Item → Bool
-is_stale_cookie_error c = is_of_type 9 c && has (is_numbered 3) (items_of c.value)
 
 -- of a packet with this tag and these chunks, "Otherwise" for "Otherwise"
 abbrev pub answer_of : Bool → ℕ → List Item → OutOfTheBlue
@@ -37,7 +34,7 @@ answer_of is_unicast tag chunks =
     if contains 14 chunks then Discard else
     -- 7) "If the packet contains an ERROR chunk with the "Stale Cookie" error cause or a COOKIE ACK
     -- chunk, the SCTP packet SHOULD be silently discarded."
-    if has is_stale_cookie_error chunks || contains 11 chunks then Discard else
+    if list_any is_stale_cookie_error chunks || contains 11 chunks then Discard else
     -- 8) "The receiver SHOULD respond to the sender of the OOTB packet with an ABORT chunk."
     Respond Abort
 

@@ -8,6 +8,7 @@ ghost use Rattle.dcsctp_buffer.specs.{Buffer.{HasRoom, HoldsPacket}, declared.er
 ghost use Rattle.dcsctp_receive.specs.Initiation.{numbers_fault, cookie_fault, chunk_fault, packet_fault, refusal_of_init, refusal_when_waiting, refusal_of_init_ack, reflects, abort_of, abort_to};
 
 use crate::items::{chunk_part, has_numbered, only};
+use crate::parameters::STATE_COOKIE;
 use crate::reply::write_back;
 use dcsctp_borrowed::part::Item;
 use dcsctp_buffer::error::WriteError;
@@ -21,9 +22,6 @@ use dcsctp_wire::packet::{abort_chunk, init_ack_chunk, init_chunk};
 /// The least window that an INIT or an INIT ACK may advertise, in bytes (RFC 9260 sections 3.3.2
 /// and 3.3.3).
 const LEAST_WINDOW: u32 = 1500;
-
-/// The type of the parameter State Cookie.
-const STATE_COOKIE: u8 = 7;
 
 /// The cause Missing Mandatory Parameter (RFC 9260 section 3.3.10.2) of one parameter, State
 /// Cookie.

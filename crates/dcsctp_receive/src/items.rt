@@ -1,9 +1,11 @@
 //! The chunks of a packet, and the parameters and error causes in a chunk, whatever the bytes are.
 
 ghost use Rattle.std.specs.Prelude.{◌≡◌, Some, option_map, find};
-ghost use Rattle.dcsctp_borrowed.specs.{Grammar.{whole}, Part.{part_of, item_of, after}};
-ghost use Rattle.dcsctp_receive.specs.Chunks.{items_of, is_wanted, has, is_numbered, contains, begins_with, only, is_only, t_bit};
+ghost use Rattle.std.specs.List.{list_any};
+ghost use Rattle.dcsctp_borrowed.specs.{Grammar.{whole}, Part.{part_of, item_of}};
+ghost use Rattle.dcsctp_receive.specs.Chunks.{chunk_part, items_of, is_wanted, is_numbered, contains, begins_with, only, is_only, t_bit};
 
+use crate::chunk_test::{ChunkTest, some};
 use dcsctp_borrowed::part::{Item, Part};
 use dcsctp_chunk::flags::is_set;
 use dcsctp_wire::packet::sctp_packet::COMMON_HEADER_SIZE;
@@ -31,7 +33,7 @@ impl Wanted {
 
 /// Returns what follows the common header of a packet.
 pub(crate) fn chunk_part(packet: &[u8]) -> Part
-    ensures { part_of result ≡ after 12 (whole packet.now) }
+    ensures { part_of result ≡ chunk_part (whole packet.now) }
 {
     Part::packet(packet, packet.len()).after(COMMON_HEADER_SIZE)
 }
@@ -53,15 +55,12 @@ fn first(list: Part<'_>, wanted: Wanted) -> Option<Item<'_>>
 pub(crate) fn contains(chunks: Part<'_>, typ: u8) -> bool
     ensures { result ≡ contains typ (items_of (part_of chunks.entry)) }
 {
-    match first(chunks, Wanted::Chunk(typ)) {
-        Some(_) => true,
-        None => false,
-    }
+    some(chunks, ChunkTest::Type(typ))
 }
 
 /// Returns whether a parameter or an error cause has this type.
 pub(crate) fn has_numbered(list: Part<'_>, typ: u8) -> bool
-    ensures { result ≡ has (is_numbered typ) (items_of (part_of list.entry)) }
+    ensures { result ≡ list_any (is_numbered typ) (items_of (part_of list.entry)) }
 {
     match first(list, Wanted::Numbered(typ)) {
         Some(_) => true,

@@ -1,4 +1,5 @@
-//! What RFC 9260 asks of whoever receives a packet, before the state of an association matters.
+//! What RFC 9260 asks of whoever receives a packet, before the state of an association matters; and
+//! which rules of the RFCs a packet breaks (`rule`).
 //!
 //! Functions of bytes and of a little state, for any bytes: what is done with a type that isn't
 //! recognized, with a packet by its Verification Tag, with one that belongs to no association, and
@@ -7,9 +8,14 @@
 #![tactic(auto)]
 
 pub mod action;
+pub mod chunk_test;
+pub mod chunk_type;
+pub mod fields;
 pub mod initiation;
 mod items;
 pub mod laws;
 pub mod out_of_the_blue;
+mod parameters;
 mod reply;
+pub mod rule;
 pub mod verification_tag;

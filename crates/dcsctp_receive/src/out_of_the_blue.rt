@@ -1,27 +1,25 @@
 //! What is done with a packet that belongs to no association.
 
 ghost use Rattle.std.specs.Prelude.{◌≡◌, ◌↔◌, ◌≤◌, length, IsOk, IfErr};
-ghost use Rattle.dcsctp_borrowed.specs.Part.{part_of, item_of};
+ghost use Rattle.dcsctp_borrowed.specs.Part.{part_of};
 ghost use Rattle.dcsctp_wire.specs.Chunk.{tlv as chunk_tlv};
 ghost use Rattle.dcsctp_buffer.specs.{Buffer.{HoldsPacket}, declared.error.WriteError.TheVariants.{NoRoom}};
-ghost use Rattle.dcsctp_receive.specs.Chunks.{has, items_of};
-ghost use Rattle.dcsctp_receive.specs.OutOfTheBlue.{is_stale_cookie_error, answer_of, answer_to, reply_chunk, reply_to};
+ghost use Rattle.dcsctp_receive.specs.Chunks.{items_of};
+ghost use Rattle.dcsctp_receive.specs.OutOfTheBlue.{answer_of, answer_to, reply_chunk, reply_to};
 
-use crate::items::{begins_with, chunk_part, contains, has_numbered};
+use crate::chunk_test::{ChunkTest, some};
+use crate::items::{begins_with, chunk_part, contains};
 use crate::reply::write_back;
-use dcsctp_borrowed::part::{Item, Part};
+use dcsctp_borrowed::part::Part;
 use dcsctp_buffer::error::WriteError;
 use dcsctp_buffer::writable_chunk::WritableChunk;
 use dcsctp_chunk::flags::one_flag;
 use dcsctp_tlv::frame::{TLV_HEADER_SIZE, put_solid};
 use dcsctp_wire::packet::sctp_packet::CommonHeader;
 use dcsctp_wire::packet::{
-    abort_chunk, cookie_ack_chunk, cookie_echo_chunk, error_chunk, init_chunk, shutdown_ack_chunk,
+    abort_chunk, cookie_ack_chunk, cookie_echo_chunk, init_chunk, shutdown_ack_chunk,
     shutdown_complete_chunk,
 };
-
-/// The code of the error cause Stale Cookie (RFC 9260 section 3.3.10.3).
-const STALE_COOKIE: u8 = 3;
 
 /// What the receiver of a packet does that belongs to no association (RFC 9260 section 8.4).
 #[derive(Clone, Copy, Debug)]
@@ -83,30 +81,10 @@ fn answer_of(is_unicast: bool, tag: u32, chunks: Part<'_>) -> OutOfTheBlue
     if contains(chunks, shutdown_complete_chunk::CHUNK_TYPE) {
         return OutOfTheBlue::Discard;
     }
-    if has_stale_cookie_error(chunks) || contains(chunks, cookie_ack_chunk::CHUNK_TYPE) {
+    if some(chunks, ChunkTest::StaleCookieError) || contains(chunks, cookie_ack_chunk::CHUNK_TYPE) {
         return OutOfTheBlue::Discard;
     }
     OutOfTheBlue::Respond(Reply::Abort)
-}
-
-/// Returns whether a chunk is an ERROR with the cause Stale Cookie.
-fn has_stale_cookie_error(chunks: Part<'_>) -> bool
-    ensures { result ≡ has is_stale_cookie_error (items_of (part_of chunks.entry)) }
-{
-    let mut items = chunks.items();
-    while let Some(chunk) = items.next() {
-        if is_stale_cookie_error(chunk) {
-            return true;
-        }
-    }
-    false
-}
-
-/// Returns whether the chunk is an ERROR with the cause Stale Cookie.
-fn is_stale_cookie_error(chunk: Item<'_>) -> bool
-    ensures { result ≡ is_stale_cookie_error (item_of chunk.entry) }
-{
-    chunk.first == error_chunk::CHUNK_TYPE && has_numbered(chunk.value, STALE_COOKIE)
 }
 
 impl Reply {

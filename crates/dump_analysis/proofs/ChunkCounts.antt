@@ -2,8 +2,9 @@
 -- causes of an ERROR.
 use Rattle.std.proofs.Common.{◌≡◌, List, [], ◌∷◌, fold, true, false, refl, ap, subst, ◌∙◌}
 use Rattle.dcsctp_borrowed.specs.Part.{Part, Item, AreItems, none, next, begins_with_item, first_item, after_item}
-use Rattle.dump_analysis.specs.Items.{items_of}
-use Rattle.dump_analysis.proofs.Looks.{are_items, one_list}
+use Rattle.dcsctp_receive.specs.Chunks.{items_of}
+use Rattle.dcsctp_borrowed.proofs.PacketItems.{one_list}
+use Rattle.dcsctp_receive.proofs.ItemLists.{are_items}
 
 module _ {Counts : Type 0} (with_item : Counts → Item → Counts) where
   -- whatever items are left, all are they and those before them that were counted

@@ -3,8 +3,4 @@ pub mod Calendar
 pub mod ChunkCounts
 pub mod HeaderCounts
 pub mod Slots
-pub mod Blocks
-pub mod Looks
-pub mod SackBlocks
 pub mod Seen
-pub mod RuleLists

@@ -4,8 +4,9 @@ use Rattle.std.proofs.lemmas.Bool.{cases_Bool, cases_lt, both_ways, and_parts, c
 use Rattle.std.specs.List.{list_any}
 use Rattle.dcsctp_tlv.specs.Frame.{round_up_to_4}
 use Rattle.dcsctp_borrowed.specs.Part.{Part, Item, begins_with_item, after_item, length_field}
-use Rattle.dump_analysis.specs.Items.{chunk_part, items_of, has_header, front_chunk, goes_on, AreWithin, AreSeen, chunks_within, chunks_ahead, chunks_seen}
-use Rattle.dump_analysis.proofs.Looks.{fewer, are_items, one_list}
+use Rattle.dcsctp_borrowed.proofs.PacketItems.{one_list}
+use Rattle.dcsctp_receive.{specs.Chunks.{chunk_part, items_of}, proofs.ItemLists.{fewer, are_items}}
+use Rattle.dump_analysis.specs.Seen.{has_header, front_chunk, goes_on, AreWithin, AreSeen, chunks_within, chunks_ahead, chunks_seen}
 
 -- ---- the chunks that are looked at
 

@@ -3,7 +3,7 @@ use Rattle.std.specs.Prelude.{◌≡◌, ◌+◌, ◌-◌, ◌/◌, ◌==◌, �
 use Rattle.dcsctp_tlv.specs.Number.{number16, number32}
 use Rattle.dump_capture.specs.Number.{capped, one_more}
 use Rattle.dcsctp_borrowed.specs.Part.{Part, Item, AreItems, after}
-use Rattle.dump_analysis.specs.Items.{items_of}
+use Rattle.dcsctp_receive.specs.Chunks.{items_of}
 use Rattle.dump_analysis.specs.StaleCookies.{none_stale, with_cause}
 use Rattle.dump_analysis.specs.declared.counts.Counts.{Counts}
 use Rattle.dump_analysis.specs.declared.counts.LeastWindow.{LeastWindow}

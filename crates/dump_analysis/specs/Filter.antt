@@ -5,7 +5,7 @@ use Rattle.dump_capture.specs.Frame.{Packet}
 use Rattle.dump_capture.specs.declared.frame.Addresses.{Addresses}
 use Rattle.dump_capture.specs.declared.frame.Addresses.TheVariants as addresses
 use Rattle.dcsctp_borrowed.specs.Part.{Part, Item}
-use Rattle.dump_analysis.specs.Chunks.{has_port, has_tag, has_checksum, is_whole, is_of_type, is_on_stream, has_ppid}
+use Rattle.dcsctp_receive.specs.{Chunks.{is_of_type}, Fields.{has_port, has_tag, has_checksum, is_whole, is_on_stream, has_ppid}}
 use Rattle.dump_analysis.specs.declared.filter.Filter.{Filter}
 use Rattle.dump_analysis.specs.declared.filter.Host.{Host}
 use Rattle.dump_analysis.specs.declared.filter.Host.TheVariants as host

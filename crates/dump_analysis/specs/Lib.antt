@@ -11,9 +11,6 @@ pub mod Sides
 pub mod StaleCookies
 pub mod Table
 pub mod Tsns
-pub mod Chunks
-pub mod ChunkTest
 pub mod Filter
-pub mod Items
-pub mod Rule
+pub mod Seen
 pub mod Warnings

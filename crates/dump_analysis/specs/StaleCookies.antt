@@ -3,7 +3,7 @@ use Rattle.std.specs.Prelude.{max, nat_le, if◌then◌else◌, length}
 use Rattle.dcsctp_tlv.specs.Number.{number32}
 use Rattle.dump_capture.specs.Number.{one_more}
 use Rattle.dcsctp_borrowed.specs.Part.{Item}
-use Rattle.dump_analysis.specs.Chunks.{is_parameter}
+use Rattle.dcsctp_receive.specs.Chunks.{is_numbered}
 use Rattle.dump_analysis.specs.declared.stale_cookies.StaleCookies.{StaleCookies}
 
 abbrev pub none_stale : StaleCookies
@@ -12,7 +12,7 @@ none_stale = record { count = 0; greatest = 0 }
 -- code 3; the Measure of Staleness, in microseconds, is its value
 abbrev pub with_cause : StaleCookies → Item → StaleCookies
 with_cause s cause =
-    if is_parameter 3 cause then
+    if is_numbered 3 cause then
     record {
       count = one_more s.count;
       greatest =

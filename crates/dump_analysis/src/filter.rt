@@ -3,12 +3,13 @@
 ghost use Rattle.std.specs.Prelude.{◌≡◌, ◌&&◌, ◌||◌, not, nat_le, length, List};
 ghost use Rattle.dump_capture.specs.Found.{packet_of};
 ghost use Rattle.dcsctp_borrowed.specs.Part.{Item as AnItem, part_of};
-ghost use Rattle.dump_analysis.specs.Items.{AreSeen, chunks_seen};
+ghost use Rattle.dump_analysis.specs.Seen.{AreSeen, chunks_seen};
 ghost use Rattle.dump_analysis.specs.Filter.{part_in, passes, passes_headers, passes_chunks, has_host, has_wrong_checksum};
 
-use crate::chunk_test::{ChunkTest, some_seen};
-use crate::fields::{has_port, is_u32};
+use crate::seen::some_seen;
 use dcsctp_borrowed::part::Part;
+use dcsctp_receive::chunk_test::ChunkTest;
+use dcsctp_receive::fields::{has_port, is_u32};
 use dump_capture::frame::{Addresses, FoundPacket};
 
 /// An address of an IP packet, as its octets.

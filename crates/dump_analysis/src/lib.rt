@@ -1,23 +1,21 @@
-//! What is found of a capture's packets beyond their grammar: which a filter passes (`filter`),
-//! which rules of the RFCs each breaks (`rule`, `warnings`), and which associations there were, in
-//! bounded memory (`associations`): how each began and ended, and what each of its ends sent.
+//! What is found of a capture's packets beyond their grammar: which a filter passes (`filter`), how
+//! many break each rule of the RFCs (`warnings`), and which associations there were, in bounded
+//! memory (`associations`): how each began and ended, and what each of its ends sent.
 //!
 //! Every function reads a packet where it lies, as far as it can be read: refused and cut packets
-//! too. What a filter and a rule say is what definitions of `specs/` say of a packet's header and
-//! chunks. What is counted of a packet for an association is what `specs/` defines, and each packet
-//! is counted once: of one end of one association, or as unknown. The rest is proved safe and
-//! total: no clause says which association a packet belongs to, nor what a text is.
+//! too. What a filter asks and what a rule says is defined by what is in a packet's header and
+//! chunks: in `specs/` and in those of `dcsctp_receive`. What is counted of a packet for an
+//! association is what `specs/` defines, and each packet is counted once: of one end of one
+//! association, or as unknown. The rest is proved safe and total: no clause says which association a
+//! packet belongs to, nor what a text is.
 #![tactic(auto)]
 
 mod acknowledgement;
 mod announced;
 mod association;
 mod associations;
-mod chunk_test;
-mod chunk_type;
 mod counts;
 mod end;
-mod fields;
 pub mod filter;
 mod gone;
 mod initiation;
@@ -28,11 +26,10 @@ pub mod laws;
 mod membership;
 mod order;
 mod packet_number;
-mod parameters;
 mod report;
 mod requests;
 mod round_trips;
-pub mod rule;
+mod seen;
 mod serial;
 mod stale_cookies;
 mod time;
@@ -57,3 +54,5 @@ pub use crate::time::{SecondsReport, TimeForm, TimeReport, TimeStyle};
 pub use crate::transport::{Transport, TransportName};
 pub use crate::tsns::{Step, Tsns};
 pub use crate::unanswered::Unanswered;
+use dcsctp_receive::chunk_type;
+pub use dcsctp_receive::rule;

@@ -2,7 +2,7 @@
 
 ghost use Rattle.std.specs.Prelude.{◌≡◌, fold};
 ghost use Rattle.dcsctp_borrowed.specs.Part.{part_of, item_of};
-ghost use Rattle.dump_analysis.specs.Items.{items_of};
+ghost use Rattle.dcsctp_receive.specs.Chunks.{items_of};
 ghost use Rattle.dump_analysis.specs.StaleCookies.{none_stale, with_cause};
 
 use crate::counts::increase;

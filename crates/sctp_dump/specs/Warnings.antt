@@ -5,8 +5,7 @@ use Rattle.dump_capture.specs.Frame.{Packet, packet_in}
 use Rattle.dump_capture.specs.declared.frame.NoPacket.{NoPacket}
 use Rattle.dump_analysis.specs.Filter.{part_in}
 use Rattle.dump_analysis.specs.Warnings.{CountsRules}
-use Rattle.dump_analysis.specs.declared.rule.Known.{Known}
-use Rattle.dump_analysis.specs.declared.rule.TheConstants.Rule.{ALL}
+use Rattle.dcsctp_receive.specs.declared.rule.{Known.{Known}, TheConstants.Rule.{ALL}}
 use Rattle.sctp_dump.specs.Verdict.{IsVerdict}
 use Rattle.sctp_dump.specs.declared.options.Options.{Options}
 use Rattle.sctp_dump.specs.declared.counts.Verdict.{Verdict}

@@ -7,9 +7,8 @@ use crate::seen::{SeenBrief, SeenJson, SeenLines};
 use crate::skipped::{SkippedJson, SkippedLine};
 use crate::summary::{Summary, SummaryJson, Unkept, UnkeptJson};
 use dcsctp_wire::packet::sctp_packet::FirstFault;
-use dump_analysis::warnings::{
-    Broken, WarningCounts, WarningLines, Warnings, WarningsBrief, WarningsJson,
-};
+use dump_analysis::rule::BrokenRules;
+use dump_analysis::warnings::{WarningCounts, WarningLines, Warnings, WarningsBrief, WarningsJson};
 use dump_analysis::{
     Association, AssociationJson, AssociationReport, Associations, Membership, MembershipJson,
     TimeStyle,
@@ -28,7 +27,7 @@ pub struct Shown<'t, 'f, 'a> {
     /// Why it was refused.
     pub fault: Option<&'t FirstFault>,
     /// Which rules it breaks.
-    pub broken: Broken,
+    pub broken: BrokenRules,
     /// Of which association it is.
     pub member: Option<Membership>,
 }

@@ -6,6 +6,9 @@ use Rattle.dcsctp_receive.proofs.laws.chunks_are.Goals as goal
 pub returns-clause-items : goal.returns-clause-items
 returns-clause-items c = are_items
 
+pub returns-clause-one : goal.returns-clause-one
+returns-clause-one c = λ p items are. one_list p items (items_of p) are (are_items p)
+
 pub returns-clause-packet : goal.returns-clause-packet
 returns-clause-packet c = λ bytes word policy packet fits answer.
     let p = after 12 (whole bytes) in

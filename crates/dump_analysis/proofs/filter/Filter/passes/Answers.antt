@@ -1,6 +1,6 @@
 use Rattle.dump_capture.specs.Found.{packet_of}
 use Rattle.dump_analysis.specs.Filter.{part_in}
-use Rattle.dump_analysis.specs.Items.{chunks_seen}
+use Rattle.dump_analysis.specs.Seen.{chunks_seen}
 use Rattle.dump_analysis.proofs.Seen.{are_seen}
 use Rattle.dump_analysis.proofs.filter.Filter.passes.Goals as goal
 

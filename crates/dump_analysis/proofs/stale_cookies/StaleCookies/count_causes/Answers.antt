@@ -1,6 +1,6 @@
 use Rattle.std.proofs.Common.{◌≡◌, fold, subst, ◌∙◌}
 use Rattle.dcsctp_borrowed.specs.Part.{item_of}
-use Rattle.dump_analysis.specs.Items.{items_of}
+use Rattle.dcsctp_receive.specs.Chunks.{items_of}
 use Rattle.dump_analysis.specs.StaleCookies.{with_cause}
 use Rattle.dump_analysis.proofs.ChunkCounts.{Counting-none, Counting-next, Counting-list}
 use Rattle.dump_analysis.proofs.stale_cookies.StaleCookies.count_causes.Goals as goal
