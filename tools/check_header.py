@@ -50,8 +50,9 @@ def sources():
 
 
 def kinds_of(text):
-    """The header without the constants of which the library knows no number: registry/make.py writes them."""
-    return re.sub(r'^ *DCSCTP_(\w+ = \w+,? +/\* bytes to this library|RE_CONFIG_).*\n', '', text, flags=re.M)
+    """The header without the constants of which the library knows no number: registry/make.py writes them, and
+    tools/rules.py compares those of the rules."""
+    return re.sub(r'^ *DCSCTP_(\w+ = \w+,? +/\* bytes to this library|RE_CONFIG_|RULE_).*\n', '', text, flags=re.M)
 
 
 def listed(text, separator):

@@ -209,6 +209,10 @@ receive() {
     compile_sanitized -pedantic -Werror -o "$work/receive" tests/c/receive.c "$prefix/lib/libdcsctp.a" && "$work/receive"
 }
 
+rules() {
+    compile_sanitized -pedantic -Werror -o "$work/rules" tests/c/rules.c "$prefix/lib/libdcsctp.a" && "$work/rules" <tests/dump/rules.txt
+}
+
 authenticated() {
     compile_sanitized -pedantic -Werror -o "$work/auth" tests/c/auth.c "$prefix/lib/libdcsctp.a" && "$work/auth"
 }
@@ -313,6 +317,7 @@ try "the processor's CRC32c, on 3,000 packets" processor
 try 'calls on captured packets and at the edges, and each allocation refused' edge
 try "what IANA's registry has beyond the kinds, field by field" registered
 try "what is asked of whoever receives a packet, sentence by sentence" receive
+try 'the rules that a packet breaks, row by row, and packets that end early' rules
 try 'State Cookies, AUTH chunks and shared keys, beside Python' authenticated
 if has valgrind; then
     try 'HMACs take the same instructions to compare, wherever they differ' same_time

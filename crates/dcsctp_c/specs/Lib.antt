@@ -10,5 +10,6 @@ pub mod ReConfig
 pub mod Receive
 pub mod Registered
 pub mod Row
+pub mod Rules
 pub mod Walk
 pub mod Writing

@@ -289,6 +289,19 @@ pub struct DcsctpAssociation {
     pub awaits_cookie: bool,
 }
 
+/// What is known of the association that a packet belongs to.
+#[repr(C)]
+#[derive(Clone, Copy)]
+pub struct DcsctpKnown {
+    /// Whether the end that the packet goes to sent INIT or INIT ACK without Zero Checksum
+    /// Acceptable (RFC 9653 section 4).
+    pub refuses_zero: bool,
+    /// Whether an end sent DATA.
+    pub has_data: bool,
+    /// Whether an end sent I-DATA.
+    pub has_i_data: bool,
+}
+
 /// What a State Cookie says (RFC 9260 section 5.1.3). *Local* is the end that seals and opens it.
 #[repr(C)]
 #[derive(Clone, Copy)]
