@@ -92,7 +92,7 @@ body_read bytes =
 -- ---- opening
 
 -- The answer to a cookie at a time (section 5.1.5): stale once more time has passed than its
--- lifespan, by so many microseconds (the Measure of Staleness, section 3.3.10.3).
+-- lifespan. How much more, in microseconds, is the Measure of Staleness (section 3.3.10.3).
 abbrev pub Answers : CookieTree → ℕ → OpenedCookie → Type 0
 Answers c now (Valid opened) = (view opened ≡ c) × (now ≤ c.created + c.lifespan)
 Answers c now (Stale opened over) =

@@ -58,8 +58,9 @@ pub struct StateCookie<'a> {
 pub enum OpenedCookie<'a> {
     /// It was sealed under the key, and is good.
     Valid(StateCookie<'a>),
-    /// It was sealed under the key, and its lifespan has been over for so many microseconds, at
-    /// least 1: the Measure of Staleness (RFC 9260 section 3.3.10.3), whose field has 32 bits.
+    /// It was sealed under the key, and is older than its lifespan. The number says by how many
+    /// microseconds, at least 1: the Measure of Staleness (RFC 9260 section 3.3.10.3), whose field
+    /// has 32 bits.
     Stale(StateCookie<'a>, u64),
     /// It wasn't sealed under the key.
     Invalid,
