@@ -1,9 +1,10 @@
 -- The size of a character, by its first byte.
-use Rattle.std.proofs.Common.{◌≡◌, ℕ, ◌+◌, ◌/◌, ◌≤◌, ◌<◌, true, List, ◌++◌, inl, inr, length, get_or, arith}
+use Rattle.std.proofs.Common.{◌≡◌, ℕ, ◌+◌, ◌/◌, ◌≤◌, ◌<◌, true, List, [], ◌∷◌, ◌++◌, inl, inr, length, get_or, sym, subst, arith}
+use Rattle.std.specs.Prelude.{IsUtf8}
 use Rattle.std.proofs.lemmas.Bool.{cases_lt}
 use Rattle.std.proofs.lemmas.Bool.Decides.{nat_tests}
 use Rattle.std.proofs.str.Laws.{one, two, three, four}
-use lib.Utf8.{encode, scalar}
+use lib.Utf8.{encode, encodes, scalar}
 use Rattle.dump_text.specs.Printed.{size_from}
 
 size_one : (byte : ℕ) → byte < 128 → size_from byte ≡ 1
@@ -42,3 +43,31 @@ lead_size c rest ok = elim (cases_lt c 128) [
     ]
   ]
 ]
+
+-- a character that isn't ASCII goes on after its first byte
+abbrev pub GoesOn : List ℕ → Type 0
+GoesOn bytes = (192 ≤ get_or bytes 0 0) × (128 ≤ get_or bytes 1 0) × (get_or bytes 1 0 < 192)
+
+character_goes_on : (c : ℕ) (rest : List ℕ) → 128 ≤ get_or (encode c ++ rest) 0 0 → GoesOn (encode c ++ rest)
+character_goes_on c rest high = elim (cases_lt c 128) [
+  | inl a ↦
+      let first : 128 ≤ c = subst (λ l. 128 ≤ get_or (l ++ rest) 0 0) (one c a) high in
+      absurd (omega arith)
+  | inr a ↦ elim (cases_lt c 2048) [
+    | inl b ↦ subst (λ l. GoesOn (l ++ rest)) (sym (two c a b))
+        (omega arith, omega arith, omega arith)
+    | inr b ↦ elim (cases_lt c 65536) [
+      | inl d ↦ subst (λ l. GoesOn (l ++ rest)) (sym (three c b d))
+          (omega arith, omega arith, omega arith)
+      | inr d ↦ subst (λ l. GoesOn (l ++ rest)) (sym (four c d))
+          (omega arith, omega arith, omega arith)
+    ]
+  ]
+]
+
+pub goes_on : (bytes : List ℕ) → IsUtf8 bytes → 128 ≤ get_or bytes 0 0 → GoesOn bytes
+goes_on bytes u high = subst GoesOn u.1.1 (of_these u.0 (subst (λ l. 128 ≤ get_or l 0 0) (sym u.1.1) high))
+  where
+    of_these : (cs : List ℕ) → 128 ≤ get_or (encodes cs) 0 0 → GoesOn (encodes cs)
+    of_these [] h = absurd (omega arith)
+    of_these (c ∷ ds) h = character_goes_on c (encodes ds) h

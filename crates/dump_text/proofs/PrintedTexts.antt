@@ -1,11 +1,11 @@
 -- What is printed of a text, character by character.
-use Rattle.std.proofs.Common.{◌≡◌, ℕ, zero, suc, ◌+◌, ◌-◌, ◌≤◌, ◌<◌, Bool, false, cond, List, [], ◌∷◌, ◌++◌, length, take, drop, get_or, refl, sym, ap, ◌∙◌, append_assoc, append-nil, arith}
-use Rattle.std.specs.{Prelude.{◌==◌}, List.{slice_range}}
+use Rattle.std.proofs.Common.{◌≡◌, ℕ, zero, suc, ◌+◌, ◌-◌, ◌/◌, ◌%◌, ◌≤◌, ◌<◌, Bool, false, cond, List, [], ◌∷◌, ◌++◌, length, take, drop, get_or, refl, sym, ap, subst, ◌∙◌, append_assoc, arith}
+use Rattle.std.specs.{Prelude.{◌==◌, IsUtf8}, Fmt.{digit_glyph}}
 use Rattle.std.proofs.lemmas.Bool.Decides.{nat_tests}
-use Rattle.std.proofs.lemmas.List.{drop-drop, get_or-drop, length-drop}
-use Rattle.std.proofs.Math.Seq.{take-add, drop-length}
-use Rattle.dump_text.proofs.Written.{slice_none}
+use Rattle.std.proofs.lemmas.{List.{drop-drop, get_or-drop, length-drop}, List.Elements.{All-nil, All-cons}}
+use Rattle.std.proofs.lemmas.{Str.{IsUtf8-append, IsUtf8-encode, IsUtf8-from_ascii}, Str.Ascii.{IsAscii-from_all}}
 use Rattle.dump_text.specs.Printed.{escape, shown_size, printed, printed_after}
+use Rattle.dump_text.proofs.ShownFronts.{shown_front}
 
 printed_first : (is_word : Bool) (n : ℕ) (bytes : List ℕ) → n ≤ length bytes
     → printed_after is_word n bytes ≡ take n bytes ++ printed is_word (drop n bytes)
@@ -37,52 +37,58 @@ pub printed_escaped : (is_word : Bool) (bytes : List ℕ) → shown_size is_word
 printed_escaped is_word [] is some = absurd (omega arith)
 printed_escaped is_word (byte ∷ rest) is some = printed_by is_word byte rest 0 is
 
--- ---- as far as it is printed
-
-slice_join : (bytes : List ℕ) (start at n : ℕ) → start ≤ at
-    → slice_range bytes start (at + n) ≡ slice_range bytes start at ++ take n (drop at bytes)
-slice_join bytes start at n le =
-    let parts : at + n - start ≡ at - start + n = omega arith in
-    let same : start + (at - start) ≡ at = omega arith in
-    ap (λ k. take k (drop start bytes)) parts
-    ∙ take-add (at - start) n (drop start bytes)
-    ∙ ap (λ l. slice_range bytes start at ++ take n l) (drop-drop (at - start) start bytes ∙ ap (λ k. drop k bytes) same)
-
-pub more_shown : (is_word : Bool) (bytes done all : List ℕ) (start at n : ℕ) → start ≤ at
+-- a character more in a block
+pub more_shown : (is_word : Bool) (bytes block new all : List ℕ) (at filled n : ℕ)
     → n ≡ shown_size is_word (drop at bytes) → 0 < n → n ≤ length (drop at bytes)
-    → (done ++ slice_range bytes start at) ++ printed is_word (drop at bytes) ≡ all
-    → (done ++ slice_range bytes start (at + n)) ++ printed is_word (drop (at + n) bytes) ≡ all
-more_shown is_word bytes done all start at n le is some inside so_far =
-    ap (λ l. (done ++ l) ++ printed is_word (drop (at + n) bytes)) (slice_join bytes start at n le)
-    ∙ ap (λ l. l ++ printed is_word (drop (at + n) bytes)) (sym (append_assoc done (slice_range bytes start at) (take n (drop at bytes))))
-    ∙ append_assoc (done ++ slice_range bytes start at) (take n (drop at bytes)) (printed is_word (drop (at + n) bytes))
-    ∙ ap (λ l. (done ++ slice_range bytes start at) ++ (take n (drop at bytes) ++ printed is_word l)) (sym (drop-drop n at bytes))
-    ∙ ap (λ l. (done ++ slice_range bytes start at) ++ l) (sym (printed_shown is_word (drop at bytes) n (sym is) some inside))
+    → take (filled + n) new ≡ take filled block ++ take n (drop at bytes)
+    → take filled block ++ printed is_word (drop at bytes) ≡ all
+    → take (filled + n) new ++ printed is_word (drop (at + n) bytes) ≡ all
+more_shown is_word bytes block new all at filled n is some inside put so_far =
+    ap (λ l. l ++ printed is_word (drop (at + n) bytes)) put
+    ∙ append_assoc (take filled block) (take n (drop at bytes)) (printed is_word (drop (at + n) bytes))
+    ∙ ap (λ l. take filled block ++ (take n (drop at bytes) ++ printed is_word l)) (sym (drop-drop n at bytes))
+    ∙ ap (λ l. take filled block ++ l) (sym (printed_shown is_word (drop at bytes) n (sym is) some inside))
     ∙ so_far
 
-pub more_escaped : (is_word : Bool) (bytes done all : List ℕ) (start at : ℕ)
+pub more_escaped : (is_word : Bool) (bytes block new all : List ℕ) (at filled : ℕ)
     → 0 ≡ shown_size is_word (drop at bytes) → at < length bytes
-    → (done ++ slice_range bytes start at) ++ printed is_word (drop at bytes) ≡ all
-    → (((done ++ slice_range bytes start at) ++ escape (get_or bytes at 0)) ++ slice_range bytes (at + 1) (at + 1))
-    ++ printed is_word (drop (at + 1) bytes) ≡ all
-more_escaped is_word bytes done all start at is inside so_far =
-    let before = done ++ slice_range bytes start at in
+    → take (filled + 4) new ≡ take filled block ++ escape (get_or bytes at 0)
+    → take filled block ++ printed is_word (drop at bytes) ≡ all
+    → take (filled + 4) new ++ printed is_word (drop (at + 1) bytes) ≡ all
+more_escaped is_word bytes block new all at filled is inside put so_far =
     let here : at + 0 ≡ at = omega arith in
     let left : 0 < length (drop at bytes) = omega (arith, length-drop at bytes) in
-    ap (λ l. ((before ++ escape (get_or bytes at 0)) ++ l) ++ printed is_word (drop (at + 1) bytes)) (slice_none bytes (at + 1))
-    ∙ ap (λ l. l ++ printed is_word (drop (at + 1) bytes)) (append-nil (before ++ escape (get_or bytes at 0)))
-    ∙ append_assoc before (escape (get_or bytes at 0)) (printed is_word (drop (at + 1) bytes))
-    ∙ ap (λ l. before ++ l)
+    ap (λ l. l ++ printed is_word (drop (at + 1) bytes)) put
+    ∙ append_assoc (take filled block) (escape (get_or bytes at 0)) (printed is_word (drop (at + 1) bytes))
+    ∙ ap (λ l. take filled block ++ l)
     (sym (printed_escaped is_word (drop at bytes) (sym is) left
     ∙ ap (λ b. escape b ++ printed is_word (drop 1 (drop at bytes)))
     (get_or-drop at bytes 0 0 ∙ ap (λ k. get_or bytes k 0) here)
     ∙ ap (λ l. escape (get_or bytes at 0) ++ printed is_word l) (drop-drop 1 at bytes)))
     ∙ so_far
 
-pub all_printed : (is_word : Bool) (bytes done : List ℕ) (start : ℕ)
-    → (done ++ slice_range bytes start (length bytes)) ++ printed is_word (drop (length bytes) bytes) ≡ printed is_word bytes
-    → done ++ slice_range bytes start (length bytes) ≡ printed is_word bytes
-all_printed is_word bytes done start so_far =
-    sym (append-nil (done ++ slice_range bytes start (length bytes)))
-    ∙ ap (λ l. (done ++ slice_range bytes start (length bytes)) ++ printed is_word l) (sym (drop-length bytes))
-    ∙ so_far
+-- ---- a block is UTF-8
+
+pub more_text : (block new piece : List ℕ) (filled n : ℕ) → take n new ≡ take filled block ++ piece
+    → IsUtf8 (take filled block) → IsUtf8 piece → IsUtf8 (take n new)
+more_text block new piece filled n put front back =
+    subst IsUtf8 (sym put) (IsUtf8-append (take filled block) piece front back)
+
+pub shown_text : (is_word : Bool) (bytes : List ℕ) (n : ℕ) → n ≡ shown_size is_word bytes → 0 < n
+    → IsUtf8 (take n bytes)
+shown_text is_word bytes n is some =
+    let f = shown_front is_word bytes n (sym is) some in
+    subst IsUtf8 (sym f.taken) (IsUtf8-encode f.begins.character f.begins.scalar)
+
+digit_is_ascii : (digit : ℕ) → digit < 16 → digit_glyph false digit < 128
+digit_is_ascii digit h = grind (arith, nat_tests)
+
+pub escape_text : (byte : ℕ) → byte < 256 → IsUtf8 (escape byte)
+escape_text byte fits =
+    let high = digit_glyph false (byte / 16) in
+    let low = digit_glyph false (byte % 16) in
+    let last = All-cons (λ b. b < 128) low [] (digit_is_ascii (byte % 16) (omega arith)) (All-nil (λ b. b < 128)) in
+    let both = All-cons (λ b. b < 128) high (low ∷ []) (digit_is_ascii (byte / 16) (omega arith)) last in
+    let named = All-cons (λ b. b < 128) 0x78 (high ∷ low ∷ []) (omega arith) both in
+    let all = All-cons (λ b. b < 128) 0x5C (0x78 ∷ high ∷ low ∷ []) (omega arith) named in
+    IsUtf8-from_ascii (escape byte) (IsAscii-from_all (escape byte) all)

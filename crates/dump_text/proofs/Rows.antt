@@ -1,6 +1,7 @@
 -- A row of bytes: a line break, and then printable ASCII.
-use Rattle.std.proofs.Common.{◌≡◌, ℕ, suc, ◌+◌, ◌<◌, List, [], ◌∷◌, length, set, drop, take, length-set, refl, ap, ◌∙◌, arith}
+use Rattle.std.proofs.Common.{◌≡◌, ℕ, suc, ◌+◌, ◌<◌, ◌≤◌, List, [], ◌∷◌, length, set, drop, take, length-set, refl, sym, ap, ◌∙◌, arith}
 use Rattle.std.specs.Prelude.{All}
+use Rattle.std.proofs.lemmas.List.{take_all}
 use Rattle.std.proofs.lemmas.List.Elements.{All-cons, All-weaker, All-set, All-take, All-drop}
 use Rattle.dump_text.specs.Hexadecimal.{IsPrintable}
 
@@ -33,3 +34,21 @@ after_break text size long all =
       All-take IsPrintable (61 + size) _ (All-drop IsPrintable 1 _
           (All-set IsPrintable _ (61 + size) 124 bar (All-set IsPrintable text 60 124 bar all))),
     )
+
+-- the same of a whole row, which is all of the text
+pub whole_row : (text : List ℕ) (size : ℕ) → length text ≡ 78 → size ≡ 16 → All IsPrintable text
+    → (rest : List ℕ) × (set (set (set text 60 124) (61 + size) 124) 0 10 ≡ 10 ∷ rest)
+    × All IsPrintable rest
+whole_row text size long whole all =
+    let row = after_break text size long all in
+    let barred = set (set text 60 124) (61 + size) 124 in
+    let within : length (set barred 0 10) ≤ 62 + size =
+    omega (
+      arith,
+      long,
+      whole,
+      length-set text 60 124,
+      length-set (set text 60 124) (61 + size) 124,
+      length-set barred 0 10,
+    ) in
+    (row.0, sym (take_all (62 + size) (set barred 0 10) within) ∙ row.1, row.2)

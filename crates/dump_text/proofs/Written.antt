@@ -18,7 +18,7 @@ slice_more bytes start i le lt =
     ∙ ap (λ b. take (i - start) (drop start bytes) ++ b ∷ [])
     (get_or-drop start bytes (i - start) 0 ∙ ap (λ k. get_or bytes k 0) same)
 
-pub slice_none : (bytes : List ℕ) (i : ℕ) → slice_range bytes i i ≡ []
+slice_none : (bytes : List ℕ) (i : ℕ) → slice_range bytes i i ≡ []
 slice_none bytes i = grind (arith, common_steps)
 
 -- one byte more

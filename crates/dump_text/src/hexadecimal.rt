@@ -1,6 +1,6 @@
 //! Bytes in hexadecimal.
 
-ghost use Rattle.std.specs.Prelude.{◌≡◌, ◌<◌, ◌≤◌, ◌+◌, ◌/◌, ◌%◌, ◌∷◌, false, ℕ, List, All, length, set};
+ghost use Rattle.std.specs.Prelude.{◌≡◌, ◌<◌, ◌≤◌, ◌+◌, ◌/◌, ◌%◌, ◌∷◌, false, ℕ, List, All, IsUtf8, length, set};
 ghost use Rattle.std.specs.Fmt.{WritesOnOk, digit_glyph};
 ghost use Rattle.dump_text.specs.Hexadecimal.{IsPrintable, digits_of};
 
@@ -25,7 +25,8 @@ pub fn digit(value: u8) -> u8
     ensures glyph { result ≡ digit_glyph false value }
     ensures printable { IsPrintable result }
 {
-    b"0123456789abcdef"[value as usize]
+    // (unlike a table's, many are computed at once)
+    value + if value < 10 { b'0' } else { b'a' - 10 }
 }
 
 /// Writes two digits for each byte, in blocks.
@@ -67,11 +68,19 @@ fn put_digits(text: &mut [u8], place: usize, byte: u8)
 }
 
 /// Writes bytes of ASCII.
-pub(crate) fn write_ascii<W: fmt::Write>(bytes: &[u8], f: &mut fmt::Formatter<W>) -> fmt::Result
+fn write_ascii<W: fmt::Write>(bytes: &[u8], f: &mut fmt::Formatter<W>) -> fmt::Result
     requires { All (λ byte. byte < 128) bytes.now }
     ensures { WritesOnOk W.write_str_gives f.old result bytes.now f.new }
 {
-    // Proved to be UTF-8, since it is ASCII: a test costs as much as all that makes the text.
+    write_text(bytes, f)
+}
+
+/// Writes bytes that are proved to be UTF-8: a test costs as much as all that makes the text.
+#[inline(always)]
+pub(crate) fn write_text<W: fmt::Write>(bytes: &[u8], f: &mut fmt::Formatter<W>) -> fmt::Result
+    requires { IsUtf8 bytes.now }
+    ensures { WritesOnOk W.write_str_gives f.old result bytes.now f.new }
+{
     f.write_str(unsafe { str::from_utf8_unchecked(bytes) })
 }
 
@@ -96,13 +105,22 @@ pub fn write_row<W: fmt::Write>(offset: usize, row: &[u8], f: &mut fmt::Formatte
     put_digits(&mut text, 5, (offset / 256 % 256) as u8);
     put_digits(&mut text, 7, (offset % 256) as u8);
     text[9] = b':';
+    // A loop that writes its columns without a gap, and no others, is compiled to one that takes
+    // many bytes at once.
     for i in 0..row.len() {
         put_digits(&mut text, FIRST + 3 * i, row[i]);
-        text[BAR + 1 + i] = printable(row[i]);
+        text[FIRST + 3 * i + 2] = b' ';
+    }
+    for j in 0..row.len() {
+        text[BAR + 1 + j] = printable(row[j]);
     }
     text[BAR] = b'|';
     text[BAR + 1 + row.len()] = b'|';
     text[0] = b'\n';
+    if row.len() == ROW {
+        // Most rows are whole, and copied as a text of a known size is.
+        return write_ascii(&text, f);
+    }
     write_ascii(&text[..BAR + 2 + row.len()], f)
 }
 

@@ -1,14 +1,20 @@
 //! A text of the peer, printed.
 
-ghost use Rattle.std.specs.Prelude.{◌≡◌, Some, ◌<◌, ◌≤◌, ◌+◌, ◌++◌, ◌∷◌, [], length, min, take, true, false};
+ghost use Rattle.std.specs.Prelude.{◌≡◌, Some, ◌<◌, ◌≤◌, ◌+◌, ◌++◌, ◌∷◌, [], length, min, take, drop, true, false, IsUtf8};
 ghost use Rattle.std.specs.Fmt.{WritesOnOk};
 ghost use Rattle.dump_text.specs.Printed.{escape, is_hidden, is_character, is_shown, printed, shown_size, size_from};
 
-use crate::hexadecimal::{digit, write_ascii, write_utf8};
+use crate::hexadecimal::{digit, write_text};
 use std::fmt;
 
 /// The most bytes of a character after its first.
 const MOST_CONTINUATIONS: usize = 3;
+
+/// The bytes that are written at once.
+const BLOCK: usize = 128;
+
+/// The most bytes that are printed of a character that is shown, and those of an escape.
+const MOST_PRINTED: usize = 4;
 
 /// A text between quotation marks. What isn't UTF-8 is escaped, and so are quotation marks,
 /// backslashes, control characters, and characters that `is_hidden` names.
@@ -38,7 +44,7 @@ impl<'a> fmt::Display for OneWord<'a> {
     }
 }
 
-/// Writes the characters that are shown, and the escapes of all other bytes.
+/// Writes the characters that are shown, and the escapes of all other bytes, in blocks.
 fn write_printed<W: fmt::Write>(
     bytes: &[u8],
     is_word: bool,
@@ -46,37 +52,73 @@ fn write_printed<W: fmt::Write>(
 ) -> fmt::Result
     ensures { WritesOnOk W.write_str_gives f.old result (printed is_word bytes.now) f.new }
 {
-    let mut start = 0;
+    let mut block = [b' '; BLOCK];
+    let mut rest = bytes;
+    while !rest.is_empty() {
+        let (taken, filled) = fill_block(rest, is_word, &mut block);
+        write_text(&block[..filled], f)?;
+        rest = &rest[taken..];
+    }
+    Ok(())
+}
+
+/// Puts into a block what is printed of the bytes at the front, of as many as there is room for.
+/// Returns how many these are, and the size of what is printed of them.
+fn fill_block(bytes: &[u8], is_word: bool, block: &mut [u8]) -> (usize, usize)
+    requires some { 0 < length bytes.now }
+    requires room { length block.old ≡ BLOCK }
+    ensures text { take result.1 block.new ++ printed is_word (drop result.0 bytes.now)
+        ≡ printed is_word bytes.now }
+    ensures utf8 { IsUtf8 (take result.1 block.new) }
+    ensures taken { 0 < result.0 × (result.0 ≤ length bytes.now) }
+    ensures filled { result.1 ≤ BLOCK }
+    ensures size { length block.new ≡ BLOCK }
+{
     let mut at = 0;
-    while at < bytes.len() {
+    let mut filled = 0;
+    while at < bytes.len() && filled + MOST_PRINTED <= block.len() {
         let size = shown_size(&bytes[at..], is_word);
         if size > 0 {
+            put_character(&bytes[at..at + size], filled, block);
             at += size;
+            filled += size;
         } else {
-            write_shown(&bytes[start..at], f)?;
-            write_escape(bytes[at], f)?;
+            put_escape(bytes[at], filled, block);
             at += 1;
-            start = at;
+            filled += MOST_PRINTED;
         }
     }
-    write_utf8(&bytes[start..], f)
+    (at, filled)
 }
 
-/// Writes the characters between two escapes, if there are any.
-fn write_shown<W: fmt::Write>(bytes: &[u8], f: &mut fmt::Formatter<W>) -> fmt::Result
-    ensures { WritesOnOk W.write_str_gives f.old result bytes.now f.new }
+/// Puts a character's bytes at a place.
+#[inline(always)]
+fn put_character(character: &[u8], place: usize, text: &mut [u8])
+    requires { place + length character.now ≤ length text.old }
+    ensures front { take (place + length character.now) text.new
+        ≡ take place text.old ++ character.now }
+    ensures size { length text.new ≡ length text.old }
 {
-    if bytes.is_empty() {
-        return Ok(());
+    // Most characters are one byte.
+    if character.len() == 1 {
+        text[place] = character[0];
+    } else {
+        text[place..place + character.len()].copy_from_slice(character);
     }
-    write_utf8(bytes, f)
 }
 
-/// Writes a byte's escape.
-fn write_escape<W: fmt::Write>(byte: u8, f: &mut fmt::Formatter<W>) -> fmt::Result
-    ensures { WritesOnOk W.write_str_gives f.old result (escape byte) f.new }
+/// Puts a byte's escape at a place.
+#[inline(always)]
+fn put_escape(byte: u8, place: usize, text: &mut [u8])
+    requires { place + MOST_PRINTED ≤ length text.old }
+    ensures front { take (place + MOST_PRINTED) text.new ≡ take place text.old ++ escape byte }
+    ensures utf8 { IsUtf8 (escape byte) }
+    ensures size { length text.new ≡ length text.old }
 {
-    write_ascii(&[b'\\', b'x', digit(byte / 16), digit(byte % 16)], f)
+    text[place] = b'\\';
+    text[place + 1] = b'x';
+    text[place + 2] = digit(byte / 16);
+    text[place + 3] = digit(byte % 16);
 }
 
 /// Returns the size of the character at the front, if it is shown, or else 0.
@@ -84,6 +126,7 @@ fn shown_size(bytes: &[u8], is_word: bool) -> usize
     requires { 0 < length bytes.now }
     ensures value { result ≡ shown_size is_word bytes.now }
     ensures within { result ≤ length bytes.now }
+    ensures most { result ≤ MOST_PRINTED }
 {
     let size = size_from(bytes[0]);
     if size <= bytes.len() && is_character(&bytes[..size], is_word) {
@@ -95,7 +138,8 @@ fn shown_size(bytes: &[u8], is_word: bool) -> usize
 
 /// Returns the size of a character that begins with this byte.
 fn size_from(byte: u8) -> usize
-    ensures { result ≡ size_from byte }
+    ensures value { result ≡ size_from byte }
+    ensures most { result ≤ MOST_PRINTED }
 {
     match byte {
         0..0x80 => 1,
@@ -113,6 +157,9 @@ fn is_character(bytes: &[u8], is_word: bool) -> bool
     if bytes.len() == 1 && bytes[0] < 0x80 {
         return is_shown(char::from(bytes[0]), is_word);
     }
+    if begins_none(bytes) {
+        return false;
+    }
     match str::from_utf8(bytes) {
         Ok(text) => match text.chars().next() {
             Some(character) => is_shown(character, is_word),
@@ -122,13 +169,25 @@ fn is_character(bytes: &[u8], is_word: bool) -> bool
     }
 }
 
+/// Returns whether the first two of several bytes tell that these are no UTF-8: the first isn't
+/// ASCII, and begins no character, or the second doesn't go on with it.
+#[inline(always)]
+#[tactic(auto, using(crate::proofs::Leads::goes_on))]
+fn begins_none(bytes: &[u8]) -> bool
+    ensures { result ≡ true → IsUtf8 bytes.now → ⊥ }
+{
+    if bytes.len() < 2 || bytes[0] < 0x80 {
+        return false;
+    }
+    bytes[0] < 0xc0 || bytes[1] < 0x80 || bytes[1] >= 0xc0
+}
+
 /// Returns whether a character stands for itself.
 fn is_shown(character: char, is_word: bool) -> bool
     ensures { result ≡ is_shown is_word character }
 {
     match character {
-        '"' | '\\' => false,
-        '!'..='~' => true,
+        '!'..='~' => character != '"' && character != '\\',
         _ if is_word => false,
         ' ' => true,
         _ => character >= '\u{a0}' && !is_hidden(character),

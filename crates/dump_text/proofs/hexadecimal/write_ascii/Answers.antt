@@ -1,6 +1,6 @@
 use Rattle.std.proofs.lemmas.{Str.{IsUtf8-from_ascii}, Str.Ascii.{IsAscii-from_all}}
 use Rattle.dump_text.proofs.hexadecimal.write_ascii.Goals as goal
 
-pub from_utf8_unchecked-requires : goal.from_utf8_unchecked-requires
-from_utf8_unchecked-requires g c =
+pub write_text-requires : goal.write_text-requires
+write_text-requires g c =
     IsUtf8-from_ascii c.args.bytes.now (IsAscii-from_all c.args.bytes.now c.requires)

@@ -5,3 +5,6 @@ use Rattle.dump_text.proofs.hexadecimal.write_row.Given as goal
 
 abbrev pub invariant-loop-i : goal.invariant-loop-i
 invariant-loop-i g l = record { size : length l.text ≡ 78; printable : All IsPrintable l.text }
+
+abbrev pub invariant-loop-j : goal.invariant-loop-j
+invariant-loop-j g l = record { size : length l.text ≡ 78; printable : All IsPrintable l.text }

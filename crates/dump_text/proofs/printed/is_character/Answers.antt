@@ -19,3 +19,6 @@ returns-in-Some c =
 
 pub returns-in-Err : goal.returns-in-Err
 returns-in-Err c = no_character _ _ (search rules)
+
+pub returns-then-begins_none : goal.returns-then-begins_none
+returns-then-begins_none c = no_character _ _ (c.begins_none.ensures c.if-begins_none.true)

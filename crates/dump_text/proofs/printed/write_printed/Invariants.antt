@@ -1,17 +1,15 @@
-use Rattle.std.proofs.Common.{◌≡◌, ◌-◌, ◌≤◌, List, ℕ, ◌++◌, drop, length}
+use Rattle.std.proofs.Common.{◌≡◌, List, ℕ, ◌++◌, length}
 use Rattle.std.specs.Fmt.{HasWritten, IsPlainFormatter}
-use Rattle.std.specs.List.{slice_range}
 use Rattle.dump_text.specs.Printed.{printed}
 use Rattle.dump_text.proofs.printed.write_printed.Given as goal
 
-abbrev pub invariant-loop-at : goal.invariant-loop-at
-invariant-loop-at g l = record {
-  in_order : l.start ≤ l.at;
-  within : l.at ≤ length l.bytes;
+abbrev pub invariant-loop-rest : goal.invariant-loop-rest
+invariant-loop-rest g l = record {
+  size : length l.block ≡ 128;
   so_far : IsPlainFormatter l.initial.f → (done : List ℕ)
       × HasWritten g.W.Write.write_str_gives l.initial.f done l.f
-      × ((done ++ slice_range l.bytes l.start l.at) ++ printed l.is_word (drop l.at l.bytes) ≡ printed l.is_word l.bytes);
+      × (done ++ printed l.is_word l.rest ≡ printed l.is_word l.fn.bytes);
 }
 
-abbrev pub decreases-loop-at : goal.decreases-loop-at
-decreases-loop-at g l = length l.bytes - l.at
+abbrev pub decreases-loop-rest : goal.decreases-loop-rest
+decreases-loop-rest g l = length l.rest
