@@ -772,6 +772,26 @@ static void give(struct side *side, const uint8_t *bytes, size_t length)
         send_packet(side, answer_given, answer_size, 0, 0);
 }
 
+static void ignore_data(void *user, const struct dcsctp_data *data, const uint8_t *payload)
+{
+    (void)user, (void)data, (void)payload;
+}
+
+/* Gives a packet to the responder with some bytes changed; it is then as it was before. */
+static void give_changed(uint8_t *bytes, size_t length)
+{
+    const struct responder before = responder;
+    for (size_t count = 1 + below(3); count > 0; count--)
+        bytes[PLAIN_HEADER + below(length < 80 ? length - PLAIN_HEADER : 80 - PLAIN_HEADER)] ^= (uint8_t)(1 << below(8));
+    seal(bytes, length);
+    responder.take_data = ignore_data;
+    write_word("save");
+    answer_size = responder_receive(&responder, now * 1000, bytes, length, answer_given, sizeof answer_given);
+    write_row(bytes, length);
+    write_word("restore");
+    responder = before;
+}
+
 /* usrsctp's call: with a message, with an event of streams that changed, or with no data at the end. */
 static int receive(struct socket *socket, union sctp_sockstore from, void *data, size_t size, struct sctp_rcvinfo info, int flags,
                    void *to)
@@ -813,8 +833,10 @@ static void step(void)
             size = meddle(packet->to, bytes, size);
         if (size > 0)
             give(packet->to, bytes, size);
-        if (size > 0 && rows && scenario->is_answered && !scenario->run && packet->to == &sides[1])
-            give(packet->to, bytes, size); /* rows have each packet twice */
+        if (size > 0 && rows && scenario->is_answered && !scenario->run && packet->to == &sides[1]) {
+            give(packet->to, bytes, size); /* rows have each packet twice, */
+            give_changed(bytes, size);     /* and then with other bytes */
+        }
         free(packet);
     }
     usrsctp_handle_timers(STEP);
@@ -1425,8 +1447,38 @@ static void provoke(uint8_t type)
     give_written(&sides[0]);
 }
 
+/* INIT ACK and COOKIE ACK: usrsctp is called in the name of the responder, which knows nothing of it. */
+static void run_called(void)
+{
+    const struct dcsctp_init init = {5, 1 << 20, 1, 1, 1};
+    struct plain_item chunk, item;
+    forgotten = &(const struct forgotten){.type = PLAIN_INIT_ACK};
+    is_blue = false;
+    meddle = forget;
+    sides[0].socket = open_socket(&sides[0]);
+    REQUIRE(!usrsctp_listen(sides[0].socket, 1));
+    REQUIRE(!dcsctp_begin(TO_WRITTEN, 5000, 5000, 0) && !dcsctp_add_init(TO_WRITTEN, &init));
+    give_written(&sides[0]);
+    RUN_UNTIL(is_blue);
+    REQUIRE(answers_blue(blue, PLAIN_ABORT) && plain_chunk_at(blue, PLAIN_HEADER, sizeof blue, &chunk));
+    for (size_t at = chunk.value + 16; plain_item_at(blue, at, chunk.value + chunk.size, &item) && item.type != 7; at = item.next)
+        ;
+    static uint8_t echo[MOST];
+    size_t size;
+    REQUIRE(!dcsctp_begin(echo, MOST, &size, 5000, 5000, plain_u32(blue + chunk.value)));
+    REQUIRE(!dcsctp_add_cookie_echo(echo, MOST, &size, blue + item.value, item.size));
+    seal(echo, size);
+    forgotten = &(const struct forgotten){.type = PLAIN_COOKIE_ACK};
+    is_blue = false;
+    give(&sides[0], echo, size);
+    RUN_UNTIL(is_blue);
+    REQUIRE(answers("", 0));
+    crash();
+}
+
 static void run_forgotten(void)
 {
+    run_called();
     const struct forgotten *end = kinds_forgotten + sizeof kinds_forgotten / sizeof *kinds_forgotten;
     for (forgotten = kinds_forgotten; forgotten < end; forgotten++) {
         connect_sides();
