@@ -86,11 +86,14 @@ class Responder:
         self.association: davgyuti.Cookie | None = None  # nothing is kept of an INIT until its cookie comes back
 
     def receive(self, now: int, data: bytes) -> bytes:
-        """Takes a packet, and returns the one that answers it, or nothing."""
+        """Takes a packet, and returns the one that answers it, or nothing: for bytes that are none too, and where no packet has
+        room for the answer."""
         try:
-            packet = davgyuti.Packet(data)
-        except davgyuti.Fault:
+            return self.answer_packet(now, davgyuti.Packet(data))
+        except (davgyuti.Fault, davgyuti.WriteError):
             return b""
+
+    def answer_packet(self, now: int, packet: davgyuti.Packet) -> bytes:
         header = packet.header
         if header.source_port == 0 or header.destination_port == 0:
             return b""
@@ -100,7 +103,7 @@ class Responder:
             case TagVerdict.DISCARD:
                 return b""
             case TagVerdict.OUT_OF_THE_BLUE:
-                answer = davgyuti.out_of_the_blue(data, is_unicast=True)
+                answer = davgyuti.out_of_the_blue(bytes(packet), is_unicast=True)
                 if answer in (Answer.SHUTDOWN_COMPLETE, Answer.ABORT):
                     return davgyuti.reply(header, answer)
                 if answer == Answer.DISCARD:
@@ -245,19 +248,16 @@ class Responder:
 
     def answer(self, chunks: list[davgyuti.Chunk]) -> bytes:
         """The packet of these chunks, with AUTH before the first of those that the peer listed (RFC 4895 section 6.2); nothing, if
-        there are none, or no packet has room for them."""
+        there are none."""
         it, start = self.association, None
         if it is None or not chunks:
             return b""
         builder = davgyuti.PacketBuilder(it.local_port, it.peer_port, it.peer_tag)
-        try:
-            for chunk in chunks:
-                if self.shared_key and start is None and davgyuti.is_listed(self.peer_listed, chunk.type):
-                    start = len(builder)
-                    builder.add(registered.Auth(self.pair_key_identifier, self.hmac, bytes(20 if self.hmac == SHA_1 else 32)))
-                builder.add(chunk)
-        except davgyuti.WriteError:
-            return b""
+        for chunk in chunks:
+            if self.shared_key and start is None and davgyuti.is_listed(self.peer_listed, chunk.type):
+                start = len(builder)
+                builder.add(registered.Auth(self.pair_key_identifier, self.hmac, bytes(20 if self.hmac == SHA_1 else 32)))
+            builder.add(chunk)
         if start is not None:
             builder.sign_auth(self.shared_key, start)
         return builder.seal()

@@ -12,7 +12,7 @@ import unittest
 from typing import Any
 
 import davgyuti
-from support import HERE, module
+from support import HERE, module, mutated
 from test_program import environment
 
 PROGRAM = os.path.join(HERE, os.pardir, "examples", "responder.py")
@@ -136,6 +136,20 @@ class Responders(unittest.TestCase):
             lines = file.read().splitlines()
         rows = conversation()
         self.assertEqual(lines[-len(rows) :], rows)
+
+    def test_hostile(self) -> None:
+        """Bytes that are no packet, and an INIT whose unknown parameters no INIT ACK has room for."""
+        example = module("responder", PROGRAM)
+        responder = example.Responder(KEY, example.Next(TAG, TSN), lambda data: None, listed=bytes((DATA,)))
+        init = chunk(1, struct.pack(">IIHHI", PEER_TAG, 1500, 3, 4, PEER_TSN) + 16_000 * item(0xC100, b""))
+        self.assertEqual(responder.receive(0, packet(0, init)), b"")
+        answers = 0
+        for data in mutated(4000, 7):
+            answer = responder.receive(0, davgyuti.seal(data) if len(data) >= 12 else data)
+            answers += answer != b""
+            if answer:
+                davgyuti.check(answer)
+        self.assertGreater(answers, 1000)
 
     def test_program(self) -> None:
         """INIT, and the COOKIE ECHO with the cookie that came."""

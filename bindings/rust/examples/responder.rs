@@ -686,7 +686,10 @@ fn main() {
 
 #[cfg(test)]
 mod tests {
-    use super::{Closed, Next, Responder, Settings, answer_line, of_hex};
+    use super::{
+        Closed, Init, MAX_PACKET, Next, PacketBuilder, ParameterType, Responder, Settings,
+        answer_line, of_hex,
+    };
 
     fn of_word(word: &str) -> Vec<u8> {
         of_hex(word.trim_matches('-')).unwrap()
@@ -729,5 +732,25 @@ mod tests {
             }
         }
         assert!(answers > 150, "{answers}");
+    }
+
+    /// An INIT whose unknown parameters no INIT ACK has room for.
+    #[test]
+    fn large_init() {
+        let mut buffer = vec![0; MAX_PACKET];
+        let mut packet = PacketBuilder::begin(&mut buffer, 5000, 5001, 0).unwrap();
+        let numbers = Init {
+            initiate_tag: 1,
+            a_rwnd: 1500,
+            outbound_streams: 1,
+            inbound_streams: 1,
+            initial_tsn: 1,
+        };
+        let mut init = packet.init(&numbers).unwrap();
+        for _ in 0..16_000 {
+            init.parameter(ParameterType(0xc100), &[]).unwrap();
+        }
+        let packet = packet.seal();
+        assert_eq!(Responder::default().receive(0, packet, &mut |_| {}), []);
     }
 }
