@@ -20,7 +20,7 @@ struct responder {
     uint8_t random[32];
     uint8_t key[32]; /* drawn once: who knows it can forge cookies */
     struct bytes listed; /* types of chunks that count after AUTH alone (RFC 4895), not COOKIE ECHO; if empty, there is no AUTH */
-    struct bytes pair_key; /* the endpoint pair shared key, which may be empty, and its identifier */
+    struct bytes pair_key; /* the endpoint pair shared key, of 0 to 64 bytes, and its identifier */
     uint16_t pair_key_identifier;
     void *user;
     void (*take_data)(void *user, const struct dcsctp_data *data, const uint8_t *payload); /* each TSN once, as it comes */
@@ -274,6 +274,7 @@ static bool open_association(struct responder *r, uint64_t now, struct exchange 
     r->association = cookie;
     r->cumulative_tsn = cookie.peer_initial_tsn - 1;
     r->next_request = cookie.peer_initial_tsn; /* RFC 6525 section 5.1.1 */
+    r->last_result = DCSCTP_RE_CONFIG_NOTHING_TO_DO;
     r->block_count = r->duplicate_count = 0;
     open_auth(r, kept, cookie.addresses_size);
     return true;

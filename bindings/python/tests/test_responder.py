@@ -38,56 +38,119 @@ def chunk(type: int, value: bytes, flags: int = 0) -> bytes:
     return padded(struct.pack(">BBH", type, flags, 4 + len(value)) + value)
 
 
-def packet(tag: int, chunks: bytes) -> bytes:
-    """To the responder's port 5001 where the tag is not the peer's."""
-    ports = (5001, 5000) if tag == PEER_TAG else (5000, 5001)
-    return davgyuti.seal(struct.pack(">HHII", *ports, tag, 0) + chunks)
+def question(tag: int, chunks: bytes) -> bytes:
+    """A packet to the responder."""
+    return davgyuti.seal(struct.pack(">HHII", 5000, 5001, tag, 0) + chunks)
+
+
+def answer(tag: int, chunks: bytes) -> bytes:
+    """One that it sends."""
+    return davgyuti.seal(struct.pack(">HHII", 5001, 5000, tag, 0) + chunks)
+
+
+def parameters_of_auth(random: bytes, listed: int, *hmacs: int) -> tuple[bytes, ...]:
+    """Random, Chunk List and Requested HMAC Algorithm (RFC 4895 section 3)."""
+    return item(0x8002, random), item(0x8003, bytes((listed,))), item(0x8004, struct.pack(f">{len(hmacs)}H", *hmacs))
+
+
+def listed(items: tuple[bytes, ...]) -> bytes:
+    """A list of parameters: all but the last with their padding."""
+    return b"".join(map(padded, items[:-1])) + b"".join(items[-1:])
+
+
+def sealed(tag: int, tsn: int, peer_tag: int, peer_tsn: int, *kept: bytes) -> bytes:
+    """A State Cookie of the time 1000: an HMAC, the numbers, and parameters."""
+    says = struct.pack(">QQIIIIHHHH", 1000, 60_000_000, tag, peer_tag, tsn, peer_tsn, 5001, 5000, 1, 3) + listed(kept)
+    return hmac.digest(KEY, says, "sha256") + says
+
+
+def init(tag: int, tsn: int, parameters: tuple[bytes, ...], port: int = 5000) -> bytes:
+    value = struct.pack(">IIHHI", tag, 1500, 3, 4, tsn) + listed(parameters)
+    return davgyuti.seal(struct.pack(">HHII", port, 5001, 0, 0) + chunk(1, value))
+
+
+def init_ack(peer_tag: int, tag: int, tsn: int, own: tuple[bytes, ...], cookie: bytes) -> bytes:
+    extensions = item(0x8008, bytes((130, 64, 192, 194, AUTH)))
+    value = struct.pack(">IIHHI", tag, 1 << 20, 1, 64, tsn) + listed((*own, item(7, cookie), extensions, item(0xC000, b"")))
+    return answer(peer_tag, chunk(2, value))
+
+
+def signed(key: bytes, chunks: bytes, algorithm: int = SHA_256, identifier: int = IDENTIFIER) -> bytes:
+    """The chunks after an AUTH (RFC 4895 sections 5.1 and 6.2)."""
+    name, size = ("sha1", 20) if algorithm == SHA_1 else ("sha256", 32)
+    covered = chunk(AUTH, struct.pack(">HH", identifier, algorithm) + bytes(size)) + chunks
+    return covered[:8] + hmac.digest(key, covered, name) + covered[8 + size :]
+
+
+def data(tsn: int) -> bytes:
+    return chunk(DATA, struct.pack(">IHHI", tsn, 0, 0, 51) + b"abc", 3)
+
+
+def sack(tsn: int, *blocks: tuple[int, int]) -> bytes:
+    numbers = [number for block in blocks for number in block]
+    return chunk(SACK, struct.pack(f">IIHH{len(numbers)}H", tsn, 1 << 20, len(blocks), 0, *numbers))
 
 
 def conversation() -> list[str]:
-    """Rows of a responder that wants DATA authenticated, and its peer SACK. The cookie has an HMAC first, and after its numbers the
-    parameters of AUTH of both ends."""
-    own = item(0x8002, bytes(range(100, 132))), item(0x8003, bytes((DATA,))), item(0x8004, struct.pack(">HH", SHA_256, SHA_1))
-    peer = item(0x8002, bytes(range(200, 232))), item(0x8003, bytes((SACK,))), item(0x8004, struct.pack(">HHH", 2, SHA_256, SHA_1))
-    shared_key = PAIR_KEY + b"".join(sorted((b"".join(own), b"".join(peer)), key=lambda it: int.from_bytes(it, "big")))
-    says = struct.pack(">QQIIIIHHHH", 1000, 60_000_000, TAG, PEER_TAG, TSN, PEER_TSN, 5001, 5000, 1, 3)
-    says += b"".join(map(padded, own)) + padded(peer[0]) + padded(peer[1]) + peer[2]
-    cookie = hmac.digest(KEY, says, "sha256") + says
-    extensions = item(0x8008, bytes((130, 64, 192, 194, AUTH)))
+    """Rows of a responder that wants DATA authenticated, and of peers that want SACK. The first one begins anew; the second one has
+    no Random, and so no AUTH."""
+    randoms = bytes(range(100, 132)), bytes(range(50, 82))
+    peer = parameters_of_auth(bytes(range(200, 232)), SACK, 2, SHA_256, SHA_1)
+    owns = [parameters_of_auth(random, DATA, SHA_256, SHA_1) for random in randoms]
+    keys = []
+    for own in owns:  # (RFC 4895 section 6.1)
+        vectors = sorted((b"".join(own), b"".join(peer)), key=lambda it: int.from_bytes(it, "big"))
+        keys.append(PAIR_KEY + b"".join(vectors))
+    key = keys[0]
 
-    def signed(chunks: bytes, algorithm: int = SHA_256, key: int = IDENTIFIER) -> bytes:
-        """RFC 4895 sections 5.1 and 6.2."""
-        name, size = ("sha1", 20) if algorithm == SHA_1 else ("sha256", 32)
-        covered = chunk(AUTH, struct.pack(">HH", key, algorithm) + bytes(size)) + chunks
-        return covered[:8] + hmac.digest(shared_key, covered, name) + covered[8 + size :]
+    def begin(at: int) -> list[str]:
+        return [f"new {IDENTIFIER} {PAIR_KEY.hex()} {DATA:02x} {KEY.hex()}", *draw(at)]
 
-    def data(number: int) -> bytes:
-        return chunk(DATA, struct.pack(">IHHI", PEER_TSN + number, 0, 0, 51) + b"abc", 3)
+    def draw(at: int) -> list[str]:
+        return [f"next {TAG + at:08x} {TSN + at:08x} {randoms[at].hex()}"]
 
-    def sack(number: int) -> bytes:
-        return packet(PEER_TAG, signed(chunk(SACK, struct.pack(">IIHH", PEER_TSN + number, 1 << 20, 0, 0))))
+    def rows(*exchanges: tuple[bytes, bytes]) -> list[str]:
+        return [f"1000 {question.hex()} {answer.hex() or '-'}" for question, answer in exchanges]
 
-    init = chunk(1, struct.pack(">IIHHI", PEER_TAG, 1500, 3, 4, PEER_TSN) + b"".join(map(padded, peer[:2])) + peer[2])
-    parameters = b"".join(map(padded, (*own, item(7, cookie), extensions))) + item(0xC000, b"")
-    init_ack = chunk(2, struct.pack(">IIHHI", TAG, 1 << 20, 1, 64, TSN) + parameters)
-    cookie_ack, heartbeat = chunk(11, b""), item(1, b"info")
-    opened = packet(PEER_TAG, cookie_ack + sack(0)[12:])
-    wrong = bytearray(signed(data(1)))
+    cookie = sealed(TAG, TSN, PEER_TAG, PEER_TSN, *owns[0], *peer)
+    wrong = bytearray(signed(key, data(PEER_TSN + 1)))
     wrong[8] ^= 1
-    exchanges = [
-        (packet(0, init), packet(PEER_TAG, init_ack)),
-        (packet(TAG, chunk(10, cookie) + signed(data(0))), opened),
-        (packet(TAG, bytes(wrong)), b""),
-        (packet(TAG, data(1)), b""),
-        (packet(TAG, data(1) + signed(b"")), b""),
-        (packet(TAG, signed(data(1), key=0)), b""),
-        (packet(TAG, signed(data(1))), sack(1)),
-        (packet(TAG, signed(data(2), SHA_1)), sack(2)),
-        (packet(TAG, chunk(4, heartbeat)), packet(PEER_TAG, chunk(5, heartbeat))),
-    ]
-    rows = ["# sha-256", f"new {IDENTIFIER} {PAIR_KEY.hex()} {DATA:02x} {KEY.hex()}"]
-    rows.append(f"next {TAG:08x} {TSN:08x} {bytes(range(100, 132)).hex()}")
-    return rows + [f"1000 {question.hex()} {answer.hex() or '-'}" for question, answer in exchanges]
+    cookie_ack, heartbeat = chunk(11, b""), item(1, b"info")
+    first = rows(
+        (init(PEER_TAG, PEER_TSN, peer), init_ack(PEER_TAG, TAG, TSN, owns[0], cookie)),
+        (question(TAG + 1, chunk(10, cookie)), b""),
+        (
+            question(TAG, chunk(10, cookie) + signed(key, data(PEER_TSN))),
+            answer(PEER_TAG, cookie_ack + signed(key, sack(PEER_TSN))),
+        ),
+        (question(TAG, bytes(wrong)), b""),
+        (question(TAG, data(PEER_TSN + 1)), b""),
+        (question(TAG, data(PEER_TSN + 1) + signed(key, b"")), b""),
+        (question(TAG, signed(key, data(PEER_TSN + 1), identifier=0)), b""),
+        (question(TAG, signed(key, data(PEER_TSN + 1))), answer(PEER_TAG, signed(key, sack(PEER_TSN + 1)))),
+        (question(TAG, signed(key, data(PEER_TSN + 2), SHA_1)), answer(PEER_TAG, signed(key, sack(PEER_TSN + 2)))),
+        (question(TAG, signed(key, data(PEER_TSN + 5))), answer(PEER_TAG, signed(key, sack(PEER_TSN + 2, (3, 3))))),
+        (question(TAG, chunk(4, heartbeat)), answer(PEER_TAG, chunk(5, heartbeat))),
+    )
+    # The peer begins anew, with the next tag as its own: the Tie-Tags are a cookie of the association (RFC 9260 section 5.2.2).
+    ties = item(7, sealed(TAG, TSN, PEER_TAG, PEER_TSN))
+    cookie = sealed(TAG + 1, TSN + 1, PEER_TAG + 1, PEER_TSN + 9, ties, *owns[1], *peer)
+    again = rows(
+        (init(PEER_TAG + 1, PEER_TSN + 9, peer, port=5002), b""),
+        (init(PEER_TAG + 1, PEER_TSN + 9, peer), init_ack(PEER_TAG + 1, TAG + 1, TSN + 1, owns[1], cookie)),
+        (
+            question(TAG + 1, chunk(10, cookie) + signed(keys[1], data(PEER_TSN + 9))),
+            answer(PEER_TAG + 1, cookie_ack + signed(keys[1], sack(PEER_TSN + 9))),
+        ),
+    )
+    bare = peer[1:]
+    key = PAIR_KEY + b"".join(bare) + b"".join(owns[0])
+    cookie = sealed(TAG, TSN, PEER_TAG, PEER_TSN, *owns[0], *bare)
+    without = rows(
+        (init(PEER_TAG, PEER_TSN, bare), init_ack(PEER_TAG, TAG, TSN, owns[0], cookie)),
+        (question(TAG, chunk(10, cookie) + signed(key, data(PEER_TSN))), answer(PEER_TAG, cookie_ack)),
+    )
+    return ["# sha-256", *begin(0), *first, *draw(1), *again, *begin(0), *without]
 
 
 def of_word(word: str) -> bytes:
@@ -141,14 +204,13 @@ class Responders(unittest.TestCase):
         """Bytes that are no packet, and an INIT whose unknown parameters no INIT ACK has room for."""
         example = module("responder", PROGRAM)
         responder = example.Responder(KEY, example.Next(TAG, TSN), lambda data: None, listed=bytes((DATA,)))
-        init = chunk(1, struct.pack(">IIHHI", PEER_TAG, 1500, 3, 4, PEER_TSN) + 16_000 * item(0xC100, b""))
-        self.assertEqual(responder.receive(0, packet(0, init)), b"")
+        self.assertEqual(responder.receive(0, init(PEER_TAG, PEER_TSN, 16_000 * (item(0xC100, b""),))), b"")
         answers = 0
-        for data in mutated(4000, 7):
-            answer = responder.receive(0, davgyuti.seal(data) if len(data) >= 12 else data)
-            answers += answer != b""
-            if answer:
-                davgyuti.check(answer)
+        for it in mutated(4000, 7):
+            found = responder.receive(0, davgyuti.seal(it) if len(it) >= 12 else it)
+            answers += found != b""
+            if found:
+                davgyuti.check(found)
         self.assertGreater(answers, 1000)
 
     def test_program(self) -> None:

@@ -3,8 +3,8 @@
 //!
 //! A responder to start from: the side of an association that is called (RFC 9260), and takes user
 //! data. Each line of the input is a time in microseconds and a packet in hexadecimal; what answers
-//! it is printed likewise, or an empty line. KEY, in hexadecimal, is that of the cookies; TAG, not 0,
-//! and TSN are numbers of the association. Let them be random.
+//! it is printed likewise, or an empty line. KEY, in hexadecimal, is that of the cookies; TAG, not
+//! 0, and TSN are numbers of the association. Let them be random.
 //!
 //! No byte is written by hand, and [`Responder`] has no I/O and no clock: packets and the time go
 //! in, and packets come out. Left out: user data that is sent, and with it timers; messages put
