@@ -1,12 +1,14 @@
 /* SPDX-License-Identifier: Apache-2.0 */
 /* Writes what two sockets of usrsctp, a real stack of SCTP, send to each other in one process.
 
-   usage: cc -O2 -o stacks tests/dump/stacks.c -lusrsctp && ./stacks FILE [ADDRESS]
+   usage: cc -O2 -o stacks tests/dump/stacks.c -lusrsctp && ./stacks FILE [IPV4 IPV6]
 
    FILE is a capture (pcap) of link type 248: packets of SCTP without addresses. One association follows another, each with an
-   extension of its own; the last one, with ASCONF, is over UDP on this machine, which has ADDRESS beside 127.0.0.1. usrsctp asks
-   this program for the time and for random numbers, so that each run writes the same. Needed is Debian's libusrsctp-dev;
-   data/usrsctp.pcap is what `stacks FILE 192.0.2.2` wrote with its version 0.9.5.0. */
+   extension of its own. Those with ASCONF, and with lists of addresses, are over UDP on this machine, which has these addresses
+   beside 127.0.0.1 and ::1 (`ip addr add 192.0.2.2/32 dev lo`, `ip addr add 2001:db8::2/128 dev lo`). In the last ones the
+   network spoils packets, and what is written is what was sent. usrsctp asks this program for the time and for random numbers,
+   so that each run writes the same. Needed is Debian's libusrsctp-dev; data/usrsctp.pcap is what
+   `stacks FILE 192.0.2.2 2001:db8::2` wrote with its version 0.9.5.0. */
 #define _GNU_SOURCE
 #include <arpa/inet.h>
 #include <errno.h>
@@ -23,7 +25,8 @@
 
 enum { STREAMS = 4, STEP = 5 /* of the clock, in milliseconds */, LARGEST = 1500, START = 1700000000 /* in seconds */ };
 enum { INTERLEAVING_SUPPORTED = 0x1206 }; /* usrsctp's SCTP_INTERLEAVING_SUPPORTED, which its header leaves out */
-enum { UDP_PORT = 9899 };
+enum { UDP_PORT = 9899, COOKIE_LIFE = 1000 /* of a stale one, in milliseconds */ };
+enum { DATA = 0, INIT = 1, COOKIE_ECHO = 10, ASCONF_ACK = 128 };
 
 /* ---- what each association is to have */
 
@@ -37,20 +40,30 @@ static const struct scenario {
     bool changes;          /* streams are reset and added (RFC 6525) */
     bool idles;            /* the sides ask whether the other is there: HEARTBEAT */
     bool aborts;           /* the end is ABORT in place of SHUTDOWN */
+    bool is_spoiled;       /* see `spoil` */
+    bool is_stale;         /* COOKIE ECHO comes when its cookie is no longer good */
+    unsigned messages;     /* of each side, at first */
     unsigned lost;         /* packets of a hundred */
 } scenarios[] = {
-    {.name = "plain", .lost = 10, .idles = true},
-    {.name = "authenticated", .is_authenticated = true, .lost = 5},
+    {.name = "plain", .messages = 8, .lost = 10, .idles = true},
+    {.name = "authenticated", .messages = 6, .is_authenticated = true, .lost = 5},
     {.name = "refused", .is_authenticated = true, .is_refused = true},
-    {.name = "partial", .abandons = true, .lost = 20},
-    {.name = "nr-sack", .has_nr_sack = true, .lost = 10},
-    {.name = "i-data", .is_interleaved = true, .changes = true},
-    {.name = "i-partial", .is_interleaved = true, .abandons = true, .lost = 45},
-    {.name = "aborted", .changes = true, .aborts = true},
+    {.name = "partial", .messages = 6, .abandons = true, .lost = 20},
+    {.name = "nr-sack", .messages = 6, .has_nr_sack = true, .lost = 10},
+    {.name = "i-data", .messages = 6, .is_interleaved = true, .changes = true},
+    {.name = "i-partial", .messages = 6, .is_interleaved = true, .abandons = true, .lost = 45},
+    {.name = "aborted", .messages = 6, .changes = true, .aborts = true},
+    {0},
+}, later_scenarios[] = {
+    {.name = "spoiled", .messages = 3, .is_spoiled = true},
+    {.name = "stale", .messages = 1, .is_stale = true},
+    {.name = "nr-sack, of both kinds", .messages = 20, .has_nr_sack = true, .lost = 30},
+    {0},
 }, *scenario;
 
 static uint64_t now; /* in milliseconds */
 static FILE *capture;
+static const char *addresses[2]; /* of this machine: one of each version */
 
 #define REQUIRE(condition) ((condition) ? (void)0 : fail(#condition, __LINE__))
 
@@ -124,19 +137,61 @@ static struct packet {
     uint8_t bytes[];
 } *under_way; /* in the order in which they were sent */
 
+static void put(uint8_t *place, const uint8_t *bytes, size_t size)
+{
+    memcpy(place, bytes, size);
+}
+
+/* Spoils a packet on its way, once for each of these, and gives it the checksum of what it is now: INIT has a parameter and a
+   packet a chunk of a type that usrsctp doesn't know, DATA is of a stream that isn't there, and DATA has no user data. */
+static size_t spoil(uint8_t *packet, size_t size)
+{
+    static const uint8_t parameter[] = {0xc0, 0xde, 0, 8, 1, 2, 3, 4}, chunk[] = {0xfe, 0, 0, 8, 5, 6, 7, 8};
+    static const uint8_t empty[] = {DATA, 3, 0, 16}, stream[] = {0, 77};
+    static unsigned step;
+    uint8_t *head = packet + 12;
+    if (head[0] == INIT && step == 0) {
+        uint16_t length = htons((uint16_t)(size - 12 + sizeof parameter));
+        put(packet + size, parameter, sizeof parameter);
+        put(head + 2, (uint8_t *)&length, sizeof length);
+        size += sizeof parameter;
+    } else if (head[0] == DATA && step == 1) {
+        put(head + 8, stream, sizeof stream);
+    } else if (head[0] == DATA && step == 2) {
+        put(packet + size, chunk, sizeof chunk);
+        size += sizeof chunk;
+    } else if (head[0] == DATA && step == 3) {
+        put(head, empty, sizeof empty);
+        size = 12 + 16;
+    } else {
+        return size;
+    }
+    step++;
+    memset(packet + 8, 0, 4);
+    uint32_t checksum = usrsctp_crc32c(packet, size);
+    put(packet + 8, (uint8_t *)&checksum, sizeof checksum);
+    return size;
+}
+
 /* usrsctp calls this with locks held: so the packet waits until the clock goes on. */
 static int send_packet(void *from, void *bytes, size_t size, uint8_t tos, uint8_t set_df)
 {
-    struct packet **place = &under_way, *packet = malloc(sizeof *packet + size);
+    static uint64_t good_until; /* where a cookie is to be stale */
+    struct packet **place = &under_way, *packet = malloc(sizeof *packet + size + 8);
+    const uint8_t type = ((uint8_t *)bytes)[12];
     (void)tos, (void)set_df;
     REQUIRE(packet);
     write_record(bytes, size);
-    if (draw() % 100 < scenario->lost) {
+    if (type == INIT)
+        good_until = good_until ? good_until : now + 2 * COOKIE_LIFE;
+    if (draw() % 100 < scenario->lost || (scenario->is_stale && type == COOKIE_ECHO && now < good_until)) {
         free(packet);
         return 0;
     }
     *packet = (struct packet){.due = now + 20, .to = &sides[from == name_of(&sides[0])], .size = size};
     memcpy(packet->bytes, bytes, size);
+    if (scenario->is_spoiled)
+        packet->size = spoil(packet->bytes, size);
     while (*place)
         place = &(*place)->next;
     *place = packet;
@@ -226,6 +281,10 @@ static struct socket *open_socket(struct side *side)
         set(socket, SCTP_NRSACK_SUPPORTED, &on, sizeof on);
     if (scenario->is_authenticated)
         authenticate(socket);
+    if (scenario->is_stale) {
+        struct sctp_assocparams life = {.sasoc_cookie_life = COOKIE_LIFE};
+        set(socket, SCTP_ASSOCINFO, &life, sizeof life);
+    }
     REQUIRE(!usrsctp_bind(socket, (struct sockaddr *)&address, sizeof address));
     return socket;
 }
@@ -322,7 +381,12 @@ static void run_association(void)
         run_for(8000);
         return;
     }
-    exchange_messages(scenario->idles ? 8 : 6);
+    if (scenario->is_spoiled) {
+        send_messages(&sides[0], scenario->messages);
+        run_for(1000);
+        return;
+    }
+    exchange_messages(scenario->messages);
     RUN_UNTIL(!under_way);
     if (scenario->changes) {
         change_streams();
@@ -353,6 +417,18 @@ static void run_scenario(void)
 
 /* ---- ASCONF (RFC 5061), of which usrsctp knows none without IP: over UDP on this machine */
 
+/* The type of the chunk whose packets the network loses; -1 for none. */
+static int lost_type = -1;
+
+static bool has_chunk(const uint8_t *packet, size_t size, int type)
+{
+    for (size_t at = 12; at + 4 <= size; at += (((size_t)packet[at + 2] << 8 | packet[at + 3]) + 3) & ~(size_t)3) {
+        if (packet[at] == type)
+            return true;
+    }
+    return false;
+}
+
 /* In the place of the C library's: what usrsctp sends by UDP is a packet of SCTP. The clock stands still while it waits. */
 ssize_t sendmsg(int file, const struct msghdr *message, int flags)
 {
@@ -365,6 +441,8 @@ ssize_t sendmsg(int file, const struct msghdr *message, int flags)
     }
     write_record(bytes, size);
     funlockfile(capture);
+    if (has_chunk(bytes, size, lost_type))
+        return (ssize_t)size;
     return syscall(SYS_sendmsg, file, message, flags);
 }
 
@@ -379,77 +457,173 @@ static struct sockaddr_in ip_address(const char *address, uint16_t port)
     return (struct sockaddr_in){.sin_family = AF_INET, .sin_addr.s_addr = inet_addr(address), .sin_port = htons(port)};
 }
 
-static struct socket *open_over_udp(uint16_t port)
+static struct sockaddr_in6 ipv6_address(const char *address, uint16_t port)
 {
-    struct sctp_udpencaps udp = {.sue_address.ss_family = AF_INET, .sue_port = htons(UDP_PORT)};
-    struct sockaddr_in address = ip_address("127.0.0.1", port);
-    struct socket *socket = usrsctp_socket(AF_INET, SOCK_STREAM, IPPROTO_SCTP, receive, NULL, 0, &sides[port % 2]);
+    struct sockaddr_in6 made = {.sin6_family = AF_INET6, .sin6_port = htons(port)};
+    REQUIRE(inet_pton(AF_INET6, address, &made.sin6_addr) == 1);
+    return made;
+}
+
+/* A socket of 127.0.0.1, or of ::1, which may have addresses of both versions. */
+static struct socket *open_over_udp(sa_family_t family, uint16_t port)
+{
+    struct sctp_udpencaps udp = {.sue_address.ss_family = family, .sue_port = htons(UDP_PORT)};
+    struct sockaddr_in ipv4 = ip_address("127.0.0.1", port);
+    struct sockaddr_in6 ipv6 = ipv6_address("::1", port);
+    struct socket *socket = usrsctp_socket(family, SOCK_STREAM, IPPROTO_SCTP, receive, NULL, 0, &sides[port % 2]);
     REQUIRE(socket);
     set(socket, SCTP_REMOTE_UDP_ENCAPS_PORT, &udp, sizeof udp);
-    REQUIRE(!usrsctp_bind(socket, (struct sockaddr *)&address, sizeof address));
+    if (family == AF_INET)
+        REQUIRE(!usrsctp_bind(socket, (struct sockaddr *)&ipv4, sizeof ipv4));
+    else
+        REQUIRE(!usrsctp_bind(socket, (struct sockaddr *)&ipv6, sizeof ipv6));
     return socket;
 }
 
-/* The first side adds its other address, makes it the other side's first choice, and takes the old one away. */
-static void change_addresses(struct socket *socket, uint16_t port, const char *added)
+/* A thread of usrsctp does it a moment later. */
+static void change_address(struct socket *socket, void *address, int change)
 {
-    struct sockaddr_in old = ip_address("127.0.0.1", port), new = ip_address(added, port);
-    struct sctp_setpeerprim primary = {0};
-    memcpy(&primary.sspp_addr, &new, sizeof new);
-    REQUIRE(!usrsctp_bindx(socket, (struct sockaddr *)&new, 1, SCTP_BINDX_ADD_ADDR));
-    wait_for(1500);
-    set(socket, SCTP_SET_PEER_PRIMARY_ADDR, &primary, sizeof primary);
-    wait_for(1500);
-    REQUIRE(usrsctp_sendv(sides[1].socket, "hello", 5, NULL, 0, NULL, 0, SCTP_SENDV_NOINFO, 0) == 5);
-    wait_for(500);
-    REQUIRE(!usrsctp_bindx(socket, (struct sockaddr *)&old, 1, SCTP_BINDX_REM_ADDR));
-    wait_for(1500);
+    REQUIRE(!usrsctp_bindx(socket, address, 1, change));
+    wait_for(100);
 }
 
-static void run_asconf(const char *added)
+static void make_primary(struct socket *socket, const void *address, size_t size)
 {
-    struct sockaddr_in to = ip_address("127.0.0.1", 5001);
-    usrsctp_init(UDP_PORT, NULL, NULL);
-    sides[1].listener = open_over_udp(5001);
+    struct sctp_setpeerprim primary = {0};
+    memcpy(&primary.sspp_addr, address, size);
+    set(socket, SCTP_SET_PEER_PRIMARY_ADDR, &primary, sizeof primary);
+}
+
+/* Opens both sides, and connects the first to the second. */
+static void connect_over_udp(sa_family_t family, uint16_t port)
+{
+    struct sockaddr_in ipv4 = ip_address("127.0.0.1", port);
+    struct sockaddr_in6 ipv6 = ipv6_address("::1", port);
+    sides[1].listener = open_over_udp(family, port);
     REQUIRE(!usrsctp_listen(sides[1].listener, 1));
-    sides[0].socket = open_over_udp(5002);
-    REQUIRE(!usrsctp_connect(sides[0].socket, (struct sockaddr *)&to, sizeof to));
+    sides[0].socket = open_over_udp(family, port + 1);
+    if (family == AF_INET)
+        REQUIRE(!usrsctp_connect(sides[0].socket, (struct sockaddr *)&ipv4, sizeof ipv4));
+    else
+        REQUIRE(!usrsctp_connect(sides[0].socket, (struct sockaddr *)&ipv6, sizeof ipv6));
     REQUIRE((sides[1].socket = usrsctp_accept(sides[1].listener, NULL, NULL)));
     wait_for(300);
-    change_addresses(sides[0].socket, 5002, added);
+}
+
+static void send_hello(void)
+{
+    REQUIRE(usrsctp_sendv(sides[1].socket, "hello", 5, NULL, 0, NULL, 0, SCTP_SENDV_NOINFO, 0) == 5);
+    wait_for(500);
+}
+
+
+/* The first side adds its other address, makes it the other side's first choice, and takes the old one away. */
+static void run_asconf(void)
+{
+    struct sockaddr_in old = ip_address("127.0.0.1", 5002), new = ip_address(addresses[0], 5002);
+    connect_over_udp(AF_INET, 5001);
+    change_address(sides[0].socket, &new, SCTP_BINDX_ADD_ADDR);
+    wait_for(1400);
+    make_primary(sides[0].socket, &new, sizeof new);
+    wait_for(1500);
+    send_hello();
+    change_address(sides[0].socket, &old, SCTP_BINDX_REM_ADDR);
+    wait_for(1400);
     REQUIRE(!usrsctp_shutdown(sides[0].socket, SHUT_WR));
     wait_for(1000);
 }
 
-/* Runs all scenarios in a process of their own: usrsctp sends no ASCONF after it was there without threads. */
-static bool run_scenarios(void)
+/* The first side adds an address. As the answer is lost, what it asks for then waits, and goes together: another address, and to make
+   the first its peer's choice. Then it takes both away, one by one. No end is sent: usrsctp 0.9.5.0 crashes at it. */
+static void run_requests(void)
+{
+    struct sockaddr_in6 first = ipv6_address(addresses[1], 5004);
+    struct sockaddr_in second = ip_address(addresses[0], 5004);
+    connect_over_udp(AF_INET6, 5003);
+    lost_type = ASCONF_ACK;
+    change_address(sides[0].socket, &first, SCTP_BINDX_ADD_ADDR);
+    change_address(sides[0].socket, &second, SCTP_BINDX_ADD_ADDR);
+    make_primary(sides[0].socket, &first, sizeof first);
+    lost_type = -1;
+    wait_for(4000);
+    make_primary(sides[0].socket, &second, sizeof second);
+    wait_for(1500);
+    change_address(sides[0].socket, &second, SCTP_BINDX_REM_ADDR);
+    wait_for(1400);
+    change_address(sides[0].socket, &first, SCTP_BINDX_REM_ADDR);
+    wait_for(1400);
+    send_hello();
+}
+
+/* Both sides have four addresses. COOKIE ECHO is lost: so neither asks which of them it reaches, which no order is known of. */
+static void run_addresses(void)
+{
+    struct sockaddr_in6 to = ipv6_address("::1", 5005);
+    struct socket *sockets[2];
+    for (uint16_t i = 0; i < 2; i++) {
+        struct sockaddr_in own = ip_address("127.0.0.1", 5005 + i), other = ip_address(addresses[0], 5005 + i);
+        struct sockaddr_in6 third = ipv6_address(addresses[1], 5005 + i);
+        sockets[i] = open_over_udp(AF_INET6, 5005 + i);
+        change_address(sockets[i], &own, SCTP_BINDX_ADD_ADDR);
+        change_address(sockets[i], &other, SCTP_BINDX_ADD_ADDR);
+        change_address(sockets[i], &third, SCTP_BINDX_ADD_ADDR);
+    }
+    lost_type = COOKIE_ECHO;
+    REQUIRE(!usrsctp_listen(sockets[0], 1) && !usrsctp_set_non_blocking(sockets[1], 1));
+    REQUIRE(usrsctp_connect(sockets[1], (struct sockaddr *)&to, sizeof to) < 0 && errno == EINPROGRESS);
+    wait_for(500);
+}
+
+/* ---- all of them */
+
+static void run_all(const struct scenario *first)
+{
+    for (scenario = first; scenario->name; scenario++)
+        run_scenario();
+}
+
+static void run_scenarios(void)
+{
+    run_all(scenarios);
+}
+
+static void run_later_scenarios(void)
+{
+    run_all(later_scenarios);
+}
+
+/* Runs them in a process of its own, and what follows an hour later, with other tags: usrsctp sends no ASCONF after it was there
+   without threads, and its threads run on. */
+static bool run_alone(void (*run)(void), bool is_over_udp)
 {
     int status = 0;
+    fflush(NULL);
     pid_t child = fork();
     if (child == 0) {
-        for (scenario = scenarios; scenario < scenarios + sizeof scenarios / sizeof *scenarios; scenario++)
-            run_scenario();
-        exit(fclose(capture) != 0);
+        if (is_over_udp)
+            usrsctp_init(UDP_PORT, NULL, NULL);
+        run();
+        fflush(NULL);
+        _exit(ferror(capture) != 0);
     }
+    state++;
+    now += 3600000;
     return child > 0 && waitpid(child, &status, 0) == child && status == 0;
 }
 
 int main(int count, char **words)
 {
     const uint32_t head[] = {0xa1b2c3d4, 2 | 4 << 16, 0, 0, 65535, 248};
-    capture = count == 2 || count == 3 ? fopen(words[1], "wb") : NULL;
+    capture = count == 2 || count == 4 ? fopen(words[1], "wb") : NULL;
     if (!capture) {
-        fprintf(stderr, "usage: %s FILE [ADDRESS]\n", words[0]);
+        fprintf(stderr, "usage: %s FILE [IPV4 IPV6]\n", words[0]);
         return 2;
     }
     write_numbers(head, 6);
-    fflush(capture);
-    if (!run_scenarios())
-        return 1;
-    now = 3600000; /* later, and with other tags */
+    memcpy(addresses, words + 2, (size_t)(count - 2) * sizeof *words);
+    bool good = run_alone(run_scenarios, false);
     state = 1;
-    if (count == 3)
-        run_asconf(words[2]);
-    fflush(capture);
-    _exit(ferror(capture) != 0); /* usrsctp's threads run on */
+    if (count == 4)
+        good = good && run_alone(run_asconf, true) && run_alone(run_requests, true) && run_alone(run_addresses, true);
+    return !(good && run_alone(run_later_scenarios, false));
 }
