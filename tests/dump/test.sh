@@ -9,8 +9,9 @@ Runs the program over the rows of runs.txt, and compares all that it prints, and
 of its manual page, docs/sctp_dump.1, at which mandoc, if it is there, finds nothing wrong. Then tools/rules.py has it
 ask the rules of the packets of rules.txt, it has the chunks of refused.txt and the captures in data/, reports.py compares
 what it prints of the packets of reports.txt, faults.py looks at lengths that are refused, objects.py at its JSON, forms.py
-at its three forms, logs.py at associations of logs, times.py at times; where tshark is, associations.py at associations of
-captures, and tshark.py at packets; where scapy is, scapy.py at the same; and it has a table that is full, and inputs and
+at its three forms, logs.py at associations of logs, times.py at times; where tshark is, associations.py at
+associations of captures, and tshark.py at packets; where scapy is, scapy.py at the same; fields.py compares the JSON and the
+Python package, of each field of a real stack'\''s packets, with tshark and scapy; and it has a table that is full, and inputs and
 outputs that fail. The last line is: dump: N passed, M failed. --quick leaves out the scripts, a word that isn'\''t UTF-8, and
 an output that is limited, for a program that runs in an emulator or under Wine.
 
@@ -88,13 +89,19 @@ look_with() {
     look "${@:2}"
 }
 
-# The same, by the Python that has scapy: that of Debian's package may not be the first on PATH. Other versions may dissect more.
-look_with_scapy() {
+# The Python that has scapy: that of Debian's package may not be the first on PATH. Other versions may dissect more.
+find_scapy() {
     local python
     for python in python3 /usr/bin/python3; do
-        "$python" -c 'import scapy; exit(not scapy.VERSION.startswith("2.5."))' 2>/dev/null && look "$python" "$@" && return
+        "$python" -c 'import scapy; exit(not scapy.VERSION.startswith("2.5."))' 2>/dev/null && echo "$python" && return
     done
-    leave_out "$1" 'scapy 2.5'
+    return 1
+}
+
+# Looks by that Python, if it is there.
+look_with_scapy() {
+    local python
+    if python=$(find_scapy); then look "$python" "$@"; else leave_out "$1" 'scapy 2.5'; fi
 }
 
 # Runs a row, its words and input with their escapes.
@@ -196,6 +203,12 @@ look_with tshark "$root/tests/dump/associations.py" "$program"
 # They say what other programs do.
 look_with_scapy "$root/tests/dump/scapy.py" --program "$program"
 look_with 'tshark-4 editcap mergecap text2pcap tcpdump hexdump xxd' "$root/tests/dump/tshark.py" "$program"
+
+# ---- fields of a real stack's packets
+
+# The script looks for the tools itself: what it says of them, and of how many fields agree, is passed on.
+look "$(find_scapy || echo python3)" "$root/tests/dump/fields.py" "$program"
+sed -n 's/^fields: /dump: &/p' "$work/log"
 
 # ---- times
 
