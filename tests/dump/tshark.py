@@ -4,7 +4,8 @@
 
 usage: tests/dump/tshark.py [PROGRAM [FOLDER]]
 
-PROGRAM is crates/sctp_dump/out/sctp_dump unless it is named (docs/DUMP.md says how to build it). Makes captures of each
+PROGRAM is crates/sctp_dump/out/sctp_dump unless it is named (docs/DUMP.md says how to build it). Reads the stored captures, and
+makes captures of each
 link type, which FOLDER keeps: the packets of crates/sctp_dump/data/association.txt and one of each traffic file, with and
 without VLAN tags, over IPv4 and IPv6, and in UDP. editcap, mergecap and text2pcap write them as pcap and pcapng files;
 tcpdump, tshark, hexdump, od and xxd as text, whose packets are compared with those of the capture that they show.
@@ -345,7 +346,8 @@ def main():
 
 
 def compare_all(program, folder):
-    files = [(it, it) for it in glob.glob(os.path.join(DATA, '*.pcap'))]
+    stored = DATA, os.path.join(ROOT, 'tests', 'dump', 'data')
+    files = [(it, it) for folder in stored for it in glob.glob(os.path.join(folder, '*.pcap'))]
     made = list(captures(folder))
     # The tools work side by side.
     with ThreadPoolExecutor(os.cpu_count()) as pool:
