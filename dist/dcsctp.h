@@ -4,7 +4,7 @@
    Every function of the library is proved, for Linux (dist/README.md): whatever the bytes, the offsets and the sizes are,
    it returns what its contract says, and reads and writes only the memory that it is given. Of dcsctp_report nothing says
    which text it writes. The `static inline` functions at the end are C, compiled with your program, and not proved: they
-   return names and texts. docs/C.md has examples, and what is proved.
+   return names and texts, and what an action says. docs/C.md has examples, and what is proved.
 
    What the caller has to ensure:
    - A pointer leads to as many bytes or items as its length says. It may be null where that length is 0, and only there;
@@ -657,7 +657,7 @@ enum dcsctp_action {
 };
 
 /* Returns a dcsctp_action, by the two highest-order bits of a chunk's type (section 3.2), or of a parameter's (section
-   3.2.1). */
+   3.2.1). dcsctp_action_reports and dcsctp_action_skips below say what it asks for. */
 uint32_t dcsctp_unrecognized_chunk(uint8_t type);
 uint32_t dcsctp_unrecognized_parameter(uint16_t type);
 
@@ -813,6 +813,17 @@ uint32_t dcsctp_version_number(void);
 static inline const char *dcsctp_version(void)
 {
     return DCSCTP_VERSION;
+}
+
+/* Returns whether the chunk or the parameter is reported; and whether the next one is processed. */
+static inline bool dcsctp_action_reports(uint32_t action)
+{
+    return action == DCSCTP_ACTION_STOP_AND_REPORT || action == DCSCTP_ACTION_SKIP_AND_REPORT;
+}
+
+static inline bool dcsctp_action_skips(uint32_t action)
+{
+    return action == DCSCTP_ACTION_SKIP || action == DCSCTP_ACTION_SKIP_AND_REPORT;
 }
 
 /* Returns what a result means, in a few words. */

@@ -231,11 +231,11 @@ func ExampleParameter_Bytes() {
 			continue
 		}
 		action := parameter.Type.UnrecognizedAction()
-		if action == davgyuti.ActionStopAndReport || action == davgyuti.ActionSkipAndReport {
+		if action.Reports() {
 			fmt.Println(parameter.Type, "at byte", parameter.Offset)
 			err = reply.AddParameter(davgyuti.ParameterUnrecognizedParameter, parameter.Bytes())
 		}
-		if action == davgyuti.ActionStop || action == davgyuti.ActionStopAndReport {
+		if !action.Skips() {
 			break
 		}
 	}

@@ -31,6 +31,16 @@ func (a Action) String() string {
 	return worded(uint32(a), "action", "stop", "stop and report", "skip", "skip and report")
 }
 
+// Reports returns whether the chunk or the parameter is reported.
+func (a Action) Reports() bool {
+	return bool(C.dcsctp_action_reports(C.uint32_t(a)))
+}
+
+// Skips returns whether the next one is processed.
+func (a Action) Skips() bool {
+	return bool(C.dcsctp_action_skips(C.uint32_t(a)))
+}
+
 // UnrecognizedAction returns what is done with a chunk of this type that your association doesn't know, by the type's two
 // highest-order bits (section 3.2).
 func (t ChunkType) UnrecognizedAction() Action {

@@ -38,6 +38,8 @@ func TestUnrecognizedAction(t *testing.T) {
 		for _, rest := range []int{0, 0x3fff} {
 			equal(t, "parameter", davgyuti.ParameterType(bits<<14|rest).UnrecognizedAction(), action)
 		}
+		equal(t, "reports", action.Reports(), []bool{false, true, false, true}[bits])
+		equal(t, "skips", action.Skips(), []bool{false, false, true, true}[bits])
 	}
 }
 

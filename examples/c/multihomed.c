@@ -86,16 +86,6 @@ static bool add_own_addresses(uint16_t type)
     return true;
 }
 
-static bool is_reported(uint32_t action)
-{
-    return action == DCSCTP_ACTION_STOP_AND_REPORT || action == DCSCTP_ACTION_SKIP_AND_REPORT;
-}
-
-static bool is_skipped(uint32_t action)
-{
-    return action == DCSCTP_ACTION_SKIP || action == DCSCTP_ACTION_SKIP_AND_REPORT;
-}
-
 /* Answers an INIT, which has to be alone and under tag 0. */
 static bool answer_init(const struct dcsctp_header *header)
 {
@@ -136,11 +126,11 @@ static bool answer_init(const struct dcsctp_header *header)
                 && !dcsctp_add_chunk(TO, DCSCTP_CHUNK_ABORT, 0, NULL, 0)
                 && !dcsctp_add_registered_cause(TO, DCSCTP_FIRST_CHUNK, DCSCTP_CAUSE_UNRESOLVABLE_ADDRESS, &it, bytes, length);
         default: /* unknown: reported, and perhaps the last that is looked at (section 3.2.1) */
-            if (is_reported(dcsctp_unrecognized_parameter(item.type))
+            if (dcsctp_action_reports(dcsctp_unrecognized_parameter(item.type))
                 && dcsctp_add_registered_parameter(TO, DCSCTP_FIRST_CHUNK, DCSCTP_PARAMETER_UNRECOGNIZED_PARAMETER, &it,
                                                    bytes, length))
                 return false;
-            if (!is_skipped(dcsctp_unrecognized_parameter(item.type)))
+            if (!dcsctp_action_skips(dcsctp_unrecognized_parameter(item.type)))
                 item.next = length;
         }
     }
@@ -225,9 +215,9 @@ static bool answer_asconf(const struct dcsctp_header *header)
         }
         const bool is_unknown = code == DCSCTP_CAUSE_UNRECOGNIZED_PARAMETERS;
         const uint32_t action = dcsctp_unrecognized_parameter(item.type);
-        if ((!is_unknown || is_reported(action)) && !add_response(at, &item, request.number, code))
+        if ((!is_unknown || dcsctp_action_reports(action)) && !add_response(at, &item, request.number, code))
             return false;
-        if (is_unknown && !is_skipped(action))
+        if (is_unknown && !dcsctp_action_skips(action))
             break;
     }
     peer.next_serial++;

@@ -53,16 +53,6 @@ static bool has_its_ports(const struct responder *r, const struct exchange *x)
     return x->header.source_port == r->association.peer_port && x->header.destination_port == r->association.local_port;
 }
 
-static bool is_reported(uint32_t action)
-{
-    return action == DCSCTP_ACTION_STOP_AND_REPORT || action == DCSCTP_ACTION_SKIP_AND_REPORT;
-}
-
-static bool is_skipped(uint32_t action)
-{
-    return action == DCSCTP_ACTION_SKIP || action == DCSCTP_ACTION_SKIP_AND_REPORT;
-}
-
 /* Adds this end's parameters of AUTH to the first chunk, in the order of a key vector (RFC 4895 section 6.1). */
 static bool add_own_auth(const struct responder *r, struct exchange *x)
 {
@@ -188,10 +178,10 @@ static bool answer_init(const struct responder *r, uint64_t now, struct exchange
         default: { /* unknown: reported, and perhaps the last that is looked at (section 3.2.1) */
             const uint32_t action = dcsctp_unrecognized_parameter(it.type);
             const struct dcsctp_registered whole = {.rest_offset = at, .rest_size = it.value_offset + it.value_size - at};
-            if (is_reported(action))
+            if (dcsctp_action_reports(action))
                 dcsctp_add_registered_parameter(TO(x), DCSCTP_FIRST_CHUNK, DCSCTP_PARAMETER_UNRECOGNIZED_PARAMETER, &whole,
                                                 x->bytes, x->length);
-            if (!is_skipped(action))
+            if (!dcsctp_action_skips(action))
                 return true;
         }
         }
@@ -386,11 +376,11 @@ static bool answer_chunk(struct responder *r, struct exchange *x, size_t at)
     case DCSCTP_CHUNK_HEARTBEAT_ACK: case DCSCTP_CHUNK_ERROR:
         return true;
     default: /* unknown: reported, and perhaps the last that is looked at (section 3.2) */
-        if (is_reported(dcsctp_unrecognized_chunk(x->chunk.type)) && !dcsctp_add_chunk(TO(x), DCSCTP_CHUNK_ERROR, 0, NULL, 0)
+        if (dcsctp_action_reports(dcsctp_unrecognized_chunk(x->chunk.type)) && !dcsctp_add_chunk(TO(x), DCSCTP_CHUNK_ERROR, 0, NULL, 0)
             && dcsctp_add_parameter(TO(x), start, DCSCTP_CAUSE_UNRECOGNIZED_CHUNK, x->bytes + at,
                                     x->chunk.value_offset + x->chunk.value_size - at))
             x->size = start; /* no ERROR without a cause */
-        return is_skipped(dcsctp_unrecognized_chunk(x->chunk.type));
+        return dcsctp_action_skips(dcsctp_unrecognized_chunk(x->chunk.type));
     }
 }
 

@@ -49,6 +49,11 @@ static void each_action(void)
     for (unsigned bits = 0; bits < 4; bits++)
         CHECK(dcsctp_unrecognized_parameter((uint16_t)(bits << 14)) == actions[bits]
               && dcsctp_unrecognized_parameter((uint16_t)(bits << 14 | 0x3fff)) == actions[bits]);
+    /* "01 - Stop processing .. and report"; "10 - Skip"; "11 - Skip .. and report" */
+    CHECK(!dcsctp_action_reports(DCSCTP_ACTION_STOP) && !dcsctp_action_skips(DCSCTP_ACTION_STOP));
+    CHECK(dcsctp_action_reports(DCSCTP_ACTION_STOP_AND_REPORT) && !dcsctp_action_skips(DCSCTP_ACTION_STOP_AND_REPORT));
+    CHECK(!dcsctp_action_reports(DCSCTP_ACTION_SKIP) && dcsctp_action_skips(DCSCTP_ACTION_SKIP));
+    CHECK(dcsctp_action_reports(DCSCTP_ACTION_SKIP_AND_REPORT) && dcsctp_action_skips(DCSCTP_ACTION_SKIP_AND_REPORT));
 }
 
 static uint32_t verdict(const struct packet *packet, bool knows_peer, bool awaits_cookie)

@@ -14,7 +14,7 @@
 //! It is no association: the cookie says nothing, and nothing is sent again.
 
 use davgyuti::{
-    Action, Causes, Chunk, ChunkBuilder, Content, FIRST_CHUNK, Header, Init, MAX_PACKET, Packet,
+    Causes, Chunk, ChunkBuilder, Content, FIRST_CHUNK, Header, Init, MAX_PACKET, Packet,
     PacketBuilder, Parameter, ParameterType, Parameters, RegisteredCause, RegisteredChunk,
     RegisteredParameter, WriteError, seal, sign_auth, unrecognized_parameter, verify_auth,
 };
@@ -119,12 +119,12 @@ impl Host {
         // RFC 9260 section 3.2.1: what isn't known is reported, or not; and perhaps the last.
         for it in parameters.filter(|it| !KNOWN.contains(&it.parameter_type())) {
             let action = unrecognized_parameter(it.parameter_type());
-            if matches!(action, Action::StopAndReport | Action::SkipAndReport) {
+            if action.reports() {
                 let parameters = Parameters::of(it.as_bytes());
                 let unknown = RegisteredParameter::UnrecognizedParameter { parameters };
                 init_ack.registered_parameter(&unknown)?;
             }
-            if matches!(action, Action::Stop | Action::StopAndReport) {
+            if !action.skips() {
                 break;
             }
         }

@@ -55,6 +55,30 @@ numbered! {
     SkipAndReport = 3,
 }
 
+impl Action {
+    /// Returns whether the chunk or the parameter is reported.
+    ///
+    /// ```
+    /// let action = davgyuti::unrecognized_chunk(davgyuti::ChunkType(0x43));
+    /// assert!(action.reports() && !action.skips());
+    /// ```
+    #[must_use]
+    pub const fn reports(self) -> bool {
+        matches!(self, Self::StopAndReport | Self::SkipAndReport)
+    }
+
+    /// Returns whether the next one is processed.
+    ///
+    /// ```
+    /// let action = davgyuti::unrecognized_parameter(davgyuti::ParameterType(0x8765));
+    /// assert!(action.skips() && !action.reports());
+    /// ```
+    #[must_use]
+    pub const fn skips(self) -> bool {
+        matches!(self, Self::Skip | Self::SkipAndReport)
+    }
+}
+
 numbered! {
     /// What is done with a packet, by its verification tag (RFC 9260 sections 8.5 and 8.5.1).
     /// [`verify_tag`] has an example.

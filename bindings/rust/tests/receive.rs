@@ -37,6 +37,8 @@ fn each_action() {
             assert_eq!(unrecognized_parameter(ParameterType(number)), action);
         }
     }
+    assert_eq!(actions.map(Action::reports), [false, true, false, true]);
+    assert_eq!(actions.map(Action::skips), [false, false, true, true]);
 }
 
 fn verdict(bytes: &[u8], knows_peer: bool, awaits_cookie: bool) -> TagVerdict {
