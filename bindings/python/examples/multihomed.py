@@ -16,7 +16,7 @@ from collections.abc import Iterator
 from ipaddress import ip_address
 
 import davgyuti
-from davgyuti import Action, ParameterType, registered
+from davgyuti import ParameterType, registered
 
 SHA_256 = 3
 KNOWN = {
@@ -123,9 +123,9 @@ def reported(parameters: tuple[davgyuti.Parameter, ...]) -> Iterator[davgyuti.Pa
     for it in parameters:
         if it.type not in KNOWN:
             action = davgyuti.unrecognized_parameter(it.type)
-            if action in (Action.STOP_AND_REPORT, Action.SKIP_AND_REPORT):
+            if action.reports:
                 yield it
-            if action in (Action.STOP, Action.STOP_AND_REPORT):
+            if not action.skips:
                 return
 
 

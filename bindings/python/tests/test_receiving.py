@@ -1,6 +1,8 @@
 # SPDX-License-Identifier: Apache-2.0
 """What RFC 9260 asks of whoever receives a packet: each sentence of sections 3.2, 3.2.1, 3.3.2, 3.3.3, 8.4 and 8.5.1."""
 
+import pickle
+import pydoc
 import struct
 import unittest
 
@@ -28,6 +30,21 @@ def answer(data: bytes, is_unicast: bool = True) -> Answer:
     return davgyuti.out_of_the_blue(data, is_unicast=is_unicast)
 
 
+class Documented(unittest.TestCase):
+    def test_help_has_each_member(self) -> None:
+        kinds = davgyuti.Result, davgyuti.CookieState, Action, TagVerdict, Answer, InitFault, Refusal
+        for kind in kinds:
+            shown = pydoc.plain(pydoc.render_doc(kind))
+            texts = [it.__doc__ for it in kind]
+            self.assertEqual(len({*texts, kind.__doc__}), len(kind) + 1)
+            for text in texts:
+                assert text
+                self.assertIn(text, shown)
+            for it in kind:
+                self.assertIs(pickle.loads(pickle.dumps(it)), it)
+                self.assertIs(kind(it.value), it)
+
+
 class Unrecognized(unittest.TestCase):
     """ "Chunk Types are encoded such that the highest-order 2 bits specify the action": section 3.2, of parameters 3.2.1."""
 
@@ -38,6 +55,8 @@ class Unrecognized(unittest.TestCase):
         for bits, action in enumerate(actions):
             for type in (bits << 14, bits << 14 | 0x3FFF):
                 self.assertIs(davgyuti.unrecognized_parameter(type), action)
+        self.assertEqual([it.reports for it in actions], [False, True, False, True])
+        self.assertEqual([it.skips for it in actions], [False, False, True, True])
 
     def test_numbers_without_a_place(self) -> None:
         self.assertRaises(ValueError, davgyuti.unrecognized_chunk, 256)

@@ -353,6 +353,22 @@ class Lists(unittest.TestCase):
                 it.parameter(value)
         self.assertEqual(builder.seal().hex(), packet_of(INIT).hex())
 
+    def test_addresses_at_once(self) -> None:
+        (init,) = davgyuti.Packet(packet_of(INIT))
+        assert isinstance(init, davgyuti.Init)
+        wanted = tuple(map(ip_address, ("192.0.2.1", "2001:db8::1", "198.51.100.1", "2001:db8::2")))
+        self.assertEqual(davgyuti.addresses(init.parameters), wanted)
+        builder = davgyuti.PacketBuilder(5000, 5001, 0x01020304)
+        with builder.init(initiate_tag=1, a_rwnd=0x20000, outbound_streams=4, inbound_streams=5, initial_tsn=41) as it:
+            self.assertIs(it.addresses(iter(wanted)), it)
+            it.parameter(r.SupportedAddressTypes((5, 6)))
+        self.assertEqual(builder.seal().hex(), packet_of(INIT).hex())
+        # What isn't an address, or of a wrong size, is passed over.
+        self.assertEqual(davgyuti.addresses((davgyuti.RawParameter(5, bytes(5)), r.EcnCapable(), r.Ipv6Address(V6))), (V6,))
+        self.assertEqual(davgyuti.addresses(()), ())
+        with self.assertRaises(TypeError):
+            builder.init(initiate_tag=1, a_rwnd=1, outbound_streams=1, inbound_streams=1, initial_tsn=1).addresses(["192.0.2.1"])  # type: ignore[list-item]
+
     def test_nested(self) -> None:
         # In an Error Cause Indication is a cause, in that a request, and in that an address (RFC 5061 section 4.2.3).
         (found,) = davgyuti.Packet(packet_of("8000 0024 00000007 c003 001c 01023476 00a0 0014 c002" + REQUEST.format(0x01023476)))

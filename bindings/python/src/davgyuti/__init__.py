@@ -28,6 +28,7 @@ from ._library import version_text as __version__
 from ._reading import (
     Buffer,
     Packet,
+    addresses,
     canonical,
     cause,
     check,
@@ -207,6 +208,7 @@ __all__ = [
     "WriteError",
     "ZeroChecksumAcceptable",
     "__version__",
+    "addresses",
     "canonical",
     "cause",
     "cause_name",

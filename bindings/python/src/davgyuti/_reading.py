@@ -3,7 +3,7 @@
 
 import operator
 import struct
-from collections.abc import Callable, Iterator
+from collections.abc import Callable, Iterable, Iterator
 from ctypes import byref, c_size_t, c_uint8, c_uint32
 from functools import partial
 from ipaddress import ip_address
@@ -639,6 +639,14 @@ def registered(part: Any) -> Any:
     start = None if part.offset is None else part.offset + 4
     found = {name: _field(data, out, form, start) for name, form in kind.fields.items()}
     return kind(**found, offset=part.offset)
+
+
+def addresses(parameters: Iterable[v.Parameter]) -> tuple[v.Address, ...]:
+    """Returns the addresses of a list of parameters, in order: those of the IPv4 Address and IPv6 Address parameters of an INIT
+    or INIT ACK (RFC 9260 section 3.3.2.1), or of the cause Restart of an Association with New Addresses. All else is passed
+    over, and so is an address parameter of a wrong size."""
+    found = (it.registered() for it in parameters)
+    return tuple(it.address for it in found if isinstance(it, r.Ipv4Address | r.Ipv6Address))
 
 
 def _field(data: bytes, out: c.Registered, form: str, start: int | None) -> Any:

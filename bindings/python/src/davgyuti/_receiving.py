@@ -2,7 +2,6 @@
 """What RFC 9260 asks of whoever receives a packet, before an association's state matters."""
 
 from ctypes import byref
-from enum import IntEnum
 from typing import Any
 
 from . import _library as c
@@ -12,78 +11,64 @@ from ._reading import Buffer, number, to_bytes
 from ._writing import _u8, _u16, _u32, seal, written
 
 
-class Action(IntEnum):
+class Action(v.Documented):
     """What is done with a chunk or a parameter of a type that your program doesn't know (RFC 9260 sections 3.2 and 3.2.1)."""
 
-    STOP = 0
-    """No further chunk of the packet, or parameter of the chunk, is processed."""
-    STOP_AND_REPORT = 1
-    """The same; and it is reported."""
-    SKIP = 2
-    """The next one is processed."""
-    SKIP_AND_REPORT = 3
-    """The same; and it is reported."""
+    STOP = 0, "No further chunk of the packet, or parameter of the chunk, is processed."
+    STOP_AND_REPORT = 1, "No further one is processed, and this one is reported."
+    SKIP = 2, "The next one is processed."
+    SKIP_AND_REPORT = 3, "The next one is processed, and this one is reported."
+
+    @property
+    def reports(self) -> bool:
+        """Whether the chunk or the parameter is reported."""
+        return self in (Action.STOP_AND_REPORT, Action.SKIP_AND_REPORT)
+
+    @property
+    def skips(self) -> bool:
+        """Whether the next one is processed."""
+        return self in (Action.SKIP, Action.SKIP_AND_REPORT)
 
 
-class TagVerdict(IntEnum):
+class TagVerdict(v.Documented):
     """What is done with a packet, by its verification tag (RFC 9260 sections 8.5 and 8.5.1)."""
 
-    ACCEPT = 0
-    """The tag is right: the packet is processed."""
-    ESTABLISH = 1
-    """An INIT alone under the tag 0, or COOKIE ECHO first: section 5 says what is done."""
-    OUT_OF_THE_BLUE = 2
-    """The packet is treated as if it belonged to no association: see `out_of_the_blue`."""
-    DISCARD = 3
-    """The packet is discarded, without an answer."""
+    ACCEPT = 0, "The tag is right: the packet is processed."
+    ESTABLISH = 1, "An INIT alone under the tag 0, or COOKIE ECHO first: section 5 says what is done."
+    OUT_OF_THE_BLUE = 2, "The packet is treated as if it belonged to no association: see `out_of_the_blue`."
+    DISCARD = 3, "The packet is discarded, without an answer."
 
 
-class Answer(IntEnum):
+class Answer(v.Documented):
     """What is done with a packet that belongs to no association (RFC 9260 section 8.4)."""
 
-    DISCARD = 0
-    """It is discarded, without an answer."""
-    INIT = 1
-    """Its INIT is processed (section 5.1)."""
-    COOKIE_ECHO = 2
-    """Its COOKIE ECHO is processed (section 5.1)."""
-    SHUTDOWN_COMPLETE = 3
-    """`reply` returns what is sent back."""
-    ABORT = 4
-    """The same."""
+    DISCARD = 0, "It is discarded, without an answer."
+    INIT = 1, "Its INIT is processed (section 5.1)."
+    COOKIE_ECHO = 2, "Its COOKIE ECHO is processed (section 5.1)."
+    SHUTDOWN_COMPLETE = 3, "`reply` returns the SHUTDOWN COMPLETE that is sent back."
+    ABORT = 4, "`reply` returns the ABORT that is sent back."
 
 
-class InitFault(IntEnum):
+class InitFault(v.Documented):
     """What is wrong with a packet that carries INIT or INIT ACK (RFC 9260 sections 3.3.2 and 3.3.3): the first of these that is
     so."""
 
-    NO_FAULT = 0
-    """It can be processed. This alone is false."""
-    NOT_ALONE = 1
-    """The packet doesn't hold this chunk alone."""
-    TOO_SHORT = 2
-    """The chunk has no room for its numbers."""
-    TAG_ZERO = 3
-    """The initiate tag is 0."""
-    SMALL_WINDOW = 4
-    """The window is smaller than 1,500 bytes."""
-    NO_OUTBOUND_STREAMS = 5
-    """Their number is 0."""
-    NO_INBOUND_STREAMS = 6
-    """Their number is 0."""
-    NO_STATE_COOKIE = 7
-    """INIT ACK lacks its State Cookie."""
+    NO_FAULT = 0, "It can be processed. This alone is false."
+    NOT_ALONE = 1, "The packet doesn't hold this chunk alone."
+    TOO_SHORT = 2, "The chunk has no room for its numbers."
+    TAG_ZERO = 3, "The initiate tag is 0."
+    SMALL_WINDOW = 4, "The window is smaller than 1,500 bytes."
+    NO_OUTBOUND_STREAMS = 5, "The number of outbound streams is 0."
+    NO_INBOUND_STREAMS = 6, "The number of inbound streams is 0."
+    NO_STATE_COOKIE = 7, "INIT ACK lacks its State Cookie."
 
 
-class Refusal(IntEnum):
+class Refusal(v.Documented):
     """What is done with a packet whose INIT or INIT ACK isn't processed (RFC 9260 sections 3.3.2, 3.3.3, 5.1 and 8.5.1)."""
 
-    DISCARD = 0
-    """It is discarded, without an answer."""
-    ABORT = 1
-    """`init_abort` returns what is sent; no association changes its state."""
-    DESTROY_AND_ABORT = 2
-    """The same; and the association ends."""
+    DISCARD = 0, "It is discarded, without an answer."
+    ABORT = 1, "`init_abort` returns what is sent; no association changes its state."
+    DESTROY_AND_ABORT = 2, "`init_abort` returns what is sent, and the association ends."
 
 
 def unrecognized_chunk(type: int) -> Action:

@@ -16,31 +16,30 @@ MAX_PACKET_SIZE = 65532
 """The most bytes that a packet has that is written here: a multiple of 4, as each is."""
 
 
-class Result(IntEnum):
+class Documented(IntEnum):
+    """Numbers with a text each, which `help` shows."""
+
+    def __new__(cls, number: int, text: str) -> "Documented":
+        member = int.__new__(cls, number)
+        member._value_ = number
+        member.__doc__ = text
+        return member
+
+
+class Result(Documented):
     """What the library returns. `text` says it in a few words."""
 
-    OK = 0
-    """The bytes are a packet; what was asked for is written."""
-    FAULT_SIZE = 1
-    """Fewer than 16 bytes, or more than 65,535."""
-    FAULT_CHECKSUM = 2
-    """The policy does not accept the checksum field."""
-    FAULT_LENGTH = 3
-    """A chunk, a parameter or an error cause has a wrong length."""
-    FAULT_VALUE = 4
-    """A RE-CONFIG response has an unknown result."""
-    FAULT_PADDING = 5
-    """Padding is missing or not zero; only under a strict policy."""
-    NO_MEMORY = 6
-    """The bytes are a packet, but an allocation failed. Here a MemoryError says so."""
-    NO_ROOM = 7
-    """The packet would have more bytes than the builder's limit."""
-    TOO_LONG = 8
-    """The bytes are a packet, but its canonical form would have more than 65,532 bytes."""
-    BAD_VALUE = 9
-    """A chunk would have more than 65,535 bytes, what has to be UTF-8 isn't, or a type does not allow this value."""
-    BAD_PLACE = 10
-    """No packet has this size, the chunk isn't the packet's last one any more, or there is no AUTH to sign."""
+    OK = 0, "The bytes are a packet; what was asked for is written."
+    FAULT_SIZE = 1, "Fewer than 16 bytes, or more than 65,535."
+    FAULT_CHECKSUM = 2, "The policy does not accept the checksum field."
+    FAULT_LENGTH = 3, "A chunk, a parameter or an error cause has a wrong length."
+    FAULT_VALUE = 4, "A RE-CONFIG response has an unknown result."
+    FAULT_PADDING = 5, "Padding is missing or not zero; only under a strict policy."
+    NO_MEMORY = 6, "The bytes are a packet, but an allocation failed. Here a MemoryError says so."
+    NO_ROOM = 7, "The packet would have more bytes than the builder's limit."
+    TOO_LONG = 8, "The bytes are a packet, but its canonical form would have more than 65,532 bytes."
+    BAD_VALUE = 9, "A chunk would have more than 65,535 bytes, what has to be UTF-8 isn't, or a type does not allow this value."
+    BAD_PLACE = 10, "No packet has this size, the chunk isn't the packet's last one any more, or there is no AUTH to sign."
 
     @property
     def text(self) -> str:
@@ -63,15 +62,12 @@ _RESULT_TEXTS = {
 }
 
 
-class CookieState(IntEnum):
+class CookieState(Documented):
     """What a State Cookie is (RFC 9260 section 5.1.5). `text` says it in a few words."""
 
-    GOOD = 0
-    """It was sealed under the key."""
-    STALE = 1
-    """The same, but it is no longer good: send the cause Stale Cookie."""
-    INVALID = 2
-    """It wasn't sealed under the key: discard the packet, without an answer."""
+    GOOD = 0, "It was sealed under the key."
+    STALE = 1, "It was sealed under the key, but is no longer good: send the cause Stale Cookie."
+    INVALID = 2, "It wasn't sealed under the key: discard the packet, without an answer."
 
     @property
     def text(self) -> str:

@@ -11,6 +11,7 @@ from typing import Any
 
 from . import _library as c
 from . import _values as v
+from . import registered as r
 from ._library import bare, functions
 from ._reading import Buffer, chunk_at, fast, number, read, size, start_of, to_bytes
 
@@ -572,6 +573,13 @@ class ChunkWriter:
 
     def _re_config(self, values: c.ReConfig, streams: Iterable[int] = ()) -> None:
         self._add(bare.dcsctp_add_re_config, byref(values), *_numbers(c_uint16, _u16, streams, "a stream"))
+
+    def addresses(self, addresses: Iterable[v.Address]) -> "ChunkWriter":
+        """Adds an IPv4 Address or IPv6 Address parameter for each of these (RFC 9260 section 3.3.2.1), and returns this. Where
+        it raises, those before have been added."""
+        for it in addresses:
+            self.parameter(r.Ipv4Address(it) if isinstance(it, IPv4Address) else r.Ipv6Address(it))
+        return self
 
     def parameter(self, parameter: v.Parameter) -> "ChunkWriter":
         """Adds a parameter (RFC 9260 section 3.2.1), and returns this."""
