@@ -179,7 +179,39 @@ func (it Registered) ShortNumbers() *Iterator[uint16] {
 	})
 }
 
+// Addresses returns the addresses of parameters, in order: those of the IPv4 Address and IPv6 Address parameters of an INIT or INIT
+// ACK (RFC 9260 section 3.3.2.1), or of the cause Restart of an Association with New Addresses. All else is passed over, and so is an
+// address parameter of a wrong size.
+func Addresses(parameters *Iterator[Parameter]) []netip.Addr {
+	var addresses []netip.Addr
+	for parameters.Next() {
+		parameter := parameters.Value()
+		if parameter.Type != ParameterIPv4Address && parameter.Type != ParameterIPv6Address {
+			continue
+		}
+		if it, isThere := parameter.Registered(); isThere {
+			addresses = append(addresses, it.Address)
+		}
+	}
+	return addresses
+}
+
 // ---- writing
+
+// AddAddresses adds an IPv4 Address or IPv6 Address parameter for each address to the last chunk (RFC 9260 section 3.3.2.1). It
+// returns what AddRegisteredParameter does; those before the one that has no room are then added.
+func (b *Builder) AddAddresses(addresses ...netip.Addr) error {
+	for _, address := range addresses {
+		parameterType := ParameterIPv6Address
+		if address.Is4() {
+			parameterType = ParameterIPv4Address
+		}
+		if err := b.AddRegisteredParameter(parameterType, Registered{Address: address}); err != nil {
+			return err
+		}
+	}
+	return nil
+}
 
 // AddRegisteredChunk adds a chunk that Registered reads, with its flags 0. A number that is left out is 0; what the type doesn't
 // carry is ignored. Each of these three functions returns ErrBadValue also for another type, a number that has no room in its

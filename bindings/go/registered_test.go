@@ -269,6 +269,27 @@ func TestRegisteredLists(t *testing.T) {
 	equal(t, "cause", there[davgyuti.Registered](t)(cause.Registered()).Numbers, []uint32{123456})
 }
 
+// RFC 9260 section 3.3.2: an INIT with addresses of both versions, among them one of a wrong size, and another parameter.
+func TestAddresses(t *testing.T) {
+	const head, others = "0100 0000 00000001 00020000 0004 0005 00000029", "0005 0005 c0000000 000c 0008 0005 0006"
+	const one, two, three = "0005 0008 c0000201", "0006 0014 20010db8 00000000 00000000 00000001", "0005 0008 c6336401"
+	wanted := []netip.Addr{netip.MustParseAddr("192.0.2.1"), netip.MustParseAddr("2001:db8::1"), netip.MustParseAddr("198.51.100.1")}
+	chunk := only(t, sealed("0100 0048"+head[9:]+one+others+two+three))
+	equal(t, "addresses", davgyuti.Addresses(chunk.Parameters()), wanted)
+	equal(t, "none", len(davgyuti.Addresses(only(t, sealed("0b00 0004")).Parameters())), 0)
+
+	b, err := davgyuti.Begin(make([]byte, 88), 5000, 5001, 0x01020304)
+	equal(t, "begin", err, nil)
+	equal(t, "init", b.AddInit(davgyuti.Init{InitiateTag: 1, ARwnd: 0x20000, OutboundStreams: 4, InboundStreams: 5, InitialTSN: 41}), nil)
+	equal(t, "added", b.AddAddresses(wanted...), nil)
+	equal(t, "bytes", b.Bytes()[12:], ofHex("0100 0038"+head[9:]+one+two+three))
+	equal(t, "none", b.AddAddresses(), nil)
+	// The first that has no room, and no address, are refused; what is before them is there.
+	equal(t, "no room", b.AddAddresses(wanted[0], wanted[1]), davgyuti.ErrNoRoom)
+	equal(t, "bytes", b.Bytes()[12:], ofHex("0100 0040"+head[9:]+one+two+three+one))
+	equal(t, "no address", b.AddAddresses(netip.Addr{}), davgyuti.ErrBadValue)
+}
+
 // As many lists in one another as a packet has room for: each read goes one level deeper, and no more.
 func TestRegisteredNesting(t *testing.T) {
 	depth := 16000

@@ -531,6 +531,10 @@ export function registeredParameter(parameter: Parameter): ParameterFields[keyof
 export function registeredCause<T extends keyof CauseFields>(cause: Cause, code: T): CauseFields[T] | null;
 /** The same of an error cause of any code. */
 export function registeredCause(cause: Cause): CauseFields[keyof CauseFields] | null;
+/** The addresses of parameters, as text and in order: those of the IPv4 Address and IPv6 Address parameters of an INIT or INIT ACK
+    (RFC 9260 section 3.3.2.1), or of the cause Restart of an Association with New Addresses. All else is passed over, and so is an
+    address parameter of a wrong size. */
+export function addresses(parameters: Iterable<Parameter>): string[];
 
 // ---- changing a packet in place
 
@@ -613,6 +617,9 @@ export class Builder {
   addRegisteredChunk<T extends keyof ChunkFields>(type: T, fields: Given<ChunkFields[T]>): this;
   /** Adds a parameter of a type in ParameterFields to the last chunk: to an INIT, or to the requests of an ASCONF. */
   addRegisteredParameter<T extends keyof ParameterFields>(type: T, fields: Given<ParameterFields[T]>): this;
+  /** Adds an IPv4 Address or IPv6 Address parameter for each address, as text, to the last chunk (RFC 9260 section 3.3.2.1). Throws
+      what `addRegisteredParameter` does; those before the one that it throws for are then added. */
+  addAddresses(addresses: Iterable<string>): this;
   /** Adds an error cause of a code in CauseFields to the last chunk. */
   addRegisteredCause<T extends keyof CauseFields>(code: T, fields: Given<CauseFields[T]>): this;
 
@@ -645,6 +652,10 @@ export type Action = Of<typeof Action>;
 export function unrecognizedChunk(type: number): Action;
 /** Returns it by those of a parameter (section 3.2.1). */
 export function unrecognizedParameter(type: number): Action;
+/** Returns whether the chunk or the parameter is reported. */
+export function actionReports(action: Action): boolean;
+/** Returns whether the next one is processed. */
+export function actionSkips(action: Action): boolean;
 
 /** What is known of an association before the tag of a packet is looked at. */
 export interface Association {

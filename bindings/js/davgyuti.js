@@ -1009,6 +1009,12 @@ function registeredParameter(parameter, type = record(parameter, 'parameter').ty
   return isOne ? registeredItem(PARAMETER_FIELDS, 'dcsctp_registered_parameter', parameter, type) : null;
 }
 
+function addresses(items) {
+  const types = [ParameterType.IPV4_ADDRESS, ParameterType.IPV6_ADDRESS];
+  return Array.from(items, it => types.includes(record(it, 'a parameter').type) ? registeredParameter(it)?.address : undefined)
+    .filter(it => it !== undefined);
+}
+
 function registeredCause(cause, code = record(cause, 'cause').code) {
   return record(cause, 'cause').code === code ? registeredItem(CAUSE_FIELDS, 'dcsctp_registered_cause', cause, code) : null;
 }
@@ -1318,6 +1324,12 @@ class Builder {
     return this.#item('dcsctp_add_registered_parameter', ...this.#registered(PARAMETER_FIELDS, number(type, 'u16', 'type'), fields));
   }
 
+  addAddresses(addresses) {
+    for (const address of addresses)
+      this.addRegisteredParameter(`${address}`.includes(':') ? ParameterType.IPV6_ADDRESS : ParameterType.IPV4_ADDRESS, { address });
+    return this;
+  }
+
   addRegisteredCause(code, fields) {
     return this.#item('dcsctp_add_registered_cause', ...this.#registered(CAUSE_FIELDS, number(code, 'u16', 'code'), fields));
   }
@@ -1348,6 +1360,8 @@ class Builder {
 
 const unrecognizedChunk = type => call('dcsctp_unrecognized_chunk', number(type, 'u8', 'type'));
 const unrecognizedParameter = type => call('dcsctp_unrecognized_parameter', number(type, 'u16', 'type'));
+const actionReports = action => [Action.STOP_AND_REPORT, Action.SKIP_AND_REPORT].includes(number(action, 'u32', 'action'));
+const actionSkips = action => [Action.SKIP, Action.SKIP_AND_REPORT].includes(number(action, 'u32', 'action'));
 
 /** Where a struct lies that a function takes. */
 function structOf(struct, object, name) {
@@ -1447,9 +1461,9 @@ const davgyuti = {
   version, versionNumber, Result, FIRST_CHUNK, ChunkType, TAG_REFLECTED, ParameterType, CauseCode, ReConfigResult, resultText,
   chunkName, parameterName, causeName, isKnownChunk, isKnownParameter, isKnownCause, Fault, WriteError, check, firstFault,
   canonical, text, report, word, needsChecksum, header, chunks, read, readChunk, dataFlags, withFlags, parameters, parameter, causes,
-  cause, registeredChunk, registeredParameter, registeredCause, seal, setTag, Builder, cleanBlocks, Action, unrecognizedChunk,
-  unrecognizedParameter, TagVerdict, verifyTag, Answer, outOfTheBlue, reply, InitFault, initFault, Refusal, initRefusal, initAbort,
-  isListed, sharedKey, verifyAuth, signAuth, sealCookie, CookieState, openCookie,
+  cause, registeredChunk, registeredParameter, registeredCause, addresses, seal, setTag, Builder, cleanBlocks, Action, unrecognizedChunk,
+  unrecognizedParameter, actionReports, actionSkips, TagVerdict, verifyTag, Answer, outOfTheBlue, reply, InitFault, initFault, Refusal,
+  initRefusal, initAbort, isListed, sharedKey, verifyAuth, signAuth, sealCookie, CookieState, openCookie,
 };
 if (this) {
   const wasm = new WebAssembly.Module(require('node:fs').readFileSync(`${__dirname}/dcsctp.wasm`));

@@ -5,7 +5,7 @@ import { test } from 'node:test';
 import * as davgyuti from '../davgyuti.mjs';
 
 const {
-  Action, Answer, Builder, CauseCode, ChunkType, InitFault, ParameterType, Refusal, Result, TAG_REFLECTED, TagVerdict, WriteError, check,
+  Action, actionReports, actionSkips, Answer, Builder, CauseCode, ChunkType, InitFault, ParameterType, Refusal, Result, TAG_REFLECTED, TagVerdict, WriteError, check,
   header, initAbort, initFault, initRefusal, outOfTheBlue, reply, seal, unrecognizedChunk, unrecognizedParameter, verifyTag,
 } = davgyuti;
 const bytes = hex => Uint8Array.from(Buffer.from(hex.replace(/\s/g, ''), 'hex'));
@@ -32,6 +32,9 @@ test('types that are not recognized', () => {
     for (const rest of [0, 0x3fff])
       assert.equal(unrecognizedParameter(bits << 14 | rest), action);
   });
+  assert.deepEqual(actions.map(actionReports), [false, true, false, true]);
+  assert.deepEqual(actions.map(actionSkips), [false, false, true, true]);
+  assert.throws(() => actionReports('1'), TypeError);
   assert.throws(() => unrecognizedChunk(256), RangeError);
   assert.throws(() => unrecognizedParameter('1'), TypeError);
 });

@@ -6,8 +6,8 @@ import { test } from 'node:test';
 import * as davgyuti from '../davgyuti.mjs';
 
 const {
-  Builder, CauseCode, ChunkType, ParameterType, Result, WriteError, causes, cause, check, chunks, parameter, parameters, read, readChunk,
-  registeredCause, registeredChunk, registeredParameter,
+  Builder, CauseCode, ChunkType, ParameterType, Result, WriteError, addresses, causes, cause, check, chunks, parameter, parameters,
+  read, readChunk, registeredCause, registeredChunk, registeredParameter,
 } = davgyuti;
 const bytes = hex => Uint8Array.from(Buffer.from(hex.replace(/\s/g, ''), 'hex'));
 const PORTS = { sourcePort: 5000, destinationPort: 5001, verificationTag: 0x01020304 };
@@ -297,16 +297,21 @@ test('an AUTH with an ASCONF, and an INIT with four addresses', () => {
   const [request] = registeredChunk(asconf, ChunkType.ASCONF).parameters;
   assert.equal(registeredParameter(request, ParameterType.ADD_IP_ADDRESS).address, '2001:db8::2');
 
-  const addresses = ['192.0.2.1', '198.51.100.1', '2001:db8::1', '2001:db8::2'];
+  const four = ['192.0.2.1', '198.51.100.1', '2001:db8::1', '2001:db8::2'];
   const builder = new Builder({ sourcePort: 5000, destinationPort: 5000, verificationTag: 0 });
   builder.addInit({ initiateTag: 0x0da73798, aRwnd: 0x20000, outboundStreams: 4, inboundStreams: 4, initialTsn: 0x66e387ab });
-  for (const address of addresses)
-    builder.addRegisteredParameter(address.includes(':') ? ParameterType.IPV6_ADDRESS : ParameterType.IPV4_ADDRESS, { address });
-  const init = builder.finish();
+  const init = builder.addAddresses(four.values()).finish();
   assert.deepEqual(init, bytes(`13881388000000001284eab20100004c0da73798000200000004000466e387ab00050008c000020100050008c6336401
     0006001420010db80000000000000000000000010006001420010db8000000000000000000000002`));
-  assert.deepEqual(Array.from(parameters(read(init).chunks[0]), it => registeredParameter(it).address), addresses);
-  assert.deepEqual(Array.from(parameters(readChunk(init.subarray(12))), it => registeredParameter(it).address), addresses);
+  assert.deepEqual(Array.from(parameters(read(init).chunks[0]), it => registeredParameter(it).address), four);
+  assert.deepEqual(addresses(parameters(readChunk(init.subarray(12)))), four);
+  assert.deepEqual(addresses(parameters(read(init).chunks[0])), four);
+  // All else is passed over: another type, a wrong size, an address in a request.
+  const others = [parameter(5, new Uint8Array(5)), parameter(6, new Uint8Array(4)), request, parameter(0x8000), parameter(5, { address: four[0] })];
+  assert.deepEqual(addresses(others), [four[0]]);
+  assert.throws(() => builder.addAddresses(['192.0.2']), Error);
+  assert.throws(() => builder.addAddresses([5]), Error);
+  assert.deepEqual(builder.finish(), init);
 });
 
 test('values at random: what is read is written, and reads as the same', () => {

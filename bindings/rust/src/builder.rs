@@ -10,6 +10,7 @@ use crate::receive::{Answer, InitFault};
 use crate::registered::{Raw, RegisteredCause, RegisteredChunk, RegisteredParameter};
 use crate::types::{CauseCode, ChunkType, ParameterType};
 use crate::values::{Data, GapAckBlock, Header, Init, ReConfig, SkippedStream};
+use core::net::IpAddr;
 use core::ptr;
 
 /// The size of the largest packet that can be written, in bytes.
@@ -1032,6 +1033,32 @@ impl ChunkBuilder<'_, '_> {
         let (fields, first, count) = (&raw const fields, bytes.as_ptr(), bytes.len());
         let start = self.packet.last;
         add!(self.packet, dcsctp_add_registered_parameter, start, number, fields, first, count)?;
+        Ok(self)
+    }
+
+    /// Adds an IPv4 Address or IPv6 Address parameter for each address (RFC 9260 section 3.3.2.1).
+    ///
+    /// ```
+    /// # let mut buffer = [0; 100];
+    /// # let mut packet = davgyuti::PacketBuilder::begin(&mut buffer, 5000, 5001, 0)?;
+    /// let own = [std::net::IpAddr::from([192, 0, 2, 1]), std::net::IpAddr::from([0x2001_u16; 8])];
+    /// packet.init(&davgyuti::Init::default())?.addresses(own)?;
+    /// assert_eq!(packet.as_bytes()[32..44], [0, 5, 0, 8, 192, 0, 2, 1, 0, 6, 0, 20]);
+    /// # Ok::<(), davgyuti::WriteError>(())
+    /// ```
+    ///
+    /// # Errors
+    /// Any [`WriteError`]; those before the one that has no room are then added.
+    pub fn addresses(
+        &mut self,
+        addresses: impl IntoIterator<Item = IpAddr>,
+    ) -> Result<&mut Self, WriteError> {
+        for address in addresses {
+            self.registered_parameter(&match address {
+                IpAddr::V4(_) => RegisteredParameter::Ipv4Address { address },
+                IpAddr::V6(_) => RegisteredParameter::Ipv6Address { address },
+            })?;
+        }
         Ok(self)
     }
 

@@ -9,6 +9,7 @@ use crate::registered::{RegisteredCause, RegisteredParameter};
 use crate::types::{CauseCode, ChunkType, ParameterType};
 use crate::values::{NextTsns, ReConfig, ReConfigResult};
 use core::iter::FusedIterator;
+use core::net::IpAddr;
 
 /// A parameter or an error cause, where it lies in a packet's bytes.
 #[derive(Clone, Copy)]
@@ -172,6 +173,23 @@ impl<'a> Parameters<'a> {
     #[must_use]
     pub fn as_bytes(&self) -> &'a [u8] {
         self.0.as_bytes()
+    }
+
+    /// Returns the addresses of the list, in order: those of the IPv4 Address and IPv6 Address
+    /// parameters of an INIT or INIT ACK (RFC 9260 section 3.3.2.1), or of the cause Restart of an
+    /// Association with New Addresses. All else is passed over, and so is an address parameter of a
+    /// wrong size.
+    ///
+    /// ```
+    /// let parameters = davgyuti::Parameters::of(b"\0\x05\0\x08\xc0\0\x02\x01\x80\0\0\x04");
+    /// assert!(parameters.addresses().eq([std::net::IpAddr::from([192, 0, 2, 1])]));
+    /// ```
+    pub fn addresses(self) -> impl Iterator<Item = IpAddr> + 'a {
+        self.filter_map(|it| match it.registered()? {
+            RegisteredParameter::Ipv4Address { address }
+            | RegisteredParameter::Ipv6Address { address } => Some(address),
+            _ => None,
+        })
     }
 }
 

@@ -275,6 +275,29 @@ fn alone(packet: &[u8], start: usize) -> &[u8] {
     &packet[start..start + length]
 }
 
+/// RFC 9260 section 3.3.2: addresses of both versions, and beside them what is none.
+#[test]
+fn addresses() {
+    let other = IpAddr::V4(Ipv4Addr::new(198, 51, 100, 1));
+    let list = "00050008 c0000201 00050005 c0000000 000c0008 00050006 \
+                00060014 20010db8 00000000 00000000 00000001 00060008 00000000 00050008 c6336401";
+    assert!(parameters(list).addresses().eq([V4, V6, other]));
+    assert_eq!(parameters("80000004").addresses().count(), 0);
+
+    let packet = written(|packet| {
+        packet.init(&Init::default())?.addresses([V4, V6])?.addresses(vec![other])?.addresses([])?;
+        Ok(())
+    });
+    let wanted = "00050008 c0000201 00060014 20010db8 00000000 00000000 00000001 00050008 c6336401";
+    assert_eq!(packet.unwrap()[32..], bytes(wanted));
+    // The first one that has no room; those before it are there.
+    let mut buffer = [0; 48];
+    let mut packet = PacketBuilder::begin(&mut buffer, 1, 2, 3).unwrap();
+    let added = packet.init(&Init::default()).unwrap().addresses([V4, V6]).map(|_| ());
+    assert_eq!(added, Err(WriteError::NoRoom));
+    assert_eq!(packet.as_bytes()[32..], bytes("00050008 c0000201"));
+}
+
 #[test]
 fn chunks() {
     let mut kinds = Vec::new();
