@@ -281,6 +281,12 @@ class Fields(unittest.TestCase):
             with self.subTest(text):
                 self.assertIsNone(made(text).registered())
 
+    def test_unknown_or_broken(self) -> None:
+        # (RFC 9260 section 3.3.2.1.1: four bytes; IANA's registry has no type 0x8006)
+        for type, is_known in ((5, True), (0x8006, False)):
+            self.assertIsNone(davgyuti.RawParameter(type, bytes(5)).registered())
+            self.assertIs(type in r.PARAMETERS, is_known)
+
     def test_written(self) -> None:
         for made, text, value, written in ROWS:
             with self.subTest(text):
