@@ -456,6 +456,10 @@ enum class action : std::uint32_t {
     skip = DCSCTP_ACTION_SKIP,                       ///< the next one is processed
     skip_and_report = DCSCTP_ACTION_SKIP_AND_REPORT  ///< the same; and it is reported
 };
+/// Returns whether the chunk or the parameter is reported.
+[[nodiscard]] inline bool reports(action of) noexcept { return ::dcsctp_action_reports(static_cast<std::uint32_t>(of)); }
+/// Returns whether the next one is processed.
+[[nodiscard]] inline bool skips(action of) noexcept { return ::dcsctp_action_skips(static_cast<std::uint32_t>(of)); }
 /// What is done with a packet, by its verification tag.
 enum class tag_verdict : std::uint32_t {
     accept = DCSCTP_TAG_ACCEPT,                   ///< the tag is right: the packet is processed
@@ -1072,6 +1076,15 @@ class parameter : public detail::item {
     }
     /// The streams, if it is an Outgoing or Incoming SSN Reset.
     [[nodiscard]] dcsctp::reset_streams reset_streams() const noexcept { return {{bytes_, it_}, 0}; }
+    /// Returns the 4 or 16 octets of an IPv4 Address or IPv6 Address, as in_addr and in6_addr have them (RFC 9260 section
+    /// 3.3.2.1); none of another type, or of a wrong size.
+    [[nodiscard]] std::optional<bytes_view> as_address() const noexcept
+    {
+        const auto it = type() == parameter_type::ipv4_address || type() == parameter_type::ipv6_address
+                            ? as_registered()
+                            : std::nullopt;
+        return it ? std::optional<bytes_view>(it->address) : std::nullopt;
+    }
     /// Reads a parameter of the registry that has no function of its own here; none of another type, or where the value
     /// has a size that its type doesn't allow or a broken list: packet::check looks at none of these values.
     [[nodiscard]] std::optional<registered> as_registered() const noexcept
@@ -1949,6 +1962,13 @@ class builder {
                                     return ::dcsctp_add_registered_parameter(data_, room_, &size_, start_, number(type),
                                                                              &it, bytes.data(), bytes.size());
                                 });
+    }
+    /// Adds an IPv4 Address of 4 octets, or an IPv6 Address of 16, to the last chunk (RFC 9260 section 3.3.2.1); bad_value
+    /// for another number of octets.
+    result add_address(bytes_view octets)
+    {
+        return add_registered(octets.size() == 4 ? parameter_type::ipv4_address : parameter_type::ipv6_address,
+                              registered({}, octets));
     }
     /// Adds such an error cause to the last chunk.
     result add_registered(cause_code code, const registered &of)

@@ -1335,6 +1335,31 @@ void registered_values()
         CHECK(!read_of(of, only(packet_of(of, of_hex(text)))));
 }
 
+void address_parameters()
+{
+    // RFC 9260 section 3.3.2: an INIT with addresses of both versions, and one of a wrong size.
+    const char *const text = "0100 0040 00000001 00020000 0004 0005 00000029 0005 0008 c0000201"
+                             "0006 0014 20010db8 00000000 00000000 00000001 000c 0008 0005 0006 0005 0008 c6336401";
+    const bytes wanted[] = {of_hex("c0000201"), of_hex("20010db8000000000000000000000001"), of_hex("c6336401")};
+    const bytes packet = sealed(text);
+    std::vector<bytes> found;
+    for (parameter parameter : only(packet).parameters())
+        if (const auto octets = parameter.as_address())
+            found.emplace_back(octets->begin(), octets->end());
+    CHECK(found == std::vector<bytes>(std::begin(wanted), std::end(wanted)));
+    const bytes five(5), sixteen(16), four(4);
+    CHECK(!parameter(parameter_type::ipv4_address, five).as_address() && !parameter(parameter_type::ipv4_address, sixteen).as_address());
+    CHECK(!parameter(parameter_type::ipv6_address, four).as_address() && !parameter(parameter_type::random, four).as_address());
+
+    bytes made;
+    builder builder(made, 5000, 5001, 0x01020304);
+    CHECK(builder.add_init({1, 0x20000, 4, 5, 41}) && builder.add_address(wanted[0]) && builder.add_address(wanted[1]));
+    CHECK(builder.add_address(five).code() == result_code::bad_value && builder.add_address({}).code() == result_code::bad_value);
+    const std::uint8_t types[] = {0, 5, 0, 6};
+    CHECK(builder.add_parameter(parameter_type::supported_address_types, types) && builder.add_address(wanted[2]));
+    CHECK(same(builder.bytes().subspan(DCSCTP_FIRST_CHUNK), of_hex(text)));
+}
+
 void registered_lists()
 {
     // A refusal in an ASCONF ACK: the places are in the packet, and what is in an item is read of the item.
@@ -1471,6 +1496,10 @@ void unrecognized_types()
     for (unsigned bits = 0; bits < 4; bits++)
         for (unsigned rest : {0u, 0x3fffu})
             CHECK(unrecognized(static_cast<parameter_type>(bits << 14 | rest)) == actions[bits]);
+    CHECK(!reports(action::stop) && !skips(action::stop));
+    CHECK(reports(action::stop_and_report) && !skips(action::stop_and_report));
+    CHECK(!reports(action::skip) && skips(action::skip));
+    CHECK(reports(action::skip_and_report) && skips(action::skip_and_report));
 }
 
 void tags()
@@ -1755,6 +1784,7 @@ int main()
     stacks();
     rows();
     registered_values();
+    address_parameters();
     registered_lists();
     registered_refusals();
     addresses();

@@ -32,11 +32,14 @@ for function in $functions; do
 done
 
 {
-    printf '#include "dcsctp.hpp"\n#include <iostream>\nint main()\n{\n'
+    printf '#include "dcsctp.hpp"\n#include <arpa/inet.h>\n#include <cstring>\n#include <iostream>\nint main()\n{\n'
     sed -n '/^```cpp$/,/^```$/{/^```/!p}' README.md
     printf '}\n'
 } >"$work/readme.cc"
-printf 'INIT ACK: State Cookie\nCOOKIE ACK to tag 1294857517\nAdd IP Address: 1\n' >"$work/readme.expected"
+{
+    printf 'INIT ACK: State Cookie\nCOOKIE ACK to tag 1294857517\nAdd IP Address: 1\n'
+    printf '192.0.2.1\n198.51.100.1\n2001:db8::1\n2001:db8::2\n'
+} >"$work/readme.expected"
 
 flags=(-Wall -Wextra -Wpedantic -Wconversion -Wshadow -Werror -I . -I "$dist")
 sanitizers=(-g "-fsanitize=address,undefined" -fno-sanitize-recover=all)
