@@ -228,7 +228,7 @@ class Scapy:
         yield Field(kind, part.type, at)
         if kind == 'chunk':
             bits = {SCAPY.get(it.name, it.name): getattr(part, it.name) for it in part.fields_desc}
-            yield Field('flags', data[at + 1])
+            yield Field('flags', bits.get('flags', data[at + 1]))  # (or bits by name)
             yield from (Field(name, bits[name]) for name in BITS[1:] if name in bits)
         inner = at
         for it in part.fields_desc:
