@@ -207,7 +207,11 @@ look_with 'tshark-4 editcap mergecap text2pcap tcpdump hexdump xxd' "$root/tests
 # ---- fields of a real stack's packets
 
 # The script looks for the tools itself: what it says of them, and of how many fields agree, is passed on.
-look "$(find_scapy || echo python3)" "$root/tests/dump/fields.py" "$program"
+if python=$(find_scapy); then
+    look "$python" "$root/tests/dump/fields.py" "$program"
+else
+    look "$root/tests/dump/fields.py" "$program"
+fi
 sed -n 's/^fields: /dump: &/p' "$work/log"
 
 # ---- times
