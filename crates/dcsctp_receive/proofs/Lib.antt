@@ -4,3 +4,5 @@ pub mod Replies
 pub mod Blocks
 pub mod SackBlocks
 pub mod Marks
+pub mod Reports
+pub mod AddedItems

@@ -1,4 +1,5 @@
 pub mod Action
+pub mod Unrecognized
 pub mod Chunks
 pub mod ChunkTest
 pub mod Fields

@@ -17,5 +17,7 @@ pub mod laws;
 pub mod out_of_the_blue;
 mod parameters;
 mod reply;
+mod reported;
 pub mod rule;
+pub mod unrecognized;
 pub mod verification_tag;
