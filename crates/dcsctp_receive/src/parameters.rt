@@ -7,11 +7,15 @@ ghost use Rattle.dcsctp_receive.specs.Fields.{lacks_parameter, has_no_cookie, ha
 use crate::chunk_type;
 use crate::items::has_numbered;
 use dcsctp_borrowed::part::{Item, Part};
+use dcsctp_wire::packet::init_chunk::InitNumbers;
+use dcsctp_wire::packet::{heartbeat_info_parameter, state_cookie_parameter};
 
 /// Heartbeat Info (RFC 9260 section 3.3.5).
-const HEARTBEAT_INFO: u8 = 1;
+const HEARTBEAT_INFO: u8 = heartbeat_info_parameter::PARAMETER_TYPE as u8;
+
 /// State Cookie (RFC 9260 section 3.3.3).
-pub(crate) const STATE_COOKIE: u8 = 7;
+pub(crate) const STATE_COOKIE: u8 = state_cookie_parameter::PARAMETER_TYPE as u8;
+
 /// The error cause Stale Cookie (RFC 9260 section 3.3.10.3).
 const STALE_COOKIE: u8 = 3;
 
@@ -19,7 +23,8 @@ const STALE_COOKIE: u8 = 3;
 pub(crate) fn has_no_cookie(chunk: Item<'_>) -> bool
     ensures { result ≡ has_no_cookie (item_of chunk.entry) }
 {
-    chunk.first == chunk_type::INIT_ACK && lacks_parameter(chunk.value.after(16), STATE_COOKIE)
+    chunk.first == chunk_type::INIT_ACK
+        && lacks_parameter(chunk.value.after(InitNumbers::SIZE), STATE_COOKIE)
 }
 
 /// Returns whether it is a HEARTBEAT, all of which was captured, without a Heartbeat Info.
