@@ -992,6 +992,8 @@ async function inBrowser(browser) {
 
   await check('the table of associations', async () => {
     const usrsctp = readFileSync(new URL('../../tests/dump/data/usrsctp.pcap', import.meta.url));
+    // (only rows in view are in the document)
+    await browser.send('Emulation.setDeviceMetricsOverride', { width: 1280, height: 1500, deviceScaleFactor: 1, mobile: false });
     for (const files of [{ 'example.pcap': example }, { 'usrsctp.pcap': usrsctp }, { 'example.pcap': example, 'usrsctp.pcap': usrsctp }]) {
       await browser.choose(...Object.entries(files).map(([name, content]) => file(name, content)));
       await browser.done();
