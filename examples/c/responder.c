@@ -14,10 +14,10 @@ struct bytes {
 };
 
 struct responder {
-    /* What the caller sets; all else is 0 at first. The tag, not 0, the TSN and `random` are of the next association: they are
-       drawn anew once `association` has the tag. */
+    /* What the caller sets; all else is 0 at first. The tag, not 0, the TSN, `random` and `tie_tags` are of the next association:
+       they are drawn anew once `association` has the tag. */
     struct dcsctp_init own;
-    uint8_t random[32];
+    uint8_t random[32], tie_tags[8];
     uint8_t key[32]; /* drawn once: who knows it can forge cookies */
     struct bytes listed; /* types of chunks that count after AUTH alone (RFC 4895), not COOKIE ECHO; if empty, there is no AUTH */
     struct bytes pair_key; /* the endpoint pair shared key, of 0 to 64 bytes, and its identifier */
@@ -26,6 +26,7 @@ struct responder {
     void (*take_data)(void *user, const struct dcsctp_data *data, const uint8_t *payload); /* each TSN once, as it comes */
     enum { CLOSED, ESTABLISHED, SHUTDOWN_ACK_SENT } state;
     struct dcsctp_cookie association; /* what the State Cookie said: until it comes back, nothing is kept of an INIT */
+    uint8_t association_tie_tags[8];
     uint32_t cumulative_tsn, next_request, last_result;
     struct dcsctp_gap_ack_block blocks[MOST_BLOCKS];
     uint32_t duplicates[MOST_DUPLICATES]; /* since the last SACK */
@@ -75,22 +76,13 @@ static bool add_peer_auth(const struct exchange *init, struct exchange *x)
     return true;
 }
 
-/* Writes the Tie-Tags (section 5.2.2): a State Cookie with the numbers of the association that is there. */
-static bool seal_ties(const struct responder *r, uint8_t ties[72])
-{
-    size_t size;
-    return !dcsctp_seal_cookie(ties, 72, &size, r->key, sizeof r->key, &r->association, NULL, 0);
-}
-
 /* Writes what the cookie for an INIT holds after its numbers, as the parameters of a chunk: the Tie-Tags, if there is an
-   association, and the parameters of AUTH of both ends. */
+   association, in the place of its tags, which nobody else may learn; and the parameters of AUTH of both ends. */
 static bool write_kept(const struct responder *r, const struct exchange *init, struct exchange *x)
 {
-    uint8_t ties[72];
     return !dcsctp_begin(TO(x), 0, 0, 0) && !dcsctp_add_chunk(TO(x), DCSCTP_CHUNK_HEARTBEAT, 0, NULL, 0)
-        && (r->state == CLOSED
-            || (seal_ties(r, ties)
-                && !dcsctp_add_parameter(TO(x), DCSCTP_FIRST_CHUNK, DCSCTP_PARAMETER_STATE_COOKIE, ties, sizeof ties)))
+        && (r->state == CLOSED || !dcsctp_add_parameter(TO(x), DCSCTP_FIRST_CHUNK, DCSCTP_PARAMETER_HEARTBEAT_INFO,
+                                                        r->association_tie_tags, sizeof r->association_tie_tags))
         && (r->listed.size == 0 || (add_own_auth(r, x) && add_peer_auth(init, x)))
         && dcsctp_chunk_at(x->packet, x->size, DCSCTP_FIRST_CHUNK, &x->chunk);
 }
@@ -209,7 +201,7 @@ static void open_auth(struct responder *r, const uint8_t *kept, size_t size)
     r->shared_key_size = r->peer_listed_size = r->hmac = 0;
     for (size_t at = 0; size <= MOST_KEPT && dcsctp_item_at(kept, size, at, &it); at = it.next) {
         const size_t whole = it.value_offset + it.value_size - at, i = count >= 3;
-        if (it.type == DCSCTP_PARAMETER_STATE_COOKIE)
+        if (it.type == DCSCTP_PARAMETER_HEARTBEAT_INFO) /* the Tie-Tags */
             continue;
         memcpy(vectors[i] + sizes[i], kept + at, whole);
         sizes[i] += whole;
@@ -233,16 +225,16 @@ static bool open_association(struct responder *r, uint64_t now, struct exchange 
     const uint8_t *kept = x->bytes + x->chunk.value_offset;
     struct dcsctp_cookie cookie;
     struct dcsctp_parameter it;
-    uint8_t ties[72];
     uint64_t staleness;
     bool is_tied = false;
     const uint32_t state = dcsctp_open_cookie(r->key, sizeof r->key, kept, x->chunk.value_size, now, &cookie, &staleness);
     if (state == DCSCTP_COOKIE_INVALID || x->header.verification_tag != cookie.local_tag
-        || x->header.destination_port != cookie.local_port || x->header.source_port != cookie.peer_port || !seal_ties(r, ties))
+        || x->header.destination_port != cookie.local_port || x->header.source_port != cookie.peer_port)
         return false;
     kept += cookie.addresses_offset;
     for (size_t at = 0; dcsctp_item_at(kept, cookie.addresses_size, at, &it); at = it.next)
-        is_tied = is_tied || (it.value_size == sizeof ties && !memcmp(kept + it.value_offset, ties, sizeof ties));
+        is_tied = is_tied || (it.type == DCSCTP_PARAMETER_HEARTBEAT_INFO && it.value_size == sizeof r->association_tie_tags
+                              && !memcmp(kept + it.value_offset, r->association_tie_tags, it.value_size));
     const bool is_there = r->state != CLOSED, is_next = cookie.local_tag == r->own.initiate_tag;
     const bool is_local = is_there && cookie.local_tag == r->association.local_tag;
     const bool is_peers = is_there && cookie.peer_tag == r->association.peer_tag;
@@ -262,6 +254,8 @@ static bool open_association(struct responder *r, uint64_t now, struct exchange 
     }
     r->state = ESTABLISHED;
     r->association = cookie;
+    if (is_next)
+        memcpy(r->association_tie_tags, r->tie_tags, sizeof r->tie_tags);
     r->cumulative_tsn = cookie.peer_initial_tsn - 1;
     r->next_request = cookie.peer_initial_tsn; /* RFC 6525 section 5.1.1 */
     r->last_result = DCSCTP_RE_CONFIG_NOTHING_TO_DO;

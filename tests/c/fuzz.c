@@ -1565,6 +1565,7 @@ static void call_responder(void)
     }
     REQUIRE((responder.shared_key_size > 0) == (responder.listed.size > 0));
     responder.own.initiate_tag = (uint32_t)draw() | 1;
+    responder.tie_tags[0] = (uint8_t)draw();
 }
 
 /* Gives the responder a packet under its own ports and tag, so that it looks at the chunks; the first of these mostly has a TSN

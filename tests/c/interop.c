@@ -676,6 +676,7 @@ static void write_next(void)
     if (rows) {
         fprintf(rows, "next %08x %08x", responder.own.initiate_tag, responder.own.initial_tsn);
         write_bytes(responder.random, scenario->is_authenticated ? sizeof responder.random : 0);
+        write_bytes(responder.tie_tags, sizeof responder.tie_tags);
         fputc('\n', rows);
     }
 }
@@ -718,6 +719,7 @@ static void draw_next(void)
 {
     responder.own.initiate_tag = (uint32_t)draw(&state) | 1;
     responder.own.initial_tsn = (uint32_t)draw(&state);
+    fill(responder.tie_tags, sizeof responder.tie_tags, &state);
     if (scenario->is_authenticated)
         fill(responder.random, sizeof responder.random, &state);
 }
@@ -1093,8 +1095,7 @@ static void give_written(struct side *side)
     give(side, written, written_size);
 }
 
-/* RFC 4895 section 6.3: what comes after an AUTH that isn't right is discarded, and no state changes. Nor does usrsctp take what
-   the responder signs. */
+/* RFC 4895 section 6.3: what comes after an AUTH that isn't right is discarded, and no state changes. */
 static void run_wrong_key(void)
 {
     struct sctp_status status;
@@ -1139,6 +1140,16 @@ static void run_wrong_key(void)
         }
         REQUIRE(!memcmp(&responder, &before, sizeof before) == (i != 3));
     }
+
+    /* Nor does usrsctp take what is signed under another key than its own. */
+    const struct dcsctp_data own = {.tsn = responder.association.local_initial_tsn, .is_beginning = true};
+    const unsigned sacks = tally.kinds[PLAIN_SACK];
+    begin_to(&sides[0]);
+    REQUIRE(!dcsctp_add_data(TO_WRITTEN, &own, (const uint8_t *)"a", 1));
+    give_written(&sides[0]);
+    REQUIRE(written_size == PLAIN_HEADER + 28 + 20);
+    run_for(1000);
+    REQUIRE(tally.kinds[PLAIN_SACK] == sacks);
 
     /* A Random of another size than 32 bytes (section 6.1). */
     const struct dcsctp_init init = {5, 1 << 20, 1, 1, 1};
@@ -1198,15 +1209,14 @@ static void run_cookies(void)
         const char *row = table_12[i / 2], action = row[4];
         const bool is_old = i % 2 == 0;
         struct dcsctp_cookie cookie = before.association;
-        struct responder tied = before;
-        uint8_t sealed[72 + 76], ties[76] = {0, DCSCTP_PARAMETER_STATE_COOKIE, 0, sizeof ties};
+        uint8_t sealed[72 + 12], ties[12] = {0, DCSCTP_PARAMETER_HEARTBEAT_INFO, 0, sizeof ties};
         size_t sealed_size;
         cookie.created = now * 1000 - is_old;
         cookie.lifespan = 0;
         cookie.local_tag = row[0] == 'M' ? cookie.local_tag : row[0] == 'X' ? next : next ^ 4;
         cookie.peer_tag += row[1] != 'M';
-        tied.association.peer_tag += row[2] == 'X';
-        REQUIRE(seal_ties(&tied, ties + 4));
+        memcpy(ties + 4, before.association_tie_tags, 8);
+        ties[11] ^= row[2] == 'X';
         REQUIRE(!dcsctp_seal_cookie(sealed, sizeof sealed, &sealed_size, before.key, sizeof before.key, &cookie, ties,
                                     row[2] == '0' ? 0 : sizeof ties));
         REQUIRE(!dcsctp_begin(TO_WRITTEN, 5000, 5000, cookie.local_tag));

@@ -56,6 +56,7 @@ int main(int count, char **words)
             responder.own.initiate_tag = read_number(16);
             responder.own.initial_tsn = read_number(16);
             read_bytes(responder.random);
+            read_bytes(responder.tie_tags);
         } else if (!strcmp(word, "save")) {
             saved = responder;
         } else if (!strcmp(word, "restore")) {

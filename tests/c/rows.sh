@@ -28,7 +28,7 @@ tools/build.sh --text "$work/prefix" >&2
         shutting-down:4 stale:4 unknown:4 forgotten:4 auth-forgotten:4; do
         seed=1
         until "$work/interop" "responder-${scenario%:*}" --messages "${scenario#*:}" --seed $seed --rows "$work/rows" >"$work/log" 2>&1; do
-            [ $((++seed)) -le 60 ] || { cat "$work/log" >&2; exit 1; }
+            [ $((++seed)) -le 500 ] || { cat "$work/log" >&2; exit 1; }
         done
         cat "$work/rows"
     done

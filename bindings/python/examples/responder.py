@@ -13,7 +13,7 @@ import secrets
 import sys
 import time
 from collections.abc import Callable, Iterable
-from dataclasses import dataclass, replace
+from dataclasses import dataclass
 from enum import Enum
 
 import davgyuti
@@ -34,9 +34,6 @@ KNOWN = {
     ParameterType.SUPPORTED_ADDRESS_TYPES,
     ParameterType.FORWARD_TSN_SUPPORTED,
 }
-NOT_ANSWERED = (
-    davgyuti.Init | davgyuti.InitAck | davgyuti.CookieAck | davgyuti.Sack | davgyuti.HeartbeatAck | davgyuti.OperationError
-)
 REQUESTS = (
     davgyuti.OutgoingSsnReset
     | davgyuti.IncomingSsnReset
@@ -54,7 +51,8 @@ class Next:
 
     tag: int
     tsn: int
-    random: bytes = bytes(32)
+    random: bytes
+    tie_tags: bytes
 
 
 @dataclass
@@ -84,6 +82,7 @@ class Responder:
         self.listed, self.pair_key, self.pair_key_identifier = listed, pair_key, pair_key_identifier
         self.state = State.CLOSED
         self.association: davgyuti.Cookie | None = None  # nothing is kept of an INIT until its cookie comes back
+        self.tie_tags = b""
 
     def receive(self, now: int, data: bytes) -> bytes:
         """Takes a packet, and returns the one that answers it, or nothing: for bytes that are none too, and where no packet has
@@ -176,9 +175,8 @@ class Responder:
         return builder.seal()
 
     def ties(self) -> davgyuti.Parameter:
-        """The Tie-Tags (section 5.2.2): a State Cookie with the numbers of the association that is there."""
-        assert self.association is not None
-        return davgyuti.StateCookie(davgyuti.seal_cookie(self.key, replace(self.association, addresses=b"")))
+        """The Tie-Tags (section 5.2.2) in a cookie, in the place of the association's tags, which nobody else may learn."""
+        return davgyuti.HeartbeatInfo(self.tie_tags)
 
     def open_association(self, now: int, header: davgyuti.Header, sealed: bytes) -> bytes | None:
         """Opens the association of a cookie, also if the peer begins anew; one that is open stays. Returns None, or else what
@@ -210,12 +208,14 @@ class Responder:
             error_chunk = davgyuti.OperationError((davgyuti.CookieReceivedWhileShuttingDown(),))
             return self.answer([davgyuti.ShutdownAck(), error_chunk])
         self.state, self.association = State.ESTABLISHED, cookie
+        if is_next:
+            self.tie_tags = self.next.tie_tags
         self.cumulative_tsn = (cookie.peer_initial_tsn - 1) % 2**32
         self.next_request = cookie.peer_initial_tsn  # RFC 6525 section 5.1.1
         self.last_result = Result.NOTHING_TO_DO
         self.blocks: list[davgyuti.GapAckBlock] = []
         self.duplicates: list[int] = []  # since the last SACK
-        self.open_auth([it for it in kept if it.type != ParameterType.STATE_COOKIE])
+        self.open_auth([it for it in kept if it.type != ParameterType.HEARTBEAT_INFO])
         return None
 
     def open_auth(self, kept: list[davgyuti.Parameter]) -> None:
@@ -413,7 +413,7 @@ def parameters_of(data: bytes) -> tuple[davgyuti.Parameter, ...]:
 
 
 def draw() -> Next:
-    return Next(1 + secrets.randbelow(2**32 - 1), secrets.randbits(32), secrets.token_bytes(32))
+    return Next(1 + secrets.randbelow(2**32 - 1), secrets.randbits(32), secrets.token_bytes(32), secrets.token_bytes(8))
 
 
 if __name__ == "__main__":

@@ -94,7 +94,7 @@ def sack(tsn: int, *blocks: tuple[int, int]) -> bytes:
 def conversation() -> list[str]:
     """Rows of a responder that wants DATA authenticated, and of peers that want SACK. The first one begins anew; the second one has
     no Random, and so no AUTH."""
-    randoms = bytes(range(100, 132)), bytes(range(50, 82))
+    randoms, tie_tags = (bytes(range(100, 132)), bytes(range(50, 82))), (b"Tie-Tags", b"tie-tags")
     peer = parameters_of_auth(bytes(range(200, 232)), SACK, 2, SHA_256, SHA_1)
     owns = [parameters_of_auth(random, DATA, SHA_256, SHA_1) for random in randoms]
     keys = []
@@ -107,7 +107,7 @@ def conversation() -> list[str]:
         return [f"new {IDENTIFIER} {PAIR_KEY.hex()} {DATA:02x} {KEY.hex()}", *draw(at)]
 
     def draw(at: int) -> list[str]:
-        return [f"next {TAG + at:08x} {TSN + at:08x} {randoms[at].hex()}"]
+        return [f"next {TAG + at:08x} {TSN + at:08x} {randoms[at].hex()} {tie_tags[at].hex()}"]
 
     def rows(*exchanges: tuple[bytes, bytes]) -> list[str]:
         return [f"1000 {question.hex()} {answer.hex() or '-'}" for question, answer in exchanges]
@@ -132,8 +132,8 @@ def conversation() -> list[str]:
         (question(TAG, signed(key, data(PEER_TSN + 5))), answer(PEER_TAG, signed(key, sack(PEER_TSN + 2, (3, 3))))),
         (question(TAG, chunk(4, heartbeat)), answer(PEER_TAG, chunk(5, heartbeat))),
     )
-    # The peer begins anew, with the next tag as its own: the Tie-Tags are a cookie of the association (RFC 9260 section 5.2.2).
-    ties = item(7, sealed(TAG, TSN, PEER_TAG, PEER_TSN))
+    # The peer begins anew, with the next tag as its own: the cookie has the association's Tie-Tags (RFC 9260 section 5.2.2).
+    ties = item(1, tie_tags[0])
     cookie = sealed(TAG + 1, TSN + 1, PEER_TAG + 1, PEER_TSN + 9, ties, *owns[1], *peer)
     again = rows(
         (init(PEER_TAG + 1, PEER_TSN + 9, peer, port=5002), b""),
@@ -171,14 +171,14 @@ class Responders(unittest.TestCase):
                     case ["new", identifier, pair_key, listed, key]:
                         responder = example.Responder(
                             of_word(key),
-                            example.Next(0, 0),
+                            example.Next(0, 0, b"", b""),
                             lambda data: None,
                             listed=of_word(listed),
                             pair_key=of_word(pair_key),
                             pair_key_identifier=int(identifier),
                         )
-                    case ["next", tag, tsn, random]:
-                        responder.next = example.Next(int(tag, 16), int(tsn, 16), of_word(random))
+                    case ["next", tag, tsn, random, tie_tags]:
+                        responder.next = example.Next(int(tag, 16), int(tsn, 16), of_word(random), of_word(tie_tags))
                     case ["save"]:
                         saved = copy.deepcopy(responder)
                     case ["restore"]:
@@ -203,7 +203,7 @@ class Responders(unittest.TestCase):
     def test_hostile(self) -> None:
         """Bytes that are no packet, and an INIT whose unknown parameters no INIT ACK has room for."""
         example = module("responder", PROGRAM)
-        responder = example.Responder(KEY, example.Next(TAG, TSN), lambda data: None, listed=bytes((DATA,)))
+        responder = example.Responder(KEY, example.draw(), lambda data: None, listed=bytes((DATA,)))
         self.assertEqual(responder.receive(0, init(PEER_TAG, PEER_TSN, 16_000 * (item(0xC100, b""),))), b"")
         answers = 0
         for it in mutated(4000, 7):

@@ -1,10 +1,10 @@
 // SPDX-License-Identifier: Apache-2.0
-//! usage: responder KEY TAG TSN
+//! usage: responder KEY TAG TSN TIE-TAGS
 //!
 //! A responder to start from: the side of an association that is called (RFC 9260), and takes user
 //! data. Each line of the input is a time in microseconds and a packet in hexadecimal; what answers
 //! it is printed likewise, or an empty line. KEY, in hexadecimal, is that of the cookies; TAG, not
-//! 0, and TSN are numbers of the association. Let them be random.
+//! 0, and TSN are numbers of the association, and TIE-TAGS 16 digits. Let them be random.
 //!
 //! No byte is written by hand, and [`Responder`] has no I/O and no clock: packets and the time go
 //! in, and packets come out. Left out: user data that is sent, and with it timers; messages put
@@ -61,6 +61,7 @@ struct Next {
     tag: u32,
     tsn: u32,
     random: [u8; 32],
+    tie_tags: [u8; 8],
 }
 
 /// What the caller sets.
@@ -83,8 +84,8 @@ struct Association {
     peer_tag: u32,
     local_port: u16,
     peer_port: u16,
-    /// The Tie-Tags (section 5.2.2): a State Cookie with its numbers.
-    ties: Vec<u8>,
+    /// What a cookie has in the place of its tags, which nobody else may learn (section 5.2.2).
+    tie_tags: [u8; 8],
     shared_key: Vec<u8>,
     peer_listed: Vec<u8>,
     hmac: u16,
@@ -268,7 +269,7 @@ impl Responder {
         let mut packet = PacketBuilder::begin(&mut buffer, 0, 0, 0)?;
         let mut list = packet.chunk(ChunkType::HEARTBEAT, 0, &[])?;
         if self.state != Closed {
-            list.parameter(ParameterType::STATE_COOKIE, &self.association.ties)?;
+            list.parameter(ParameterType::HEARTBEAT_INFO, &self.association.tie_tags)?;
         }
         if !self.settings.listed.is_empty() {
             self.add_own_auth(&mut list)?;
@@ -318,7 +319,11 @@ impl Responder {
             return Ok(Some(packet.seal().to_vec()));
         }
         let kept = Parameters::of(cookie.addresses);
-        let is_tied = kept.clone().any(|parameter| parameter.value() == it.ties);
+        let is_tie = |parameter: Parameter| {
+            parameter.parameter_type() == ParameterType::HEARTBEAT_INFO
+                && parameter.value() == it.tie_tags
+        };
+        let is_tied = kept.clone().any(is_tie);
         let is_next = cookie.local_tag == self.next.tag;
         if !is_local && (!is_next || (is_there && (is_peers || !is_tied))) {
             // Neither action A nor B, and none of a new association.
@@ -330,14 +335,13 @@ impl Responder {
             packet.error()?.cause(CauseCode::COOKIE_RECEIVED_WHILE_SHUTTING_DOWN, &[])?;
             return self.finish(&packet).map(Some);
         }
-        let numbers = Cookie { addresses: &[], ..cookie };
         self.state = Established;
         self.association = Association {
             local_tag: cookie.local_tag,
             peer_tag: cookie.peer_tag,
             local_port,
             peer_port,
-            ties: davgyuti::seal_cookie(&mut [0; 72], &self.settings.key, &numbers)?.to_vec(),
+            tie_tags: if is_next { self.next.tie_tags } else { it.tie_tags },
             cumulative_tsn: cookie.peer_initial_tsn.wrapping_sub(1),
             next_request: cookie.peer_initial_tsn, // RFC 6525 section 5.1.1
             ..Association::default()
@@ -350,7 +354,7 @@ impl Responder {
     /// vectors (RFC 4895 section 6.1).
     fn open_auth(&mut self, kept: Parameters) -> Result<(), WriteError> {
         let kept: Vec<Parameter> =
-            kept.filter(|it| it.parameter_type() != ParameterType::STATE_COOKIE).collect();
+            kept.filter(|it| it.parameter_type() != ParameterType::HEARTBEAT_INFO).collect();
         let (own, peer) = kept.split_at(kept.len().min(3));
         let it = &mut self.association;
         for parameter in peer {
@@ -672,11 +676,12 @@ fn answer_line(responder: &mut Responder, line: &str) -> Option<String> {
 
 fn main() {
     let words: Vec<String> = std::env::args().skip(1).collect();
-    let [key, tag, tsn] = &words[..] else { panic!("usage: responder KEY TAG TSN") };
+    let [key, tag, tsn, ties] = &words[..] else { panic!("usage: responder KEY TAG TSN TIE-TAGS") };
     let settings =
         Settings { key: of_hex(key).expect("KEY in hexadecimal"), ..Settings::default() };
     let (tag, tsn) = (tag.parse().expect("TAG"), tsn.parse().expect("TSN"));
-    let next = Next { tag, tsn, random: [0; 32] };
+    let tie_tags = of_hex(ties).and_then(|it| it.try_into().ok()).expect("TIE-TAGS");
+    let next = Next { tag, tsn, random: [0; 32], tie_tags };
     let mut responder = Responder { settings, next, ..Responder::default() };
     for line in io::stdin().lock().lines() {
         let line = line.expect("a line of text");
@@ -713,10 +718,11 @@ mod tests {
                     };
                     responder = Responder { settings, ..Responder::default() };
                 }
-                ["next", tag, tsn, random] => {
+                ["next", tag, tsn, random, ties] => {
                     let [tag, tsn] = [tag, tsn].map(|it| u32::from_str_radix(it, 16).unwrap());
                     let random = of_word(random).try_into().unwrap_or_default();
-                    responder.next = Next { tag, tsn, random };
+                    let tie_tags = of_word(ties).try_into().unwrap();
+                    responder.next = Next { tag, tsn, random, tie_tags };
                 }
                 ["save"] => saved = responder.clone(),
                 ["restore"] => responder = saved.clone(),
