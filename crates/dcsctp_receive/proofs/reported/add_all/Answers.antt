@@ -21,9 +21,10 @@ loop-item-preserved c =
           (omega (arith, c.add_written.auto.buffer)) (c.in_ok-add_written.ensures.added refl);
       added = λ new end rest. c.loop-item.invariant.added new end
           (subst (λ (all : List (List ℕ)). AreAdded c.args.typ c.args.start all
-          c.loop-item.buffer c.loop-item.size new end) (sym c.in-Some.ensures.found)
-          (c.add_written.new.buffer,
-          (c.add_written.new.size, (c.in_ok-add_written.ensures.added refl, rest))));
+          c.loop-item.buffer c.loop-item.size new end) (sym c.in-Some.ensures.found) (
+            c.add_written.new.buffer,
+            (c.add_written.new.size, (c.in_ok-add_written.ensures.added refl, rest)),
+          ));
     }
 
 pub returns-in_err-add_written-clause-done : goal.returns-in_err-add_written-clause-done

@@ -6,15 +6,25 @@ use Rattle.dcsctp_receive.proofs.reported.fit.Goals as goal
 
 pub loop-item-preserved : goal.loop-item-preserved
 loop-item-preserved c =
-    omega (arith, c.loop-item.invariant, ap added_size c.in-Some.ensures.found,
-    c.round_up_to_4-size.ensures, c.if-size-left.false)
+    omega (
+      arith,
+      c.loop-item.invariant,
+      ap added_size c.in-Some.ensures.found,
+      c.round_up_to_4-size.ensures,
+      c.if-size-left.false,
+    )
 
 pub returns-then-size-left : goal.returns-then-size-left
 returns-then-size-left c =
     let all = added_size (wholes (action_by c.args.handling) (items_of (part_of c.args.list))) in
     let more : c.args.room < all =
-    omega (arith, c.loop-item.invariant, ap added_size c.in-Some.ensures.found,
-    c.round_up_to_4-size.ensures, c.if-size-left.true) in
+    omega (
+      arith,
+      c.loop-item.invariant,
+      ap added_size c.in-Some.ensures.found,
+      c.round_up_to_4-size.ensures,
+      c.if-size-left.true,
+    ) in
     sym (lt-leb all c.args.room more)
 
 pub returns : goal.returns

@@ -6,8 +6,11 @@ use Rattle.dcsctp_receive.proofs.reported.next_reported.Goals as goal
 
 pub overflow_add-item : goal.overflow_add-item
 overflow_add-item c =
-    omega (arith, whole_fits (part_of c.loop-item.rest) (item_of c.in-Some.item)
-    c.in-Some.ensures.0 c.in-Some.ensures.1 c.are_bytes.ensures)
+    omega (
+      arith,
+      whole_fits (part_of c.loop-item.rest) (item_of c.in-Some.item)
+          c.in-Some.ensures.0 c.in-Some.ensures.1 c.are_bytes.ensures,
+    )
 
 pub returns-then-is_reported-clause-found : goal.returns-then-is_reported-clause-found
 returns-then-is_reported-clause-found c =

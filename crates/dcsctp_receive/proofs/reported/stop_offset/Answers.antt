@@ -27,9 +27,12 @@ loop-item-preserved c =
           c.in-Some.ensures.1 c.action.ensures c.stops.ensures c.loop-item.invariant.fewer
           c.loop-item.invariant.same (part_of c.after-rest.result) c.in-Some.item.padded
           c.if-stops.false c.in-Some.ensures.2 c.after-rest.ensures;
-      fewer = omega (arith, c.loop-item.invariant.fewer,
-          after_less p (part_of c.after-rest.result) c.in-Some.item.padded c.in-Some.ensures.0
-          c.in-Some.ensures.2 c.after-rest.ensures);
+      fewer = omega (
+        arith,
+        c.loop-item.invariant.fewer,
+        after_less p (part_of c.after-rest.result) c.in-Some.item.padded c.in-Some.ensures.0
+            c.in-Some.ensures.2 c.after-rest.ensures,
+      );
     }
 
 pub loop-item-smaller : goal.loop-item-smaller
