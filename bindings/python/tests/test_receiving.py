@@ -32,7 +32,7 @@ def answer(data: bytes, is_unicast: bool = True) -> Answer:
 
 class Documented(unittest.TestCase):
     def test_help_has_each_member(self) -> None:
-        kinds = davgyuti.Result, davgyuti.CookieState, Action, TagVerdict, Answer, InitFault, Refusal
+        kinds = davgyuti.Result, davgyuti.CookieState, Action, TagVerdict, Answer, InitFault, Refusal, davgyuti.Rule
         for kind in kinds:
             shown = pydoc.plain(pydoc.render_doc(kind))
             texts = [it.__doc__ for it in kind]
@@ -210,6 +210,74 @@ class Initiations(unittest.TestCase):
         for other in (0, 8):
             self.assertRaises(BadValue, davgyuti.init_abort, header, OTHER, other)
         self.assertRaises(ValueError, davgyuti.init_abort, header, 2**32, InitFault.TAG_ZERO)
+
+
+class Reported(unittest.TestCase):
+    """ "Parameter Types are encoded such that the highest-order 2 bits specify the action": sections 3.2, 3.2.1 and 3.2.2."""
+
+    def test_parameters(self) -> None:
+        raw = [(0x8123, b"\1"), (0xC123, b"\1\2"), (0xC000, b""), (0x4123, b"abc"), (0xC124, b"")]
+        numbers = {"initiate_tag": 1, "a_rwnd": 1500, "outbound_streams": 1, "inbound_streams": 1, "initial_tsn": 0}
+        init = davgyuti.Init(**numbers, parameters=[davgyuti.RawParameter(type, value) for type, value in raw])
+        front = "0008000a c1230006 0102"
+        cases = (
+            ([0xC000], 3, front + "0000 0008000b 41230007 616263"),
+            ([0xC000, 0x4123], None, front + "0000 00080008 c1240004"),
+            ([0xC000, 0xC124], 3, front + "0000 0008000b 41230007 616263"),
+            ([type for type, _ in raw], None, ""),
+        )
+        for known, stop, expected in cases:
+            builder = PacketBuilder(5000, 5001, 7)
+            writer = builder.init_ack(davgyuti.InitAck(**numbers, parameters=[]))
+            before = len(builder)
+            self.assertEqual(writer.unrecognized_parameters(init, known), stop)
+            data = of_hex(expected)
+            self.assertEqual(bytes(builder)[before:], data + bytes(-len(data) % 4))
+
+    def test_chunks(self) -> None:
+        came = packet(7, (0, 3), (0xFE, 0), (0xBF, 0), (0x41, 5), (0xFD, 0))
+        builder = PacketBuilder(5000, 5001, 8)
+        self.assertEqual(builder.unrecognized_chunks(came, [0]), 24)
+        self.assertEqual(bytes(builder)[12:], of_hex("09000014 00060008 fe000004 00060008 41050004"))
+        builder = PacketBuilder(5000, 5001, 8)
+        self.assertIsNone(builder.unrecognized_chunks(came, range(256)))
+        self.assertEqual(len(builder), 12)
+
+    def test_no_room(self) -> None:
+        builder = PacketBuilder(5000, 5001, 8, limit=31)
+        with self.assertRaises(davgyuti.NoRoom):
+            builder.unrecognized_chunks(packet(7, (0xFE, 0), (0xFD, 0)), [])
+        self.assertEqual(len(builder), 12)
+
+
+class Rules(unittest.TestCase):
+    """Packets of tests/dump/rules.txt, one that keeps each rule beside those that break it."""
+
+    def test_rows(self) -> None:
+        rule = davgyuti.Rule
+        rows = (
+            ("0000138900000007 01010101 0b000004", [rule.PORT_ZERO]),
+            ("0001010000000007 01010101 0b000004", []),
+            ("1388138900000007 01010101 0b000004 0e000004", [rule.INIT_ALONE]),
+            ("1388138900000000 01010101 06000004", [rule.TAG_ZERO]),
+            ("1388138900000000 01010101 01000014 00000000 00010000 00010001 00000001", [rule.INITIATE_TAG_ZERO]),
+            ("1388138900000000 01010101 01000014 00000001 00010000 00000001 00000001", [rule.NO_STREAMS]),
+            ("1388138900000000 01010101 01000014 00000001 000005db 00010001 00000001", [rule.SMALL_WINDOW]),
+            ("1388138900000007 01010101 06000004 0b000004", [rule.AFTER_ABORT]),
+        )
+        for text, expected in rows:
+            self.assertEqual(davgyuti.broken_rules(of_hex(text)), tuple(expected), text)
+        self.assertEqual(davgyuti.broken_rules(b""), ())
+
+    def test_what_is_known(self) -> None:
+        data = of_hex("1388138900000007 00000000 0b000004")
+        self.assertEqual(davgyuti.broken_rules(data), ())
+        self.assertEqual(davgyuti.broken_rules(data, refuses_zero=True), (davgyuti.Rule.ZERO_CHECKSUM,))
+        builder = PacketBuilder(5000, 5001, 7)
+        builder.data(b"a", tsn=1, stream=0, ssn=0)
+        data = builder.seal()
+        self.assertEqual(davgyuti.broken_rules(data, has_data=True), ())
+        self.assertEqual(davgyuti.broken_rules(data, has_i_data=True), (davgyuti.Rule.DATA_BESIDE_IDATA,))
 
 
 if __name__ == "__main__":

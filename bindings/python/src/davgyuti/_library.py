@@ -146,6 +146,10 @@ class Association(ctypes.Structure):
     _fields_ = [("own_tag", c_uint32), ("peer_tag", c_uint32), ("has_peer_tag", c_bool), ("awaits_cookie", c_bool)]
 
 
+class Known(ctypes.Structure):
+    _fields_ = [("refuses_zero", c_bool), ("has_data", c_bool), ("has_i_data", c_bool)]
+
+
 class Cookie(ctypes.Structure):
     _fields_ = [
         ("created", c_uint64),
@@ -239,6 +243,8 @@ FUNCTIONS: dict[str, tuple[Any, ...]] = {
     "dcsctp_add_registered_chunk": (c_uint32, *_OUTPUT, c_uint8, *_REGISTERED),
     "dcsctp_add_registered_parameter": (c_uint32, *_LIST, c_uint16, *_REGISTERED),
     "dcsctp_add_registered_cause": (c_uint32, *_LIST, c_uint16, *_REGISTERED),
+    "dcsctp_add_unrecognized_parameters": (c_uint32, *_LIST, *_BYTES, POINTER(c_uint16), c_size_t, POINTER(c_size_t)),
+    "dcsctp_add_unrecognized_chunks": (c_uint32, *_OUTPUT, *_BYTES, POINTER(c_uint8), c_size_t, POINTER(c_size_t)),
     "dcsctp_unrecognized_chunk": (c_uint32, c_uint8),
     "dcsctp_unrecognized_parameter": (c_uint32, c_uint16),
     "dcsctp_verify_tag": (c_uint32, *_BYTES, POINTER(Association)),
@@ -247,6 +253,7 @@ FUNCTIONS: dict[str, tuple[Any, ...]] = {
     "dcsctp_init_fault": (c_uint32, *_BYTES, c_bool),
     "dcsctp_init_refusal": (c_uint32, c_uint32, c_bool, c_bool),
     "dcsctp_init_abort": (c_uint32, *_OUTPUT, POINTER(Header), c_uint32, c_uint32),
+    "dcsctp_broken_rules": (c_uint32, *_BYTES, POINTER(Known)),
     "dcsctp_is_listed": (c_bool, *_BYTES, c_uint8),
     "dcsctp_shared_key": (c_uint32, *_OUTPUT, *_BYTES, *_BYTES, *_BYTES),
     "dcsctp_verify_auth": (c_bool, *_BYTES, *_BYTES),

@@ -71,6 +71,30 @@ class Refusal(v.Documented):
     DESTROY_AND_ABORT = 2, "`init_abort` returns what is sent, and the association ends."
 
 
+class Rule(v.Documented):
+    """A rule of the RFCs that `check` doesn't look at, as a bit: what breaks it, and the section that gives it. `name` is its name
+    in capitals; `sctp_dump --check` has the same rules."""
+
+    PORT_ZERO = 0x1, "A port is 0 (RFC 9260 section 3.1)."
+    INIT_ALONE = 0x2, "INIT, INIT ACK or SHUTDOWN COMPLETE isn't alone (RFC 9260 section 6.10)."
+    INIT_TAG = 0x4, "INIT has a verification tag other than 0 (RFC 9260 section 8.5.1)."
+    TAG_ZERO = 0x8, "The verification tag is 0 without INIT alone (RFC 9260 section 8.5.1)."
+    INITIATE_TAG_ZERO = 0x10, "The Initiate Tag is 0 (RFC 9260 sections 3.3.2 and 3.3.3)."
+    NO_STREAMS = 0x20, "The number of outbound or inbound streams is 0 (RFC 9260 sections 3.3.2 and 3.3.3)."
+    SMALL_WINDOW = 0x40, "INIT or INIT ACK advertises a window below 1,500 bytes (RFC 9260 section 6)."
+    INIT_ACK_COOKIE = 0x80, "INIT ACK has no State Cookie (RFC 9260 section 3.3.3)."
+    HEARTBEAT_INFO = 0x100, "HEARTBEAT has no Heartbeat Info (RFC 9260 section 3.3.5)."
+    NO_USER_DATA = 0x200, "DATA or I-DATA has no user data (RFC 9260 section 6.2)."
+    DATA_BESIDE_IDATA = 0x400, "An association has both DATA and I-DATA (RFC 8260 section 2.2.1)."
+    GAP_BLOCKS = 0x800, "Gap ack blocks are empty, out of order or not isolated (RFC 9260 section 3.3.4)."
+    RESERVED_BITS = 0x1000, "Reserved flags are set (RFC 9260 section 3.2)."
+    ZERO_CHECKSUM = 0x2000, "The checksum is 0 where a CRC32c is required (RFC 9653 section 5.2)."
+    COOKIE_ECHO_FIRST = 0x4000, "COOKIE ECHO isn't the first chunk (RFC 9260 section 5.1)."
+    CONTROL_FIRST = 0x8000, "A control chunk comes after user data (RFC 9260 section 6.10)."
+    AFTER_ABORT = 0x10000, "A chunk comes after ABORT (RFC 9260 section 3.3.7)."
+    DATA_WITH_ABORT = 0x20000, "User data is bundled with ABORT (RFC 9260 section 3.3.7)."
+
+
 def unrecognized_chunk(type: int) -> Action:
     """Returns what is done with a chunk of a type that your program doesn't know, by its two highest-order bits (RFC 9260
     section 3.2)."""
@@ -132,6 +156,17 @@ def init_abort(header: v.Header, initiate_tag: int, fault: InitFault) -> bytes:
     (section 8.5.1). Raises BadValue for what is no fault."""
     fault_number = number(fault, 0xFFFFFFFF, "fault")
     return _sealed(functions.dcsctp_init_abort, 28, header, _u32(initiate_tag, "initiate_tag"), fault_number)
+
+
+def broken_rules(data: Buffer, *, refuses_zero: bool = False, has_data: bool = False, has_i_data: bool = False) -> tuple[Rule, ...]:
+    """Returns the rules that a packet breaks, in their order. Its common header and its chunks are looked at, up to the first chunk
+    whose length is impossible: what can't be read breaks no rule. Its CRC32c is computed here.
+
+    What you know of its association: `refuses_zero` says that the end to which it goes sent INIT or INIT ACK without Zero Checksum
+    Acceptable (RFC 9653 section 4); `has_data` and `has_i_data`, that an end sent DATA, or I-DATA."""
+    data, known = to_bytes(data), c.Known(bool(refuses_zero), bool(has_data), bool(has_i_data))
+    bits = functions.dcsctp_broken_rules(data, len(data), byref(known))
+    return tuple(it for it in Rule if bits & it)
 
 
 def _sealed(function: Any, room: int, header: v.Header, *arguments: int) -> bytes:

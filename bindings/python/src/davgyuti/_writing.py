@@ -4,8 +4,9 @@
 import struct
 import threading
 from collections.abc import Callable, Iterable, Sequence
-from ctypes import byref, c_size_t, c_uint16, c_uint32
+from ctypes import byref, c_size_t, c_uint8, c_uint16, c_uint32
 from ipaddress import IPv4Address, IPv6Address
+from itertools import accumulate
 from types import TracebackType
 from typing import Any
 
@@ -445,6 +446,14 @@ class PacketBuilder:
         """Adds ERROR (RFC 9260 section 3.3.10), to which at least one error cause has to be added."""
         return self.chunk(v.ChunkType.ERROR)
 
+    def unrecognized_chunks(self, data: Buffer, known: Iterable[int]) -> int | None:
+        """Adds an ERROR with a cause Unrecognized Chunk Type (RFC 9260 section 3.3.10.6) for each chunk of a packet that came whose
+        type isn't known, and is to be reported (section 3.2), whole and in order, up to the first at which processing stops, and
+        with it; no ERROR if there is none. All, or nothing. Returns the offset of the chunk at which processing stops, or None."""
+        data, end = to_bytes(data), c_size_t()
+        self._call(bare.dcsctp_add_unrecognized_chunks, *_bytes(data), *_numbers(c_uint8, _u8, known, "a type"), byref(end))
+        return end.value if end.value < len(data) else None
+
     def shutdown(self, cumulative_tsn_ack: int) -> None:
         """Adds SHUTDOWN (RFC 9260 section 3.3.8)."""
         self._call(bare.dcsctp_add_shutdown, _u32(cumulative_tsn_ack, "cumulative_tsn_ack"))
@@ -580,6 +589,18 @@ class ChunkWriter:
         for it in addresses:
             self.parameter(r.Ipv4Address(it) if isinstance(it, IPv4Address) else r.Ipv6Address(it))
         return self
+
+    def unrecognized_parameters(self, init: v.Init, known: Iterable[int]) -> int | None:
+        """Adds to an INIT ACK an Unrecognized Parameter (RFC 9260 section 3.3.3.1.2) for each parameter of an INIT that came whose
+        type isn't known, and is to be reported (section 3.2.2), whole and in order, up to the first at which processing stops, and
+        with it. All, or nothing. Returns the place of the parameter at which processing stops, among `init.parameters`, or None."""
+        parts = [bytes_of(it) for it in init.parameters]
+        offsets = list(accumulate((-(-len(it) // 4) * 4 for it in parts), initial=0))
+        data, end = b"".join(it + bytes(-len(it) % 4) for it in parts), c_size_t()
+        self._add(
+            bare.dcsctp_add_unrecognized_parameters, *_bytes(data), *_numbers(c_uint16, _u16, known, "a type"), byref(end)
+        )
+        return offsets.index(end.value) if end.value < len(data) else None
 
     def parameter(self, parameter: v.Parameter) -> "ChunkWriter":
         """Adds a parameter (RFC 9260 section 3.2.1), and returns this."""
