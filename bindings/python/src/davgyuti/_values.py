@@ -19,6 +19,8 @@ MAX_PACKET_SIZE = 65532
 class Documented(IntEnum):
     """Numbers with a text each, which `help` shows."""
 
+    _value_: int
+
     def __new__(cls, number: int, text: str) -> "Documented":
         member = int.__new__(cls, number)
         member._value_ = number
