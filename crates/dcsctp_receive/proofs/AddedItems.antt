@@ -12,7 +12,8 @@ pub first_has_room : (buffer : List ℕ) (size start : ℕ) (value : List ℕ) (
 first_has_room buffer size start value values room =
     let ends = room.place.ends in
     let low = room.place.after_header in
-    let whole : size + (round_up_to_4 (4 + length value) + added_size values) ≤ 65532 = room.whole in
+    let whole : size + (round_up_to_4 (4 + length value) + added_size values) ≤ 65532 =
+    room.whole in
     let within : size + (round_up_to_4 (4 + length value) + added_size values) ≤ length buffer =
     room.within in
     record {
@@ -24,8 +25,8 @@ first_has_room buffer size start value values room =
 
 -- the length field after an item was added
 field_kept : (old bytes : List ℕ) (start k n : ℕ) → n < 2 ^ 16 → start + 4 + k ≤ length old
-    → frame_length (drop start (put (put old (start + 2) (to_be_bytes w16 n)) (start + (4 + k)) bytes))
-    ≡ n
+    → frame_length (drop start (put (put old (start + 2) (to_be_bytes w16 n)) (start + (4 + k))
+    bytes)) ≡ n
 field_kept old bytes start k n small room =
     let front : List ℕ = take (start + 2) old in
     let field : List ℕ = to_be_bytes w16 n in
@@ -57,7 +58,8 @@ pub others_have_room : (old new : List ℕ) (size end start typ : ℕ) (value : 
 others_have_room old new size end start typ value values room len added =
     let before = room.place in
     let ends = before.ends in
-    let whole : size + (round_up_to_4 (4 + length value) + added_size values) ≤ 65532 = room.whole in
+    let whole : size + (round_up_to_4 (4 + length value) + added_size values) ≤ 65532 =
+    room.whole in
     let within : size + (round_up_to_4 (4 + length value) + added_size values) ≤ length old =
     room.within in
     let k = frame_length (drop start old) - 4 in

@@ -137,7 +137,8 @@ fn left_after(rest: Part<'_>, count: usize, stops: bool) -> Part<'_>
 
 /// Returns the offset, from the front of the list, of the first item at which processing stops.
 pub(crate) fn stop_offset(list: Part<'_>, handling: Handling<'_>) -> Option<usize>
-    ensures offset { result ≡ stop_offset (action_by handling.entry) (items_of (part_of list.entry)) }
+    ensures offset { result
+        ≡ stop_offset (action_by handling.entry) (items_of (part_of list.entry)) }
     ensures within { IfSome result (λ at. at ≤ length list.entry.bytes.now) }
 {
     let mut rest = list;

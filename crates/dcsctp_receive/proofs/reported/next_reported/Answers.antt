@@ -20,7 +20,8 @@ returns-then-is_reported-clause-found c =
     let left = part_of c.left_after-behind.result in
     c.loop-item.invariant.same
     ∙ reported_first action p left i c.action-action.result c.stops.result c.in-Some.item.padded
-    c.in-Some.ensures.0 c.in-Some.ensures.1 c.action-action.ensures c.stops.ensures c.in-Some.ensures.2
+    c.in-Some.ensures.0 c.in-Some.ensures.1 c.action-action.ensures c.stops.ensures
+    c.in-Some.ensures.2
     c.left_after-behind.ensures c.is_reported.result c.is_reported.ensures c.if-is_reported.true
     ∙ ap (λ (bytes : List ℕ). bytes ∷ wholes action (items_of left))
     (sym (whole_read p (part_of c.front-whole.result) i c.in-Some.ensures.0 c.in-Some.ensures.1
@@ -33,11 +34,13 @@ loop-item-preserved c =
     let i = item_of c.in-Some.item in
     let left = part_of c.left_after-behind.result in
     let less = left_less action p left i c.action-action.result c.stops.result c.in-Some.item.padded
-    c.in-Some.ensures.0 c.in-Some.ensures.1 c.action-action.ensures c.stops.ensures c.in-Some.ensures.2
+    c.in-Some.ensures.0 c.in-Some.ensures.1 c.action-action.ensures c.stops.ensures
+    c.in-Some.ensures.2
     c.left_after-behind.ensures in
     record {
       same = c.loop-item.invariant.same
-          ∙ reported_later action p left i c.action-action.result c.stops.result c.in-Some.item.padded
+          ∙ reported_later action p left i c.action-action.result c.stops.result
+          c.in-Some.item.padded
           c.in-Some.ensures.0 c.in-Some.ensures.1 c.action-action.ensures c.stops.ensures
           c.in-Some.ensures.2 c.left_after-behind.ensures c.is_reported.result
           c.is_reported.ensures c.if-is_reported.false;
