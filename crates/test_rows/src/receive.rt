@@ -1,15 +1,25 @@
 //! What RFC 9260 asks of whoever receives a packet, before an association's state matters.
 
 use crate::bytes::{first, from, short_at, word_at, write_digits};
+use dcsctp_buffer::init::BorrowedInit;
+use dcsctp_buffer::{add, begin};
 use dcsctp_receive::action::{Action, unrecognized_chunk, unrecognized_parameter};
 use dcsctp_receive::initiation::{InitFault, Refusal, init_ack_fault, init_fault};
 use dcsctp_receive::out_of_the_blue::{OutOfTheBlue, Reply, out_of_the_blue};
+use dcsctp_receive::unrecognized::{add_unrecognized_chunks, add_unrecognized_parameters};
 use dcsctp_receive::verification_tag::{Association, verify_tag};
-use dcsctp_wire::packet::sctp_packet::CommonHeader;
+use dcsctp_wire::packet::sctp_packet::{COMMON_HEADER_SIZE, CommonHeader};
+use dcsctp_wire::types::Tsn;
 use std::alloc::{AllocError, Global};
 
 /// The bytes of a buffer that has room for each packet that is written here.
 const ROOM: usize = 32;
+
+/// The bytes of a buffer that has room for each packet to which something is added here.
+const LARGE_ROOM: usize = 160;
+
+/// The most types that a row says are known.
+const MOST_KNOWN: usize = 8;
 
 /// The offset of the Initiate Tag in a packet that begins with INIT or INIT ACK.
 const INITIATE_TAG: usize = 16;
@@ -122,6 +132,104 @@ fn write_init_ack(alloc: Global, bytes: &[u8], out: &mut String) -> Result<(), A
     }
 }
 
+/// Writes what was added to a buffer of this size, and where processing stops.
+fn write_added(
+    alloc: Global,
+    added: &[u8],
+    room: usize,
+    stop: Option<usize>,
+    out: &mut String,
+) -> Result<(), AllocError> {
+    write!(out, "{room} bytes: ")?;
+    write_digits(alloc, added, out)?;
+    match stop {
+        Some(at) => write!(out, ", stops at {at}"),
+        None => out.push_str(", stops nowhere"),
+    }
+}
+
+/// Returns a buffer whose first bytes are a packet that was begun, with an INIT ACK without
+/// parameters or without a chunk; and its size.
+fn begun(has_init_ack: bool) -> ([u8; LARGE_ROOM], usize) {
+    let (mut buffer, mut size) = ([0xee; LARGE_ROOM], 0);
+    let init_ack = BorrowedInit {
+        is_ack: true,
+        initiate_tag: 1,
+        a_rwnd: 1500,
+        nbr_outbound_streams: 1,
+        nbr_inbound_streams: 1,
+        initial_tsn: Tsn(1),
+    };
+    if begin(&mut buffer, &mut size, 5000, 5001, 1).is_ok() && has_init_ack {
+        let _added = add(&mut buffer, &mut size, &init_ack);
+    }
+    (buffer, size)
+}
+
+/// Writes what is added for the parameters of an INIT: by the least buffer that has room for it,
+/// where each smaller one stays as it was. The bytes are how many types are known, these types, and
+/// the parameters.
+fn write_unrecognized_parameters(
+    alloc: Global,
+    bytes: &[u8],
+    out: &mut String,
+) -> Result<(), AllocError> {
+    let count = first(bytes) as usize;
+    let mut known = [0; MOST_KNOWN];
+    for (i, typ) in known.iter_mut().enumerate() {
+        *typ = short_at(bytes, 1 + 2 * i);
+    }
+    let known = known.get(..count).unwrap_or(&[]);
+    let list = from(bytes, 1 + 2 * count);
+    for room in 0..LARGE_ROOM {
+        let (mut buffer, start) = begun(true);
+        let (before, mut size) = (buffer, start);
+        let (output, _) = buffer.split_at_mut(room);
+        match add_unrecognized_parameters(output, &mut size, COMMON_HEADER_SIZE, list, known) {
+            Ok(stop) => {
+                write_digits(alloc, front(from(&buffer, 14), 2), out)?;
+                out.push_str(" in ")?;
+                return write_added(alloc, from(front(&buffer, size), start), room, stop, out);
+            }
+            Err(_) => {
+                if buffer != before || size != start {
+                    return out.push_str("changed, and failed");
+                }
+            }
+        }
+    }
+    out.push_str("no room")
+}
+
+/// Writes what is added for the chunks of a packet: by the least buffer that has room for it, where
+/// each smaller one stays as it was. The bytes are how many types are known, these types, and the
+/// packet.
+fn write_unrecognized_chunks(
+    alloc: Global,
+    bytes: &[u8],
+    out: &mut String,
+) -> Result<(), AllocError> {
+    let count = first(bytes) as usize;
+    let known = front(from(bytes, 1), count);
+    let packet = from(bytes, 1 + count);
+    for room in 0..LARGE_ROOM {
+        let (mut buffer, start) = begun(false);
+        let (before, mut size) = (buffer, start);
+        let (output, _) = buffer.split_at_mut(room);
+        match add_unrecognized_chunks(output, &mut size, packet, known) {
+            Ok(stop) => {
+                return write_added(alloc, from(front(&buffer, size), start), room, stop, out);
+            }
+            Err(_) => {
+                if buffer != before || size != start {
+                    return out.push_str("changed, and failed");
+                }
+            }
+        }
+    }
+    out.push_str("no room")
+}
+
 /// Writes the answer, if the call is one of this module.
 pub fn write_answer(
     alloc: Global,
@@ -134,6 +242,8 @@ pub fn write_answer(
         "unrecognized-parameter" => {
             write_action(unrecognized_parameter(short_at(bytes, 0)), out)?
         }
+        "unrecognized-parameters" => write_unrecognized_parameters(alloc, bytes, out)?,
+        "unrecognized-chunks" => write_unrecognized_chunks(alloc, bytes, out)?,
         "tag" => write_tag(bytes, out)?,
         "out-of-the-blue" => write_out_of_the_blue(alloc, bytes, out)?,
         "init-fault" => write_init(alloc, bytes, out)?,
