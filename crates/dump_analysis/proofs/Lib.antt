@@ -3,4 +3,4 @@ pub mod Calendar
 pub mod ChunkCounts
 pub mod HeaderCounts
 pub mod Slots
-pub mod Seen
+pub mod Ahead

@@ -1,4 +1,4 @@
-use Rattle.std.proofs.Common.{◌≡◌, [], true, false, sym, subst, ap, ◌∙◌}
+use Rattle.std.proofs.Common.{◌≡◌, [], false, sym, subst, ap, ◌∙◌}
 use Rattle.std.specs.List.{list_any}
 use Rattle.dcsctp_receive.specs.{Chunks.{items_of}, Fields.{after_first}, ChunkTest.{meets_test}}
 use Rattle.dcsctp_receive.proofs.ItemLists.{Looks, Looks-on, Looks-found, Looks-end}

@@ -1,4 +1,4 @@
-use Rattle.dump_analysis.proofs.Seen.{are_seen, one_seen}
+use Rattle.dump_analysis.proofs.Ahead.{are_seen, one_seen}
 use Rattle.dump_analysis.proofs.laws.one_list.Goals as goal
 
 pub returns-clause-some_seen : goal.returns-clause-some_seen

@@ -3,7 +3,7 @@ use Rattle.std.proofs.lemmas.Bool.{le-leb, lt-leb, and_from, and_left, and_right
 use Rattle.dcsctp_tlv.specs.Frame.{round_up_to_4}
 use Rattle.dcsctp_borrowed.specs.Part.{part_of, after, begins_with_item, length_field}
 use Rattle.dcsctp_receive.specs.ChunkTest.{meets_test}
-use Rattle.dump_analysis.proofs.Seen.{LooksAhead, LooksAhead-on, LooksAhead-found, LooksAhead-last, LooksAhead-end}
+use Rattle.dump_analysis.proofs.Ahead.{LooksAhead, LooksAhead-on, LooksAhead-found, LooksAhead-last, LooksAhead-end}
 use Rattle.dump_analysis.proofs.seen.some_ahead.Goals as goal
 
 pub returns-then-is_met : goal.returns-then-is_met

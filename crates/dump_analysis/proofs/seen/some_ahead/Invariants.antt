@@ -2,7 +2,7 @@
 use Rattle.std.proofs.Common.{length}
 use Rattle.dcsctp_borrowed.specs.Part.{part_of}
 use Rattle.dcsctp_receive.specs.ChunkTest.{meets_test}
-use Rattle.dump_analysis.proofs.Seen.{LooksAhead}
+use Rattle.dump_analysis.proofs.Ahead.{LooksAhead}
 use Rattle.dump_analysis.proofs.seen.some_ahead.Given as goal
 
 abbrev pub invariant-loop-rest : goal.invariant-loop-rest

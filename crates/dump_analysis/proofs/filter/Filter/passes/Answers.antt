@@ -1,7 +1,7 @@
 use Rattle.dump_capture.specs.Found.{packet_of}
 use Rattle.dump_analysis.specs.Filter.{part_in}
 use Rattle.dump_analysis.specs.Seen.{chunks_seen}
-use Rattle.dump_analysis.proofs.Seen.{are_seen}
+use Rattle.dump_analysis.proofs.Ahead.{are_seen}
 use Rattle.dump_analysis.proofs.filter.Filter.passes.Goals as goal
 
 pub returns : goal.returns

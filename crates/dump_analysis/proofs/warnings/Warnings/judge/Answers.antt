@@ -4,6 +4,6 @@ use Rattle.dump_analysis.proofs.warnings.Warnings.judge.Goals as goal
 
 pub returns-clause-judged : goal.returns-clause-judged
 returns-clause-judged c = λ is i below.
-    let before = slice_index c.args.self.old.counts i in
+    let before = slice_index c.args.self.now.counts i in
     c.count.ensures i below
-    ∙ ap (λ (b : Bool). if b then one_more before else before) (c.of.ensures i)
+    ∙ ap (λ (b : Bool). if b then one_more before else before) (c.of-broken.ensures i)
