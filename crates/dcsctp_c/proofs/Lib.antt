@@ -9,3 +9,4 @@ pub mod RegisteredPlaces
 pub mod Rows
 pub mod Walks
 pub mod Writings
+pub mod Reports

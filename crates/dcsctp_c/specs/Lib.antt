@@ -9,6 +9,7 @@ pub mod PlacedPacket
 pub mod ReConfig
 pub mod Receive
 pub mod Registered
+pub mod Report
 pub mod Row
 pub mod Rules
 pub mod Walk
