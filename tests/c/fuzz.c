@@ -1032,6 +1032,66 @@ static void try_in_place(const uint8_t *bytes, size_t length, enum placing placi
     release(copy);
 }
 
+/* Begins a packet with a chunk of this type, and returns its size. */
+static size_t begin_with(uint8_t *packet, size_t room, uint8_t type)
+{
+    size_t size;
+    REQUIRE(!dcsctp_begin(packet, room, &size, 1, 2, 3) && !dcsctp_add_chunk(packet, room, &size, type, 0, NULL, 0));
+    return size;
+}
+
+/* What isn't recognized is reported as if it were added one after the other; in a smaller buffer nothing is, and nothing
+   changes. The bytes are taken as a list of parameters, and as a packet. */
+static void try_reports(const uint8_t *bytes, size_t length)
+{
+    static uint8_t wanted[65532], packet[sizeof wanted], before[sizeof wanted];
+    const size_t most = length < 30000 ? 100 + 2 * length : sizeof packet; /* an item of 4 bytes becomes one of 8 */
+    uint16_t known[4];
+    uint8_t known_chunks[4];
+    struct dcsctp_parameter item;
+    struct dcsctp_chunk chunk;
+    for (size_t i = 0; i < 4; i++) {
+        known_chunks[i] = (uint8_t)(below(2) ? below(256) : length > 12 + 4 * i ? bytes[12 + 4 * i] : 0);
+        known[i] = length > 1 + 8 * i ? (uint16_t)(bytes[8 * i] << 8 | bytes[1 + 8 * i]) : (uint16_t)below(65536);
+    }
+    for (int is_chunks = 0; is_chunks < 2; is_chunks++) {
+        const size_t count = below(5), start = DCSCTP_FIRST_CHUNK, bare = begin_with(wanted, most, is_chunks ? 9 : 2);
+        size_t size = bare, stop = length, at = is_chunks ? DCSCTP_FIRST_CHUNK : 0, end = 7;
+        bool has_room = true;
+        for (size_t next; is_chunks ? dcsctp_chunk_at(bytes, length, at, &chunk) : dcsctp_item_at(bytes, length, at, &item); at = next) {
+            const size_t whole = is_chunks ? chunk.value_offset + chunk.value_size - at : item.value_offset + item.value_size - at;
+            bool is_known = false;
+            for (size_t i = 0; i < count; i++)
+                is_known = is_known || (is_chunks ? known_chunks[i] == chunk.type : known[i] == item.type);
+            const uint32_t action = is_known ? (uint32_t)DCSCTP_ACTION_SKIP
+                : is_chunks ? dcsctp_unrecognized_chunk(chunk.type) : dcsctp_unrecognized_parameter(item.type);
+            next = is_chunks ? chunk.next : item.next;
+            if (action == DCSCTP_ACTION_STOP_AND_REPORT || action == DCSCTP_ACTION_SKIP_AND_REPORT)
+                has_room = has_room && !dcsctp_add_parameter(wanted, most, &size, start, is_chunks ? 6 : 8, bytes + at, whole);
+            if (action == DCSCTP_ACTION_STOP || action == DCSCTP_ACTION_STOP_AND_REPORT) {
+                stop = at;
+                break;
+            }
+        }
+        if (is_chunks && size == bare)
+            size = DCSCTP_FIRST_CHUNK; /* no ERROR */
+        memset(before, 0xa5, most);
+        const size_t begun = begin_with(before, most, 2), old = is_chunks ? DCSCTP_FIRST_CHUNK : begun;
+        memcpy(packet, before, most);
+        for (size_t tried = 0; tried < 2; tried++) {
+            const size_t room = tried ? most : has_room && size > old ? old + below(size - old) : old - 1 - below(old);
+            const bool fits = tried && has_room;
+            size_t now = old;
+            const uint32_t code = is_chunks
+                ? dcsctp_add_unrecognized_chunks(packet, room, &now, bytes, length, known_chunks, count, &end)
+                : dcsctp_add_unrecognized_parameters(packet, room, &now, start, bytes, length, known, count, &end);
+            REQUIRE(code == (fits ? DCSCTP_OK : room < old ? DCSCTP_BAD_PLACE : DCSCTP_NO_ROOM));
+            REQUIRE(now == (fits ? size : old) && end == (fits ? stop : 7));
+            REQUIRE(!memcmp(packet, fits ? wanted : before, fits ? size : most));
+        }
+    }
+}
+
 static void try_bytes(const uint8_t *bytes, size_t length, enum placing placing)
 {
     current = bytes;
@@ -1045,6 +1105,7 @@ static void try_bytes(const uint8_t *bytes, size_t length, enum placing placing)
     try_walk(input.bytes, length);
     try_outputs(input.bytes, length, below(4) ? word : (uint32_t)draw(), placing);
     try_in_place(input.bytes, length, placing);
+    try_reports(input.bytes, length);
     REQUIRE(length == 0 || !memcmp(input.bytes, bytes, length)); /* no function writes to what it reads */
     release(input);
 }

@@ -250,6 +250,125 @@ static void init_aborts(void)
     }
 }
 
+/* What is reported at once: what is known, what came, what is added to the packet, and where processing stops. */
+struct report {
+    uint16_t known[6];
+    size_t known_count;
+    const uint8_t *came;
+    size_t came_size;
+    const uint8_t *added;
+    size_t added_size, end;
+};
+
+/* Reports into a packet with `length` bytes from `start` on: parameters into its INIT ACK, or chunks after its header. */
+static uint32_t report(struct packet *packet, size_t room, const struct report *it, bool is_parameters, size_t *end)
+{
+    uint8_t known[6];
+    for (size_t i = 0; i < it->known_count; i++)
+        known[i] = (uint8_t)it->known[i];
+    return is_parameters ? dcsctp_add_unrecognized_parameters(packet->bytes, room, &packet->size, DCSCTP_FIRST_CHUNK, it->came,
+                                                              it->came_size, it->known, it->known_count, end)
+                         : dcsctp_add_unrecognized_chunks(packet->bytes, room, &packet->size, it->came, it->came_size, known,
+                                                          it->known_count, end);
+}
+
+/* Nothing changes in a buffer that is too small, whatever its size; in one that isn't, what is added and nothing else. */
+static void check_report(const struct report *it, bool is_parameters, int line)
+{
+    const struct dcsctp_init init = {.initiate_tag = OTHER, .a_rwnd = 1500, .outbound_streams = 1, .inbound_streams = 1};
+    struct packet packet, before;
+    memset(&packet, 0xa5, sizeof packet);
+    CHECK(dcsctp_begin(packet.bytes, ROOM, &packet.size, 5000, 5001, OWN) == DCSCTP_OK);
+    if (is_parameters)
+        CHECK(dcsctp_add_init_ack(packet.bytes, ROOM, &packet.size, &init) == DCSCTP_OK);
+    before = packet;
+    const size_t start = packet.size, size = start + it->added_size;
+    for (size_t room = 0; room < size; room++) {
+        size_t end = 77;
+        check_that(report(&packet, room, it, is_parameters, &end) == (room < start ? DCSCTP_BAD_PLACE : DCSCTP_NO_ROOM), "no room", line);
+        check_that(packet.size == start && end == 77 && !memcmp(packet.bytes, before.bytes, ROOM), "nothing changes", line);
+    }
+    size_t end = 77;
+    check_that(report(&packet, size, it, is_parameters, &end) == DCSCTP_OK && end == it->end, "what is reported", line);
+    check_that(packet.size == size && !memcmp(packet.bytes + start, it->added, it->added_size), "what is added", line);
+    check_that(!memcmp(packet.bytes + size, before.bytes + size, ROOM - size), "what is behind stays", line);
+    size_t length = 20; /* of the INIT ACK: without the padding of its last parameter */
+    for (size_t at = 0; is_parameters && at < it->added_size; at += (length - 20 + 3) / 4 * 4 - at)
+        length = 20 + at + (size_t)(it->added[at + 2] * 256 + it->added[at + 3]);
+    if (is_parameters)
+        check_that(packet.bytes[14] * 256u + packet.bytes[15] == length, "the length of the chunk", line);
+}
+
+/* Reporting (sections 3.2, 3.2.1, 3.2.2, 3.3.3.1.2 and 3.3.10.6): each pair of high bits, in whole lists and in cut ones. */
+static void reports(void)
+{
+    static const uint8_t parameters[] = {0x80, 1, 0, 4, 0xc0, 1, 0, 8, 1, 2, 3, 4, 0xc0, 2, 0, 5, 9, 255, 255, 255, 0x40, 3, 0, 6,
+                                         7, 8, 0, 0, 0xc0, 4, 0, 4, 0, 5, 0, 4, 0xc0, 6, 0, 4},
+                         first[] = {0, 8, 0, 12, 0xc0, 1, 0, 8, 1, 2, 3, 4, 0, 8, 0, 9, 0xc0, 2, 0, 5, 9, 0, 0, 0, 0, 8, 0, 10, 0x40,
+                                    3, 0, 6, 7, 8, 0, 0},
+                         second[] = {0, 8, 0, 9, 0xc0, 2, 0, 5, 9, 0, 0, 0, 0, 8, 0, 8, 0xc0, 4, 0, 4},
+                         lone[] = {0, 8, 0, 8, 0xc0, 1, 0, 4}, unpadded[] = {0, 8, 0, 9, 0xc0, 1, 0, 5, 9, 0, 0, 0};
+    static const uint8_t chunks[] = {1, 2, 3, 4, 5, 6, 7, 8, 0, 0, 0, 0, 11, 0, 0, 4, 0x81, 0, 0, 4, 0xc1, 2, 0, 6, 9, 8, 255, 255,
+                                     0x41, 1, 0, 4, 0xc2, 0, 0, 4},
+                         error[] = {9, 0, 0, 24, 0, 6, 0, 10, 0xc1, 2, 0, 6, 9, 8, 0, 0, 0, 6, 0, 8, 0x41, 1, 0, 4},
+                         shorter[] = {9, 0, 0, 14, 0, 6, 0, 10, 0xc1, 2, 0, 6, 9, 8, 0, 0},
+                         last[] = {9, 0, 0, 12, 0, 6, 0, 8, 0xc2, 0, 0, 4};
+#define ROW(known_count, came, came_size, added, added_size, end, ...) \
+    {{__VA_ARGS__}, known_count, came, came_size, added, added_size, end}
+    const struct report of_parameters[] = {
+        ROW(1, parameters, sizeof parameters, first, sizeof first, 20, 5),
+        ROW(2, parameters, sizeof parameters, second, sizeof second, 32, 0xc001, 0x4003), /* 00 stops, and isn't reported */
+        ROW(6, parameters, sizeof parameters, second, 0, sizeof parameters, 0xc001, 0xc002, 0x4003, 0xc004, 5, 0xc006),
+        ROW(0, parameters, 0, first, 0, 0, 0), ROW(0, NULL, 0, first, 0, 0, 0), ROW(0, parameters, 3, first, 0, 3, 0),
+        ROW(0, parameters, 8, first, 0, 8, 0), /* a length beyond the list's end */
+    },
+    of_chunks[] = {
+        ROW(1, chunks, sizeof chunks, error, sizeof error, 28, 11),
+        ROW(0, chunks, sizeof chunks, error, 0, 12, 0), /* COOKIE ACK stops, and isn't reported */
+        ROW(4, chunks, sizeof chunks, last, sizeof last, sizeof chunks, 11, 0x81, 0xc1, 0x41),
+        ROW(5, chunks, sizeof chunks, error, 0, sizeof chunks, 11, 0x81, 0xc1, 0x41, 0xc2),
+        ROW(0, chunks, 12, error, 0, 12, 0), ROW(0, chunks, 11, error, 0, 11, 0), ROW(0, NULL, 0, error, 0, 0, 0),
+        ROW(1, chunks, 26, shorter, sizeof shorter, 26, 11), /* the last padding is cut */
+    };
+    for (size_t i = 0; i < sizeof of_parameters / sizeof *of_parameters; i++)
+        check_report(&of_parameters[i], true, (int)i);
+    for (size_t i = 0; i < sizeof of_chunks / sizeof *of_chunks; i++)
+        check_report(&of_chunks[i], false, (int)i);
+    /* lengths of 0 to 3 behind one that is whole, and one whose padding is missing */
+    for (uint8_t length = 0; length < 4; length++) {
+        const uint8_t cut[] = {0xc0, 1, 0, 4, 0xc0, 2, 0, length};
+        const struct report row = ROW(0, cut, sizeof cut, lone, sizeof lone, sizeof cut, 0);
+        check_report(&row, true, __LINE__);
+    }
+    const uint8_t short_one[] = {0xc0, 1, 0, 5, 9};
+    const struct report row = ROW(0, short_one, sizeof short_one, unpadded, sizeof unpadded, sizeof short_one, 0);
+    check_report(&row, true, __LINE__);
+#undef ROW
+}
+
+/* More than a packet can have: 65,532 bytes, of which 32 are the header and the INIT ACK. */
+static void too_much(void)
+{
+    static uint8_t packet[70000], before[sizeof packet], list[4 * 8187 + 4];
+    const struct dcsctp_init init = {.initiate_tag = OTHER, .a_rwnd = 1500, .outbound_streams = 1, .inbound_streams = 1};
+    size_t size, end = 77;
+    for (size_t at = 0; at < sizeof list; at += 4)
+        list[at] = 0xc0, list[at + 3] = 4; /* each takes 8 bytes */
+    CHECK(dcsctp_begin(packet, sizeof packet, &size, 5000, 5001, OWN) == DCSCTP_OK);
+    CHECK(dcsctp_add_init_ack(packet, sizeof packet, &size, &init) == DCSCTP_OK && size == 32);
+    memcpy(before, packet, sizeof packet);
+    CHECK(dcsctp_add_unrecognized_parameters(packet, sizeof packet, &size, DCSCTP_FIRST_CHUNK, list, 4 * 8188, NULL, 0, &end)
+          == DCSCTP_NO_ROOM);
+    CHECK(size == 32 && end == 77 && !memcmp(packet, before, sizeof packet));
+    CHECK(dcsctp_add_unrecognized_parameters(packet, sizeof packet, &size, DCSCTP_FIRST_CHUNK, list, 4 * 8187, NULL, 0, &end)
+          == DCSCTP_OK);
+    CHECK(size == 32 + 8 * 8187 && end == 4 * 8187 && packet[14] * 256u + packet[15] == 20 + 8 * 8187);
+    /* a place that is none */
+    CHECK(dcsctp_add_unrecognized_parameters(packet, sizeof packet, &size, 16, list, 4, NULL, 0, &end) == DCSCTP_BAD_PLACE);
+    size = 13;
+    CHECK(dcsctp_add_unrecognized_chunks(packet, sizeof packet, &size, before, 32, NULL, 0, &end) == DCSCTP_BAD_PLACE && size == 13);
+}
+
 int main(void)
 {
     each_action();
@@ -259,6 +378,8 @@ int main(void)
     initiations();
     refusals();
     init_aborts();
+    reports();
+    too_much();
     printf("receive: %u passed, %u failed\n", passed, failed);
     return failed != 0;
 }
