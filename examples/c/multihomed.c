@@ -91,8 +91,12 @@ static bool answer_init(const struct dcsctp_header *header)
 {
     const uint8_t extensions[] = {DCSCTP_CHUNK_ASCONF, DCSCTP_CHUNK_ASCONF_ACK}, cookie[] = {'a', 'b', 'c', 'd'};
     const struct dcsctp_init numbers = {OWN_TAG, 0x20000, 4, 4, OWN_TSN};
+    const uint16_t known[] = {DCSCTP_PARAMETER_IPV4_ADDRESS, DCSCTP_PARAMETER_IPV6_ADDRESS, DCSCTP_PARAMETER_COOKIE_PRESERVATIVE,
+                              DCSCTP_PARAMETER_HOST_NAME_ADDRESS, DCSCTP_PARAMETER_SUPPORTED_ADDRESS_TYPES,
+                              DCSCTP_PARAMETER_SUPPORTED_EXTENSIONS};
+    const size_t list = dcsctp_list_offset(&chunk);
     uint16_t types[8] = {DCSCTP_PARAMETER_IPV4_ADDRESS, DCSCTP_PARAMETER_IPV6_ADDRESS};
-    size_t type_count = 2, at;
+    size_t type_count = 2, at, end;
     struct dcsctp_init init;
     struct dcsctp_parameter item;
     if (header->verification_tag != 0 || dcsctp_init_fault(bytes, length, false) != DCSCTP_INIT_NO_FAULT
@@ -105,9 +109,12 @@ static bool answer_init(const struct dcsctp_header *header)
     if (dcsctp_begin(TO, header->destination_port, header->source_port, peer.tag) || dcsctp_add_init_ack(TO, &numbers)
         || dcsctp_add_parameter(TO, DCSCTP_FIRST_CHUNK, DCSCTP_PARAMETER_STATE_COOKIE, cookie, sizeof cookie)
         || dcsctp_add_parameter(TO, DCSCTP_FIRST_CHUNK, DCSCTP_PARAMETER_SUPPORTED_EXTENSIONS, extensions,
-                                sizeof extensions))
+                                sizeof extensions)
+        || dcsctp_add_unrecognized_parameters(TO, DCSCTP_FIRST_CHUNK, bytes + list, chunk.value_offset + chunk.value_size - list,
+                                              known, sizeof known / sizeof *known, &end))
         return false;
-    for (at = dcsctp_list_offset(&chunk); dcsctp_parameter_at(CHUNK, at, &item); at = item.next) {
+    /* up to the one at which processing stops (section 3.2.1); what is unknown has been reported */
+    for (at = list; at < list + end && dcsctp_parameter_at(CHUNK, at, &item); at = item.next) {
         struct dcsctp_registered it = whole(at, &item);
         switch (item.type) {
         case DCSCTP_PARAMETER_IPV4_ADDRESS: case DCSCTP_PARAMETER_IPV6_ADDRESS:
@@ -119,19 +126,10 @@ static bool answer_init(const struct dcsctp_header *header)
         case DCSCTP_PARAMETER_SUPPORTED_ADDRESS_TYPES:
             type_count = dcsctp_short_numbers(bytes, length, &item, types, 8);
             break;
-        case DCSCTP_PARAMETER_COOKIE_PRESERVATIVE: case DCSCTP_PARAMETER_SUPPORTED_EXTENSIONS:
-            break;
         case DCSCTP_PARAMETER_HOST_NAME_ADDRESS: /* no sender may use it (RFC 9260 section 3.3.2.1.4) */
             return !dcsctp_begin(TO, header->destination_port, header->source_port, peer.tag)
                 && !dcsctp_add_chunk(TO, DCSCTP_CHUNK_ABORT, 0, NULL, 0)
                 && !dcsctp_add_registered_cause(TO, DCSCTP_FIRST_CHUNK, DCSCTP_CAUSE_UNRESOLVABLE_ADDRESS, &it, bytes, length);
-        default: /* unknown: reported, and perhaps the last that is looked at (section 3.2.1) */
-            if (dcsctp_action_reports(dcsctp_unrecognized_parameter(item.type))
-                && dcsctp_add_registered_parameter(TO, DCSCTP_FIRST_CHUNK, DCSCTP_PARAMETER_UNRECOGNIZED_PARAMETER, &it,
-                                                   bytes, length))
-                return false;
-            if (!dcsctp_action_skips(dcsctp_unrecognized_parameter(item.type)))
-                item.next = length;
         }
     }
     for (size_t i = 0; i < type_count && i < 8; i++)

@@ -127,13 +127,16 @@ static bool answer_init(const struct responder *r, uint64_t now, struct exchange
 {
     const uint8_t extensions[] = {DCSCTP_CHUNK_RE_CONFIG, DCSCTP_CHUNK_I_DATA, DCSCTP_CHUNK_FORWARD_TSN,
                                   DCSCTP_CHUNK_I_FORWARD_TSN, DCSCTP_CHUNK_AUTH};
+    const uint16_t known[] = {DCSCTP_PARAMETER_IPV4_ADDRESS, DCSCTP_PARAMETER_IPV6_ADDRESS, DCSCTP_PARAMETER_COOKIE_PRESERVATIVE,
+                              DCSCTP_PARAMETER_HOST_NAME_ADDRESS, DCSCTP_PARAMETER_SUPPORTED_ADDRESS_TYPES,
+                              DCSCTP_PARAMETER_FORWARD_TSN_SUPPORTED};
     const bool has_auth = r->listed.size > 0;
+    const size_t list = dcsctp_list_offset(&x->chunk);
     const uint32_t fault = dcsctp_init_fault(x->bytes, x->length, false);
     struct dcsctp_init peer;
-    struct dcsctp_parameter it;
     uint8_t kept_bytes[MOST_KEPT], sealed[72 + MOST_KEPT];
     struct exchange kept = {.packet = kept_bytes, .room = sizeof kept_bytes};
-    size_t sealed_size;
+    size_t sealed_size, end;
     if (!dcsctp_init(CHUNK(x), &peer) || (r->state != CLOSED && (!has_its_ports(r, x)
                                                                  || r->own.initiate_tag == r->association.local_tag)))
         return false;
@@ -161,22 +164,10 @@ static bool answer_init(const struct responder *r, uint64_t now, struct exchange
                                 sizeof extensions - !has_auth)
         || dcsctp_add_parameter(TO(x), DCSCTP_FIRST_CHUNK, DCSCTP_PARAMETER_FORWARD_TSN_SUPPORTED, NULL, 0))
         return false;
-    for (size_t at = dcsctp_list_offset(&x->chunk); dcsctp_parameter_at(CHUNK(x), at, &it); at = it.next)
-        switch (it.type) {
-        case DCSCTP_PARAMETER_IPV4_ADDRESS: case DCSCTP_PARAMETER_IPV6_ADDRESS: case DCSCTP_PARAMETER_COOKIE_PRESERVATIVE:
-        case DCSCTP_PARAMETER_HOST_NAME_ADDRESS: case DCSCTP_PARAMETER_SUPPORTED_ADDRESS_TYPES: /* known, and ignored */
-        case DCSCTP_PARAMETER_FORWARD_TSN_SUPPORTED:
-            break;
-        default: { /* unknown: reported, and perhaps the last that is looked at (section 3.2.1) */
-            const uint32_t action = dcsctp_unrecognized_parameter(it.type);
-            const struct dcsctp_registered whole = {.rest_offset = at, .rest_size = it.value_offset + it.value_size - at};
-            if (dcsctp_action_reports(action))
-                dcsctp_add_registered_parameter(TO(x), DCSCTP_FIRST_CHUNK, DCSCTP_PARAMETER_UNRECOGNIZED_PARAMETER, &whole,
-                                                x->bytes, x->length);
-            if (!dcsctp_action_skips(action))
-                return true;
-        }
-        }
+    /* what is known is ignored, and what isn't is reported, if there is room (section 3.2.2) */
+    dcsctp_add_unrecognized_parameters(TO(x), DCSCTP_FIRST_CHUNK, x->bytes + list,
+                                       x->chunk.value_offset + x->chunk.value_size - list, known,
+                                       sizeof known / sizeof *known, &end);
     return true;
 }
 
