@@ -3,12 +3,12 @@
 """usage: tools/rules.py --compare | --try PROGRAM | --help
 
 Compares the table of rules in docs/DUMP.md with the code, crates/dcsctp_receive/src/rule.rt: the names in the
-order of `Rule::ALL`, the requirement, the section and the sentence of each; the names in tests/dump/rules.txt; and the
+order of `Rule::ALL`, the requirement, the section and the sentence of each; the names in examples/rules.txt; and the
 constants of include/dcsctp.h, bit i for the i-th rule, with their comments, and what dcsctp_rule_name and
 dcsctp_rule_text return.
 
   --compare      prints a line for each difference, with status 1, or one line that there is none, with status 0
-  --try PROGRAM  the same of what sctp_dump --check prints of each row of tests/dump/rules.txt, in its three forms: the
+  --try PROGRAM  the same of what sctp_dump --check prints of each row of examples/rules.txt, in its three forms: the
                  rules that are broken in the order of the table, each with its sentence and section, and the counts
   --help         prints this
 """
@@ -24,7 +24,7 @@ ROOT = os.path.dirname(os.path.dirname(os.path.abspath(__file__)))
 CODE = os.path.join(ROOT, 'crates', 'dcsctp_receive', 'src', 'rule.rt')
 HEADER = os.path.join(ROOT, 'include', 'dcsctp.h')
 PAGE = os.path.join(ROOT, 'docs', 'DUMP.md')
-ROWS = os.path.join(ROOT, 'tests', 'dump', 'rules.txt')
+ROWS = os.path.join(ROOT, 'examples', 'rules.txt')
 COLUMNS = ['name', 'requirement', 'section', 'sentence']
 
 
@@ -101,7 +101,7 @@ def differences():
             if text != cell or not text:
                 yield f'{rule[0]}: {column}: docs/DUMP.md has {cell!r}, and the code {text!r}'
     for name in sorted(set(names) ^ names_of_rows()):
-        yield f'{name}: is in one alone of tests/dump/rules.txt and the code'
+        yield f'{name}: is in one alone of examples/rules.txt and the code'
     yield from differences_of_header(code)
 
 
@@ -153,7 +153,7 @@ def main():
     if words == ['--compare']:
         report(list(differences()), 'docs/DUMP.md and include/dcsctp.h')
     elif words[:1] == ['--try'] and len(words) == 2:
-        report(list(differences_of_rows(words[1])), 'tests/dump/rules.txt')
+        report(list(differences_of_rows(words[1])), 'examples/rules.txt')
     elif words in ([], ['--help']):
         print(__doc__, end='')
     else:

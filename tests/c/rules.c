@@ -1,5 +1,5 @@
 /* SPDX-License-Identifier: Apache-2.0 */
-/* The rules that packets break: the rows of tests/dump/rules.txt, which are the input, as a C program asks; and packets that end
+/* The rules that packets break: the rows of examples/rules.txt, which are the input, as a C program asks; and packets that end
    early. What a row's packets say of their association is kept as a socket keeps it. */
 #include <ctype.h>
 #include <dcsctp.h>
@@ -18,7 +18,7 @@ static void check_that(bool holds, const char *what, unsigned line)
         passed++;
     } else {
         failed++;
-        printf("tests/dump/rules.txt:%u: %s\n", line, what);
+        printf("examples/rules.txt:%u: %s\n", line, what);
     }
 }
 

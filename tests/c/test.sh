@@ -210,7 +210,7 @@ receive() {
 }
 
 rules() {
-    compile_sanitized -pedantic -Werror -o "$work/rules" tests/c/rules.c "$prefix/lib/libdcsctp.a" && "$work/rules" <tests/dump/rules.txt
+    compile_sanitized -pedantic -Werror -o "$work/rules" tests/c/rules.c "$prefix/lib/libdcsctp.a" && "$work/rules" <examples/rules.txt
 }
 
 authenticated() {

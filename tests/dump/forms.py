@@ -3,8 +3,9 @@
 """usage: tests/dump/forms.py PROGRAM
 
 Compares the three forms of what sctp_dump prints, which it writes apart: makes from its JSON the lines of --brief and the blocks,
-and looks whether it prints these, of its files in crates/sctp_dump/data and data/, of the packets in rules.txt, refused.txt and
-objects.py, and of one with each code, whose names it compares with names.txt. Prints what differs; status 0 if nothing does."""
+and looks whether it prints these, of its files in crates/sctp_dump/data and data/, of the packets in
+examples/rules.txt, refused.txt and objects.py, and of one with each code, whose names it compares with names.txt. Prints what
+differs; status 0 if nothing does."""
 import collections
 import glob
 import itertools
@@ -337,8 +338,8 @@ def inputs():
     for name in sorted(glob.glob(f"{ROOT}/tests/dump/data/*.[lp]*")):
         yield [name], b""
     lines = [raw.hex() for raw in [*with_codes(), *(raw for _, raw in with_texts())]]
-    for name, header in ("rules.txt", ""), ("refused.txt", "138813890102030400000000 "):
-        rows = [line.split(" = ")[0].split(" / ") for line in open(f"{ROOT}/tests/dump/{name}") if " = " in line and line[0] != "#"]
+    for name, header in ("examples/rules.txt", ""), ("tests/dump/refused.txt", "138813890102030400000000 "):
+        rows = [line.split(" = ")[0].split(" / ") for line in open(f"{ROOT}/{name}") if " = " in line and line[0] != "#"]
         lines += [header + row for row in sum(rows, [])]
     yield ["-"], "\n".join(lines).encode()
     yield ["-"], with_cuts()

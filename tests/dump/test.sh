@@ -7,7 +7,7 @@ usage='usage: tests/dump/test.sh [--quick] [PROGRAM]
 
 Runs the program over the rows of runs.txt, and compares all that it prints, and its status. Its options have to be those
 of its manual page, docs/sctp_dump.1, at which mandoc, if it is there, finds nothing wrong. Then tools/rules.py has it
-ask the rules of the packets of rules.txt, it has the chunks of refused.txt and the captures in data/, reports.py compares
+ask the rules of the packets of rules.txt in examples/, it has the chunks of refused.txt and the captures in data/, reports.py compares
 what it prints of the packets of reports.txt, faults.py looks at lengths that are refused, objects.py at its JSON, forms.py
 at its three forms, logs.py at associations of logs, times.py at times; where tshark is, associations.py at
 associations of captures, and tshark.py at packets; where scapy is, scapy.py at the same; fields.py compares the JSON and the
