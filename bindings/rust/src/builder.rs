@@ -672,6 +672,46 @@ impl<'a> PacketBuilder<'a> {
         Ok(self)
     }
 
+    /// Adds an ERROR with a cause Unrecognized Chunk Type (RFC 9260 section 3.3.10.6) for each
+    /// chunk of a packet that came whose type isn't known and is to be reported (section 3.2):
+    /// whole and in order, up to the first at which processing stops, and with it; no ERROR if
+    /// there is none. All, or nothing.
+    ///
+    /// `bytes` are the packet that came, and `known` the types that your program knows. Returns
+    /// where your program stops: the [offset](Chunk::offset) of the chunk at which processing
+    /// stops, or `None`.
+    ///
+    /// ```
+    /// use davgyuti::ChunkType;
+    ///
+    /// # let mut buffer = [0; 100];
+    /// # let mut packet = davgyuti::PacketBuilder::begin(&mut buffer, 5000, 5001, 7)?;
+    /// // COOKIE ACK, and one whose type has the highest-order bits 01.
+    /// let bytes = *b"\0\x02\0\x01\0\0\0\x08\0\0\0\0\x0b\0\0\x04\x41\0\0\x05!\0\0\0";
+    /// assert_eq!(packet.unrecognized_chunks(&bytes, &[ChunkType::COOKIE_ACK])?, Some(16));
+    /// assert_eq!(packet.as_bytes()[12..], *b"\x09\0\0\x0d\0\x06\0\x09\x41\0\0\x05!\0\0\0");
+    /// # Ok::<(), davgyuti::WriteError>(())
+    /// ```
+    ///
+    /// # Errors
+    /// [`WriteError::NoRoom`] where the packet has no room for all.
+    #[doc(alias = "dcsctp_add_unrecognized_chunks")]
+    pub fn unrecognized_chunks(
+        &mut self,
+        bytes: &[u8],
+        known: &[ChunkType],
+    ) -> Result<Option<usize>, WriteError> {
+        let (start, mut end) = (self.size, 0);
+        // `ChunkType` is `#[repr(transparent)]`: the types lie there as bytes.
+        let ((first, count), (types, types_count)) =
+            ((bytes.as_ptr(), bytes.len()), (known.as_ptr().cast(), known.len()));
+        add!(self, dcsctp_add_unrecognized_chunks, first, count, types, types_count, &raw mut end)?;
+        if self.size > start {
+            self.last = start;
+        }
+        Ok((end < count).then_some(end))
+    }
+
     /// Adds SHUTDOWN COMPLETE (RFC 9260 section 3.3.13). `tag_reflected` is its T bit: whether the
     /// verification tag is the one that the receiver sends (section 8.5.1).
     ///
@@ -1060,6 +1100,53 @@ impl ChunkBuilder<'_, '_> {
             })?;
         }
         Ok(self)
+    }
+
+    /// Adds to an INIT ACK an Unrecognized Parameter (RFC 9260 section 3.3.3.1.2) for each
+    /// parameter of an INIT that came whose type isn't known and is to be reported (section 3.2.2):
+    /// whole and in order, up to the first at which processing stops, and with it. All, or nothing.
+    ///
+    /// `parameters` are the INIT's, and `known` the types that your program knows. Returns where
+    /// your program stops: the [offset](crate::Parameter::offset) of the parameter at which
+    /// processing stops, or `None`.
+    ///
+    /// ```
+    /// use davgyuti::{Init, Parameters, ParameterType};
+    ///
+    /// # let mut buffer = [0; 100];
+    /// # let mut packet = davgyuti::PacketBuilder::begin(&mut buffer, 5000, 5001, 7)?;
+    /// // Forward-TSN-Supported, and one whose type has the highest-order bits 01.
+    /// let parameters = Parameters::of(b"\xc0\0\0\x04\x40\0\0\x05!\0\0\0");
+    /// let mut ack = packet.init_ack(&Init::default())?;
+    /// let known = [ParameterType::FORWARD_TSN_SUPPORTED];
+    /// assert_eq!(ack.unrecognized_parameters(&parameters, &known)?, Some(4));
+    /// assert_eq!(packet.as_bytes()[32..], *b"\0\x08\0\x09\x40\0\0\x05!\0\0\0");
+    /// # Ok::<(), davgyuti::WriteError>(())
+    /// ```
+    ///
+    /// # Errors
+    /// [`WriteError::NoRoom`] where the packet has no room for all.
+    #[doc(alias = "dcsctp_add_unrecognized_parameters")]
+    pub fn unrecognized_parameters(
+        &mut self,
+        parameters: &Parameters,
+        known: &[ParameterType],
+    ) -> Result<Option<usize>, WriteError> {
+        let (list, offset) = parameters.placed();
+        let ((first, count), mut end) = ((list.as_ptr(), list.len()), 0);
+        // `ParameterType` is `#[repr(transparent)]`: the types lie there as numbers of two bytes.
+        let (types, types_count) = (known.as_ptr().cast(), known.len());
+        add!(
+            self.packet,
+            dcsctp_add_unrecognized_parameters,
+            self.packet.last,
+            first,
+            count,
+            types,
+            types_count,
+            &raw mut end
+        )?;
+        Ok((end < count).then_some(offset + end))
     }
 
     /// Adds an error cause of the rest of IANA's registry by its fields.

@@ -1,7 +1,7 @@
 // SPDX-License-Identifier: Apache-2.0
 //! The C API, as `dcsctp.h` declares it; `tests/header.rs` compares them.
 
-use crate::{GapAckBlock, Header, Init, SkippedStream};
+use crate::{GapAckBlock, Header, Init, Known, SkippedStream};
 
 /// Which checksum fields are accepted, and whether padding is checked.
 #[repr(C)]
@@ -444,6 +444,27 @@ unsafe extern "C" {
 
     pub fn dcsctp_unrecognized_chunk(r#type: u8) -> u32;
     pub fn dcsctp_unrecognized_parameter(r#type: u16) -> u32;
+    pub fn dcsctp_add_unrecognized_parameters(
+        packet: *mut u8,
+        room: usize,
+        size: *mut usize,
+        start: usize,
+        list: *const u8,
+        list_size: usize,
+        known: *const u16,
+        known_count: usize,
+        end: *mut usize,
+    ) -> u32;
+    pub fn dcsctp_add_unrecognized_chunks(
+        packet: *mut u8,
+        room: usize,
+        size: *mut usize,
+        bytes: *const u8,
+        length: usize,
+        known: *const u8,
+        known_count: usize,
+        end: *mut usize,
+    ) -> u32;
     pub fn dcsctp_verify_tag(
         packet: *const u8,
         length: usize,
@@ -467,6 +488,7 @@ unsafe extern "C" {
         initiate_tag: u32,
         fault: u32,
     ) -> u32;
+    pub fn dcsctp_broken_rules(packet: *const u8, length: usize, known: *const Known) -> u32;
 
     pub fn dcsctp_is_listed(list: *const u8, list_size: usize, r#type: u8) -> bool;
     pub fn dcsctp_shared_key(

@@ -22,6 +22,7 @@ mod packet;
 pub mod processor;
 mod receive;
 mod registered;
+mod rule;
 mod text;
 mod types;
 mod values;
@@ -44,9 +45,11 @@ pub use receive::{
     out_of_the_blue, unrecognized_chunk, unrecognized_parameter, verify_tag,
 };
 pub use registered::{RegisteredCause, RegisteredChunk, RegisteredParameter};
+pub use rule::{Rule, Rules, broken_rules};
 pub use types::{CauseCode, ChunkType, ParameterType};
 pub use values::{
-    Data, GapAckBlock, Header, Init, NextTsns, Policy, ReConfig, ReConfigResult, SkippedStream,
+    Data, GapAckBlock, Header, Init, Known, NextTsns, Policy, ReConfig, ReConfigResult,
+    SkippedStream,
 };
 
 /// The version of this crate, and of the library in it.

@@ -142,6 +142,11 @@ impl<'a> Parameters<'a> {
         Self(Items::of_chunk(chunk, !has_causes(&chunk)))
     }
 
+    /// Returns what is left, as their bytes and the offset of these.
+    pub(crate) fn placed(&self) -> (&'a [u8], usize) {
+        (self.as_bytes(), self.0.next)
+    }
+
     /// Those from an offset of the bytes on.
     pub(crate) const fn at(bytes: &'a [u8], next: usize) -> Self {
         Self(Items { bytes, next })

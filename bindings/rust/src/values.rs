@@ -233,6 +233,30 @@ impl Data<'_> {
     }
 }
 
+/// What you know of the association that a packet belongs to, when you ask for the
+/// [`broken_rules`](crate::broken_rules). By default: nothing.
+///
+/// ```
+/// use davgyuti::{Known, Rule, broken_rules};
+///
+/// // A COOKIE ACK with a checksum field of zero.
+/// let bytes = *b"\0\x01\0\x02\0\0\0\x07\0\0\0\0\x0b\0\0\x04";
+/// let known = Known { refuses_zero: true, ..Known::default() };
+/// assert!(broken_rules(&bytes, &known).contains(Rule::ZeroChecksum));
+/// assert!(broken_rules(&bytes, &Known::default()).is_empty());
+/// ```
+#[repr(C)]
+#[derive(Clone, Copy, Default, PartialEq, Eq, Hash, Debug)]
+pub struct Known {
+    /// Whether the end that it goes to sent INIT or INIT ACK without Zero Checksum Acceptable (RFC
+    /// 9653 section 4).
+    pub refuses_zero: bool,
+    /// Whether an end sent DATA.
+    pub has_data: bool,
+    /// Whether an end sent I-DATA.
+    pub has_i_data: bool,
+}
+
 /// A gap ack block of a SACK (RFC 9260 section 3.3.4): the TSNs from one offset to another have
 /// come, both included. Offsets count from the cumulative TSN ack.
 ///

@@ -168,7 +168,7 @@ fn structs_are_those_of_the_header() {
     declared.sort();
     let mut expected = structs_of_header();
     expected.sort();
-    assert_eq!(expected.len(), 14);
+    assert_eq!(expected.len(), 15);
     assert_eq!(declared, expected);
 }
 
@@ -197,7 +197,8 @@ fn numbers_of_header(name: &str) -> Vec<(String, u32)> {
     let found = text.split(&format!("enum dcsctp_{name} {{ ")).nth(1).unwrap();
     let pairs = found.split(" };").next().unwrap().split(", ").map(|it| {
         let (name, number) = it.split_once(" = ").unwrap();
-        (name.to_string(), number.parse().unwrap())
+        let hex = number.strip_prefix("0x").map(|it| u32::from_str_radix(it, 16).unwrap());
+        (name.to_string(), hex.unwrap_or_else(|| number.parse().unwrap()))
     });
     pairs.collect()
 }
@@ -276,6 +277,21 @@ fn texts_are_those_of_the_header() {
     assert_eq!(OutputError::TooLong.to_string(), text("TOO_LONG"));
     let no_room = OutputError::NoRoom { needed: 3 }.to_string();
     assert_eq!(no_room, format!("{}: 3 bytes are needed", text("NO_ROOM")));
+}
+
+#[test]
+fn rules_are_those_of_the_header() {
+    use davgyuti::Rule;
+    let cases = Rule::ALL.map(|it| (format!("{it:?}"), it.number()));
+    let numbers = numbers_of_header("rule");
+    assert_eq!(numbers_here("RULE", cases.to_vec()), numbers);
+    for (function, said) in [("name", Rule::name as fn(Rule) -> _), ("text", Rule::text)] {
+        let body = HEADER.split(&format!("dcsctp_rule_{function}(")).nth(1).unwrap();
+        let body = body.split("default:").next().unwrap();
+        for ((constant, _), rule) in numbers.iter().zip(Rule::ALL) {
+            assert!(body.contains(&format!("case {constant}: return \"{}\";", said(rule))));
+        }
+    }
 }
 
 #[test]

@@ -6,9 +6,10 @@ mod common;
 
 use common::bytes;
 use davgyuti::{
-    Action, Answer, Association, ChunkType, Header, Init, InitFault, PacketBuilder, ParameterType,
-    Refusal, RegisteredCause, TAG_REFLECTED, TagVerdict, WriteError, init_fault, init_refusal,
-    out_of_the_blue, unrecognized_chunk, unrecognized_parameter, verify_tag,
+    Action, Answer, Association, Chunk, ChunkType, Header, Init, InitFault, Known, PacketBuilder,
+    ParameterType, Parameters, Refusal, RegisteredCause, Rule, TAG_REFLECTED, TagVerdict,
+    WriteError, broken_rules, init_fault, init_refusal, out_of_the_blue, unrecognized_chunk,
+    unrecognized_parameter, verify_tag,
 };
 
 const OWN: u32 = 0x0102_0304;
@@ -239,5 +240,139 @@ fn refusals_and_aborts() {
         let room = &mut buffer[..expected.len()];
         let packet = PacketBuilder::init_abort(room, &header, tag, fault).unwrap();
         assert_eq!(packet.seal(), common::sealed(expected));
+    }
+}
+
+/// The rows of one packet in `examples/rules.txt`.
+#[test]
+fn broken_rules_of_each_row() {
+    let rows = include_str!("../../../examples/rules.txt").lines();
+    let rows = rows.filter(|it| !it.starts_with('#')).filter_map(|it| it.split_once(" = "));
+    let (mut count, mut seen) = (0, Vec::new());
+    for (packet, expected) in rows.filter(|(it, _)| !it.contains('/')) {
+        let rules = broken_rules(&bytes(packet), &Known::default());
+        let names: Vec<_> = rules.clone().map(Rule::name).collect();
+        let mut expected: Vec<_> = expected.split(' ').filter(|it| *it != "-").collect();
+        expected.sort_by_key(|name| Rule::ALL.iter().position(|it| it.name() == *name).unwrap());
+        assert_eq!(names, expected, "{packet}");
+        assert_eq!((rules.len(), rules.is_empty()), (names.len(), names.is_empty()));
+        assert_eq!(rules.bits(), rules.clone().fold(0, |bits, it| bits | it.number()));
+        assert!(Rule::ALL.iter().all(|it| rules.contains(*it) == names.contains(&it.name())));
+        seen.extend(rules);
+        count += 1;
+    }
+    assert!(count > 100, "{count}");
+    assert!(Rule::ALL.iter().all(|it| seen.contains(it)));
+}
+
+/// RFC 8260 section 2.2.1: DATA or I-DATA, in either direction; RFC 9653 section 5.2: a CRC32c to an
+/// end that didn't say that it accepts zero.
+#[test]
+fn broken_rules_by_what_is_known() {
+    let data = bytes("13881389 00000007 00000000 00030011 00000001 00000000 00000000 61000000");
+    let i_data =
+        bytes("13881389 00000007 00000000 40030015 00000001 00000000 00000000 00000000 61000000");
+    let of = |bytes: &[u8], refuses_zero, has_data, has_i_data| -> Vec<_> {
+        broken_rules(bytes, &Known { refuses_zero, has_data, has_i_data }).collect()
+    };
+    assert_eq!(of(&data, false, true, false), []);
+    assert_eq!(of(&data, false, false, true), [Rule::DataBesideIdata]);
+    assert_eq!(of(&i_data, false, false, true), []);
+    assert_eq!(of(&i_data, false, true, false), [Rule::DataBesideIdata]);
+    assert_eq!(of(&i_data, true, false, false), [Rule::ZeroChecksum]);
+    assert_eq!(of(&data[..11], true, true, true), []);
+}
+
+/// An INIT ACK of an INIT (RFC 9260 section 3.2.2): an Unrecognized Parameter (section 3.3.3.1.2) for
+/// each type with the highest-order bits 01 or 11, up to the first with 00 or 01.
+#[test]
+fn unrecognized_parameters_of_an_init() {
+    let numbers = "00000007 00020000 00010001 00000001";
+    let ack = |items: &str, length: u16| {
+        let front = format!("13891388 00000007 00000000 0200{length:04x} {numbers} {items}");
+        bytes(&front)
+    };
+    for (list, known, items, length, stop) in [
+        ("", &[][..], "", 20, None),
+        ("c0000004 80080005 c0000000", &[0xc000, 0x8008], "", 20, None),
+        ("c0000004 80080005 c0000000", &[], "00080008 c0000004", 28, None),
+        (
+            "c0060005 61000000 c0000004",
+            &[],
+            "00080009 c0060005 61000000 00080008 c0000004",
+            40,
+            None,
+        ),
+        (
+            "c0000004 40000005 61000000 c0010004",
+            &[],
+            "00080008 c0000004 00080009 40000005 61000000",
+            37,
+            Some(4),
+        ),
+        ("80000004 00ff0004 c0000004", &[], "", 20, Some(4)),
+    ] {
+        let known: Vec<_> = known.iter().map(|it| ParameterType(*it)).collect();
+        let (init, expected) = (bytes(&format!("{numbers} {list}")), ack(items, length));
+        let mut came = [0; 128];
+        let mut came = PacketBuilder::begin(&mut came, 5000, 5001, 0).unwrap();
+        came.chunk(ChunkType::INIT, 0, &init).unwrap();
+        let chunk = Chunk::at(came.as_bytes(), 12).unwrap();
+        for (parameters, base) in [(chunk.parameters(), 32), (Parameters::of(&init[16..]), 0)] {
+            let mut buffer = [0; 128];
+            let mut packet = PacketBuilder::begin(&mut buffer, 5001, 5000, 7).unwrap();
+            let mut written = packet.chunk(ChunkType::INIT_ACK, 0, &bytes(numbers)).unwrap();
+            let found = written.unrecognized_parameters(&parameters, &known).unwrap();
+            assert_eq!(found, stop.map(|it: usize| base + it), "{list}");
+            assert_eq!(packet.as_bytes(), expected, "{list}");
+            if expected.len() > 32 {
+                let room = &mut buffer[..expected.len() - 1];
+                let mut packet = PacketBuilder::begin(room, 5001, 5000, 7).unwrap();
+                let mut written = packet.chunk(ChunkType::INIT_ACK, 0, &bytes(numbers)).unwrap();
+                let error = written.unrecognized_parameters(&parameters, &known).unwrap_err();
+                assert_eq!((error, packet.as_bytes()), (WriteError::NoRoom, &ack("", 20)[..]));
+            }
+        }
+    }
+}
+
+/// An ERROR (RFC 9260 section 3.2) with a cause Unrecognized Chunk Type (section 3.3.10.6) for each
+/// type with the highest-order bits 01 or 11, up to the first with 00 or 01.
+#[test]
+fn unrecognized_chunks_of_a_packet() {
+    let front = "13891388 00000007 00000000";
+    for (chunks, known, added, stop) in [
+        ("", &[][..], "", None),
+        ("0b000004 81000004", &[11], "", None),
+        (
+            "0b000004 c1000005 61000000 fe000004",
+            &[11],
+            "09000018 00060009 c1000005 61000000 00060008 fe000004",
+            None,
+        ),
+        (
+            "c1000004 0b000004 41000005 61000000",
+            &[11, 0xc1],
+            "0900000d 00060009 41000005 61000000",
+            Some(20),
+        ),
+        ("c1000004 3f000004 c1000004", &[], "0900000c 00060008 c1000004", Some(16)),
+    ] {
+        let came = bytes(&format!("13881389 00000008 00000000 {chunks}"));
+        let known: Vec<_> = known.iter().map(|it| ChunkType(*it)).collect();
+        let mut buffer = [0; 128];
+        let mut packet = PacketBuilder::begin(&mut buffer, 5001, 5000, 7).unwrap();
+        assert_eq!(packet.unrecognized_chunks(&came, &known).unwrap(), stop, "{chunks}");
+        let expected = bytes(&format!("{front} {added}"));
+        assert_eq!(packet.as_bytes(), expected);
+        // (what is added to is the ERROR; without one there is no chunk)
+        let last = packet.last_chunk().map(|it| it.offset());
+        assert_eq!(last, if added.is_empty() { Err(WriteError::BadPlace) } else { Ok(12) });
+        if !added.is_empty() {
+            let room = &mut buffer[..expected.len() - 1];
+            let mut packet = PacketBuilder::begin(room, 5001, 5000, 7).unwrap();
+            let error = packet.unrecognized_chunks(&came, &known).unwrap_err();
+            assert_eq!((error, packet.as_bytes()), (WriteError::NoRoom, &bytes(front)[..]));
+        }
     }
 }
