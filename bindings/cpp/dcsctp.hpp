@@ -498,6 +498,105 @@ enum class refusal : std::uint32_t {
 /// or COOKIE-ECHOED.
 using association = struct ::dcsctp_association;
 
+/// A rule of the RFCs that packet::check doesn't look at: what breaks it, and the section that gives it, which says what is
+/// done with such a packet, if anything is. Its number is a bit.
+enum class rule : std::uint32_t {
+    /// a port is 0 (RFC 9260 section 3.1)
+    port_zero = DCSCTP_RULE_PORT_ZERO,
+    /// INIT, INIT ACK or SHUTDOWN COMPLETE isn't alone (RFC 9260 section 6.10)
+    init_alone = DCSCTP_RULE_INIT_ALONE,
+    /// INIT has a verification tag other than 0 (RFC 9260 section 8.5.1)
+    init_tag = DCSCTP_RULE_INIT_TAG,
+    /// the verification tag is 0 without INIT alone (RFC 9260 section 8.5.1)
+    tag_zero = DCSCTP_RULE_TAG_ZERO,
+    /// the Initiate Tag is 0 (RFC 9260 sections 3.3.2 and 3.3.3)
+    initiate_tag_zero = DCSCTP_RULE_INITIATE_TAG_ZERO,
+    /// the number of outbound or inbound streams is 0 (RFC 9260 sections 3.3.2 and 3.3.3)
+    no_streams = DCSCTP_RULE_NO_STREAMS,
+    /// INIT or INIT ACK advertises a window below 1,500 bytes (RFC 9260 section 6)
+    small_window = DCSCTP_RULE_SMALL_WINDOW,
+    /// INIT ACK has no State Cookie (RFC 9260 section 3.3.3)
+    init_ack_cookie = DCSCTP_RULE_INIT_ACK_COOKIE,
+    /// HEARTBEAT has no Heartbeat Info (RFC 9260 section 3.3.5)
+    heartbeat_info = DCSCTP_RULE_HEARTBEAT_INFO,
+    /// DATA or I-DATA has no user data (RFC 9260 section 6.2)
+    no_user_data = DCSCTP_RULE_NO_USER_DATA,
+    /// an association has both DATA and I-DATA (RFC 8260 section 2.2.1)
+    data_beside_idata = DCSCTP_RULE_DATA_BESIDE_IDATA,
+    /// gap ack blocks are empty, out of order or not isolated (RFC 9260 section 3.3.4)
+    gap_blocks = DCSCTP_RULE_GAP_BLOCKS,
+    /// reserved flags are set (RFC 9260 section 3.2)
+    reserved_bits = DCSCTP_RULE_RESERVED_BITS,
+    /// the checksum is 0 where a CRC32c is required (RFC 9653 section 5.2)
+    zero_checksum = DCSCTP_RULE_ZERO_CHECKSUM,
+    /// COOKIE ECHO isn't the first chunk (RFC 9260 section 5.1)
+    cookie_echo_first = DCSCTP_RULE_COOKIE_ECHO_FIRST,
+    /// a control chunk comes after user data (RFC 9260 section 6.10)
+    control_first = DCSCTP_RULE_CONTROL_FIRST,
+    /// a chunk comes after ABORT (RFC 9260 section 3.3.7)
+    after_abort = DCSCTP_RULE_AFTER_ABORT,
+    /// user data is bundled with ABORT (RFC 9260 section 3.3.7)
+    data_with_abort = DCSCTP_RULE_DATA_WITH_ABORT
+};
+/// Returns the name of a rule, as sctp_dump writes it, or "unknown".
+[[nodiscard]] inline const char *name(rule of) noexcept { return ::dcsctp_rule_name(number(of)); }
+/// Returns what breaks a rule, in a few words, or "unknown".
+[[nodiscard]] inline const char *text(rule of) noexcept { return ::dcsctp_rule_text(number(of)); }
+
+/// A set of rules: those that a packet breaks, in the order of their bits.
+class rules {
+  public:
+    class iterator {
+      public:
+        using value_type = rule;
+        using difference_type = std::ptrdiff_t;
+        using pointer = const rule *;
+        using reference = rule;
+        using iterator_category = std::input_iterator_tag;
+        constexpr iterator() noexcept = default;
+        /// The iterator isn't the end.
+        constexpr rule operator*() const noexcept { return static_cast<rule>(left_ & (~left_ + 1)); }
+        constexpr iterator &operator++() noexcept
+        {
+            left_ &= left_ - 1;
+            return *this;
+        }
+        constexpr iterator operator++(int) noexcept
+        {
+            const iterator before = *this;
+            ++*this;
+            return before;
+        }
+        friend constexpr bool operator==(iterator one, iterator other) noexcept { return one.left_ == other.left_; }
+        friend constexpr bool operator!=(iterator one, iterator other) noexcept { return !(one == other); }
+
+      private:
+        friend class rules;
+        constexpr explicit iterator(std::uint32_t left) noexcept : left_(left) {}
+        std::uint32_t left_ = 0;
+    };
+    using const_iterator = iterator;
+
+    constexpr rules() noexcept = default;
+    constexpr explicit rules(std::uint32_t bits) noexcept : bits_(bits) {}
+    [[nodiscard]] constexpr bool has(rule one) const noexcept { return (bits_ & number(one)) != 0; }
+    [[nodiscard]] constexpr bool empty() const noexcept { return bits_ == 0; }
+    /// The bit of each rule that is in the set.
+    [[nodiscard]] constexpr std::uint32_t bits() const noexcept { return bits_; }
+    [[nodiscard]] constexpr iterator begin() const noexcept { return iterator(bits_); }
+    [[nodiscard]] constexpr iterator end() const noexcept { return iterator(); }
+    friend constexpr bool operator==(rules one, rules other) noexcept { return one.bits_ == other.bits_; }
+    friend constexpr bool operator!=(rules one, rules other) noexcept { return !(one == other); }
+
+  private:
+    std::uint32_t bits_ = 0;
+};
+
+/// What you know of the association that a packet belongs to: refuses_zero, whether the end that it goes to sent INIT or INIT
+/// ACK without Zero Checksum Acceptable (RFC 9653 section 4); has_data and has_i_data, whether an end sent DATA, or I-DATA.
+/// All false: nothing.
+using known_association = struct ::dcsctp_known;
+
 /// What a State Cookie says: what its sender needs to set up the association, and for how long (section 5.1.3). Local is
 /// the end that seals and opens it.
 struct cookie {
@@ -617,6 +716,7 @@ DCSCTP_EQUAL(struct dcsctp_gap_ack_block, it.start, it.end)
 DCSCTP_EQUAL(struct dcsctp_forward_tsn, it.new_cumulative_tsn, it.stream_count)
 DCSCTP_EQUAL(struct dcsctp_skipped_stream, it.stream, it.ssn, it.mid, it.is_unordered)
 DCSCTP_EQUAL(struct dcsctp_association, it.own_tag, it.peer_tag, it.has_peer_tag, it.awaits_cookie)
+DCSCTP_EQUAL(struct dcsctp_known, it.refuses_zero, it.has_data, it.has_i_data)
 
 namespace dcsctp {
 
@@ -1218,6 +1318,7 @@ class chunk {
     }
 
   private:
+    friend class builder;
     friend class packet;
     friend class row_view;
     chunk(bytes_view bytes, const ::dcsctp_chunk &it, std::size_t offset) noexcept
@@ -1474,6 +1575,12 @@ class packet {
     [[nodiscard]] dcsctp::init_fault init_fault(bool is_ack) const noexcept
     {
         return static_cast<dcsctp::init_fault>(::dcsctp_init_fault(bytes_.data(), bytes_.size(), is_ack));
+    }
+    /// Returns the rules that it breaks. Its common header and its chunks are looked at, up to the first chunk whose length
+    /// is impossible: what can't be read breaks no rule. Its CRC32c is computed here.
+    [[nodiscard]] rules broken_rules(const known_association &of = {}) const noexcept
+    {
+        return rules(::dcsctp_broken_rules(bytes_.data(), bytes_.size(), &of));
     }
 
     /// Writes the packet's text, in UTF-8: a line for the header and one for each chunk, with no line feed at the end.
@@ -1980,6 +2087,38 @@ class builder {
                                 });
     }
 
+    /// Adds to an INIT ACK, the last chunk, an Unrecognized Parameter (section 3.3.3.1.2) for each parameter of an INIT that
+    /// came whose type isn't one of `types` and is to be reported (section 3.2.2): whole and in order, up to the first at
+    /// which processing stops, and with it. All, or nothing. Returns where your program stops: the offset of the parameter at
+    /// which processing stops, or of the end of the INIT's value if it stops at none.
+    outcome<std::size_t> add_unrecognized_parameters(const chunk &of, view<const std::uint16_t> types)
+    {
+        const std::size_t first = ::dcsctp_list_offset(&of.it_), last = of.it_.value_offset + of.it_.value_size;
+        const bytes_view list = detail::part(of.bytes_, first, last - first);
+        std::size_t stop = 0;
+        const result added = apart(types, list, [&] {
+            return ::dcsctp_add_unrecognized_parameters(data_, room_, &size_, start_, list.data(), list.size(), types.data(),
+                                                        types.size(), &stop);
+        });
+        return added ? outcome<std::size_t>(first + stop) : added.code();
+    }
+    /// Adds an ERROR with a cause Unrecognized Chunk Type (section 3.3.10.6) for each chunk of a packet that came whose type
+    /// isn't one of `types` and is to be reported (section 3.2): whole and in order, up to the first at which processing
+    /// stops, and with it; no ERROR if there is none. All, or nothing. Returns where your program stops: the offset of the
+    /// chunk at which processing stops, or the packet's size if it stops at none.
+    outcome<std::size_t> add_unrecognized_chunks(bytes_view came, bytes_view types)
+    {
+        const std::size_t start = size_;
+        std::size_t stop = 0;
+        const result added = apart(types, came, [&] {
+            return ::dcsctp_add_unrecognized_chunks(data_, room_, &size_, came.data(), came.size(), types.data(), types.size(),
+                                                    &stop);
+        });
+        if (size_ != start)
+            start_ = start;
+        return added ? outcome<std::size_t>(stop) : added.code();
+    }
+
     /// Takes the last chunk back, with its list; nothing if that was done, or there is none. After it there is no chunk
     /// to add to, until one is added.
     void remove_last_chunk() noexcept { size_ = start_; }
@@ -2051,6 +2190,11 @@ class builder {
         while (returned == result_code::no_room && grow())
             returned = code(call());
         return returned;
+    }
+    // The same of two lists.
+    template <typename T, typename Call> result apart(view<T> items, bytes_view others, Call call)
+    {
+        return overlaps(items) ? result(result_code::bad_value) : extend(others, call);
     }
     template <typename T, typename Call> result add(view<T> items, Call call)
     {

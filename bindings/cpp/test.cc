@@ -8,6 +8,7 @@
 #include <cstdio>
 #include <cstdlib>
 #include <cstring>
+#include <fstream>
 #include <memory>
 #include <new>
 #ifdef __cpp_lib_span
@@ -1647,6 +1648,160 @@ void init_faults()
     CHECK(number(refusal::abort) == 1 && number(refusal::destroy_and_abort) == 2);
 }
 
+struct named_rule {
+    rule it;
+    const char *is;
+};
+const named_rule all_rules[] = {
+    {rule::port_zero, "port-zero"},
+    {rule::init_alone, "init-alone"},
+    {rule::init_tag, "init-tag"},
+    {rule::tag_zero, "tag-zero"},
+    {rule::initiate_tag_zero, "initiate-tag-zero"},
+    {rule::no_streams, "no-streams"},
+    {rule::small_window, "small-window"},
+    {rule::init_ack_cookie, "init-ack-cookie"},
+    {rule::heartbeat_info, "heartbeat-info"},
+    {rule::no_user_data, "no-user-data"},
+    {rule::data_beside_idata, "data-beside-idata"},
+    {rule::gap_blocks, "gap-blocks"},
+    {rule::reserved_bits, "reserved-bits"},
+    {rule::zero_checksum, "zero-checksum"},
+    {rule::cookie_echo_first, "cookie-echo-first"},
+    {rule::control_first, "control-first"},
+    {rule::after_abort, "after-abort"},
+    {rule::data_with_abort, "data-with-abort"},
+};
+
+// The rows of one packet in examples/rules.txt, whose names are in no order.
+void rules_of_rows(const char *path)
+{
+    std::ifstream file(path);
+    unsigned count = 0;
+    std::uint32_t seen = 0;
+    for (std::string line; std::getline(file, line);) {
+        const std::size_t end = line.find(" = ");
+        if (line[0] == '#' || end == std::string::npos || line.find('/') < end)
+            continue;
+        const bytes it = of_hex(line.substr(0, end));
+        const std::string names = line.substr(end + 2) + ' ';
+        const rules found = packet(it).broken_rules();
+        std::uint32_t wanted = 0;
+        for (const named_rule &one : all_rules)
+            if (names.find(std::string(" ") + one.is + ' ') != std::string::npos)
+                wanted |= number(one.it);
+        CHECK(found.bits() == wanted && found.empty() == (names == " - "));
+        seen |= wanted;
+        count++;
+    }
+    CHECK(count > 100 && seen == 0x3ffff);
+}
+
+// RFC 8260 section 2.2.1: DATA or I-DATA, in either direction. RFC 9653 section 5.2: a CRC32c to an end that didn't say that it
+// accepts zero.
+void rules_by_what_is_known()
+{
+    std::uint32_t bit = 1;
+    for (const named_rule &one : all_rules) {
+        CHECK(number(one.it) == bit && name(one.it) == std::string_view(one.is) && text(one.it) != std::string_view("unknown"));
+        bit *= 2;
+    }
+    CHECK(name(static_cast<rule>(bit)) == std::string_view("unknown") && text(static_cast<rule>(3)) == std::string_view("unknown"));
+    const bytes data = of_hex("13881389 00000007 00000000 00030011 00000001 00000000 00000000 61000000");
+    const bytes i_data = of_hex("13881389 00000007 00000000 40030015 00000001 00000000 00000000 00000000 61000000");
+    CHECK(packet(data).broken_rules() == rules() && packet(data).broken_rules({false, true, false}).empty());
+    CHECK(packet(data).broken_rules({false, false, true}).has(rule::data_beside_idata));
+    CHECK(packet(i_data).broken_rules({false, false, true}).empty());
+    CHECK(packet(i_data).broken_rules({false, true, false}) == rules(number(rule::data_beside_idata)));
+    const rules both = packet(i_data).broken_rules({true, true, false});
+    const std::vector<rule> list(both.begin(), both.end());
+    CHECK(list == std::vector<rule>{rule::data_beside_idata, rule::zero_checksum} && both != rules());
+    CHECK(!both.has(rule::no_user_data) && packet().broken_rules({true, true, true}).empty());
+    const known_association one = {true, false, true}, other = {true, true, true};
+    CHECK(one == one && one != other);
+}
+
+// An INIT ACK of an INIT (section 3.2.2): an Unrecognized Parameter (section 3.3.3.1.2) for each type with the highest-order bits
+// 01 or 11, up to the first with 00 or 01. Stops are counted from the list on.
+void unrecognized_parameters()
+{
+    const std::string numbers = "00000007 00020000 00010001 00000001";
+    const struct {
+        const char *list;
+        std::vector<std::uint16_t> types;
+        const char *length, *items;
+        std::size_t stop;
+    } rows[] = {
+        {"", {}, "0014", "", 0},
+        {"c0000004 80080005 c0000000", {0xc000, 0x8008}, "0014", "", 9},
+        {"c0000004 80080005 c0000000", {}, "001c", "00080008 c0000004", 9},
+        {"c0060005 61000000 c0000004", {}, "0028", "00080009 c0060005 61000000 00080008 c0000004", 12},
+        {"c0000004 40000005 61000000 c0010004", {}, "0025", "00080008 c0000004 00080009 40000005 61000000", 4},
+        {"80000004 00ff0004 c0000004", {}, "0014", "", 4},
+    };
+    const init own = {7, 0x20000, 1, 1, 1};
+    for (const auto &row : rows) {
+        bytes value = of_hex(numbers + row.list), came;
+        // (the list's last parameter is padded by the chunk)
+        if (std::string_view(row.list).find("c0000000") != std::string_view::npos)
+            value.resize(value.size() - 3);
+        builder from(came, 5000, 5001, 0);
+        CHECK(from.add_chunk(chunk_type::init, 0, value) && from.seal());
+        const bytes wanted = of_hex("13891388 00000007 00000000 0200" + (row.length + numbers) + row.items);
+        const chunk sent = *packet(came).chunks().begin();
+        bytes buffer;
+        builder to(buffer, 5001, 5000, 7);
+        CHECK(to.add_init_ack(own));
+        const auto stop = to.add_unrecognized_parameters(sent, row.types);
+        CHECK(stop && *stop == 32 + row.stop && same(to.bytes(), wanted));
+        bytes small(wanted.size() - 1);
+        builder short_of(mutable_bytes_view(small.data(), small.size()), 5001, 5000, 7);
+        if (*row.items == 0)
+            continue;
+        CHECK(short_of.add_init_ack(own));
+        CHECK(short_of.add_unrecognized_parameters(sent, row.types).error() == result_code::no_room && short_of.size() == 32);
+    }
+    bytes buffer;
+    builder to(buffer, 5001, 5000, 7);
+    const bytes empty = sealed("01000014 00000007 00020000 00010001 00000001");
+    const chunk sent = *packet(empty).chunks().begin();
+    CHECK(to.add_unrecognized_parameters(sent, {}).error() == result_code::bad_place);
+}
+
+// An ERROR (section 3.2) with a cause Unrecognized Chunk Type (section 3.3.10.6) for each type with the highest-order bits 01 or
+// 11, up to the first with 00 or 01.
+void unrecognized_chunks()
+{
+    const struct {
+        const char *chunks;
+        bytes types;
+        const char *added;
+        std::size_t stop;
+    } rows[] = {
+        {"", {}, "", 12},
+        {"0b000004 81000004", {11}, "", 20},
+        {"0b000004 c1000005 61000000 fe000004", {11}, "09000018 00060009 c1000005 61000000 00060008 fe000004", 28},
+        {"c1000004 0b000004 41000005 61000000", {11, 0xc1}, "0900000d 00060009 41000005 61000000", 20},
+        {"c1000004 3f000004 c1000004", {}, "0900000c 00060008 c1000004", 16},
+    };
+    for (const auto &row : rows) {
+        const bytes came = sealed(row.chunks), added = of_hex(row.added);
+        bytes buffer;
+        builder to(buffer, 5001, 5000, 7);
+        CHECK(to.add_cookie_ack());
+        const auto stop = to.add_unrecognized_chunks(came, row.types);
+        CHECK(stop && *stop == row.stop && same(to.bytes().subspan(16), added));
+        // (the last chunk is the ERROR, if there is one)
+        CHECK(to.last_chunk()->offset() == (added.empty() ? 12 : 16));
+        CHECK(to.add_unrecognized_chunks(to.bytes(), row.types).error() == result_code::bad_value);
+        if (added.empty())
+            continue;
+        bytes small(12 + added.size() - 1);
+        builder short_of(mutable_bytes_view(small.data(), small.size()), 5001, 5000, 7);
+        CHECK(short_of.add_unrecognized_chunks(came, row.types).error() == result_code::no_room && short_of.size() == 12);
+    }
+}
+
 // ---- what is authenticated: the rows are those of tests/c/auth.c, whose HMACs are those that Python's hmac gives
 
 const bytes a_key = {'a', ' ', 'k', 'e', 'y'};
@@ -1759,7 +1914,7 @@ void shared_keys()
 
 } // namespace
 
-int main()
+int main(int count, char **words)
 {
     data_chunks();
     sacks();
@@ -1793,6 +1948,11 @@ int main()
     tags();
     out_of_the_blue();
     init_faults();
+    if (count > 1)
+        rules_of_rows(words[1]);
+    rules_by_what_is_known();
+    unrecognized_parameters();
+    unrecognized_chunks();
     cookies();
     auths();
     shared_keys();

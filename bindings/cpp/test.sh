@@ -43,7 +43,8 @@ done
 
 flags=(-Wall -Wextra -Wpedantic -Wconversion -Wshadow -Werror -I . -I "$dist")
 sanitizers=(-g "-fsanitize=address,undefined" -fno-sanitize-recover=all)
-tried=0
+rows=() tried=0
+[ ! -f ../../examples/rules.txt ] || rows=(../../examples/rules.txt)
 for compiler in g++ clang++; do
     command -v "$compiler" >"$work/log" || { echo "bindings/cpp: left out, since it isn't here: $compiler" && continue; }
     echo 'int main() {}' >"$work/probe.cc"
@@ -53,7 +54,7 @@ for compiler in g++ clang++; do
     "$compiler" -std=c++20 "${flags[@]}" -fsyntax-only test.cc
     for standard in 17 2b; do
         "$compiler" -std=c++$standard "${flags[@]}" "${sanitizers[@]}" -Wl,--wrap=malloc,--wrap=realloc -o "$work/test" test.cc "$text"
-        "$work/test"
+        "$work/test" "${rows[@]}"
         tried=$((tried + 1))
     done
     for way in $(sed -n 's/^#.*WAY == //p' dangling.cc); do
