@@ -242,6 +242,42 @@ static inline uint32_t go_verify_tag(const uint8_t *bytes, size_t length, struct
     return dcsctp_verify_tag(bytes, length, &association);
 }
 
+static inline uint32_t go_broken_rules(const uint8_t *bytes, size_t length, struct dcsctp_known known)
+{
+    return dcsctp_broken_rules(bytes, length, &known);
+}
+
+/* A code, the size of the packet after the call, and where the program stops. */
+struct go_reported {
+    struct go_result result;
+    size_t end;
+};
+
+/* The list is that of a chunk, and where the program stops an offset of its packet. */
+static inline struct go_reported go_add_unrecognized_parameters(TO, size_t start, const uint8_t *bytes, size_t length,
+                                                                struct dcsctp_chunk chunk, const uint16_t *known,
+                                                                size_t known_count)
+{
+    struct go_reported reported = {{0, size}, 0};
+    size_t last = chunk.value_offset + chunk.value_size, first = dcsctp_list_offset(&chunk);
+    if (last > length || first > last) /* (as of a Chunk that was changed) */
+        first = last = 0;
+    reported.result.code =
+        dcsctp_add_unrecognized_parameters(packet, room, &reported.result.size, start, first < last ? bytes + first : bytes,
+                                           last - first, known, known_count, &reported.end);
+    reported.end += first;
+    return reported;
+}
+
+static inline struct go_reported go_add_unrecognized_chunks(TO, const uint8_t *bytes, size_t length, const uint8_t *known,
+                                                            size_t known_count)
+{
+    struct go_reported reported = {{0, size}, 0};
+    reported.result.code = dcsctp_add_unrecognized_chunks(packet, room, &reported.result.size, bytes, length, known, known_count,
+                                                          &reported.end);
+    return reported;
+}
+
 ADD(reply, (TO, struct dcsctp_header header, uint32_t answer), &header, answer)
 ADD(init_abort, (TO, struct dcsctp_header header, uint32_t tag, uint32_t fault), &header, tag, fault)
 ADD(shared_key,

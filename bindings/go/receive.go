@@ -5,7 +5,10 @@ package davgyuti
 // #include "calls.h"
 import "C"
 
-import "fmt"
+import (
+	"fmt"
+	"strings"
+)
 
 // What RFC 9260 asks of whoever receives a packet. Of the packet only the common header, the types of its chunks and the T
 // bit are looked at, up to the first chunk whose length is impossible; without a common header it is discarded. Check it
@@ -194,6 +197,97 @@ func (h Header) InitAbort(initiateTag uint32, fault InitFault) (Packet, error) {
 	return unsealed(func(to *C.uint8_t, room C.size_t) C.struct_go_result {
 		return C.go_init_abort(to, room, 0, h.c(), C.uint32_t(initiateTag), C.uint32_t(fault))
 	})
+}
+
+// Rules are rules of the RFCs that Packet.Check doesn't look at, which accepts a packet that breaks them: a set of bits, one for
+// each. The section of each says what is done with such a packet, if anything is.
+type Rules uint32
+
+// The rules: what breaks each, and the section that gives it.
+const (
+	// RulePortZero: a port is 0 (RFC 9260 section 3.1).
+	RulePortZero Rules = C.DCSCTP_RULE_PORT_ZERO
+	// RuleInitAlone: INIT, INIT ACK or SHUTDOWN COMPLETE isn't alone (RFC 9260 section 6.10).
+	RuleInitAlone Rules = C.DCSCTP_RULE_INIT_ALONE
+	// RuleInitTag: INIT has a verification tag other than 0 (RFC 9260 section 8.5.1).
+	RuleInitTag Rules = C.DCSCTP_RULE_INIT_TAG
+	// RuleTagZero: the verification tag is 0 without INIT alone (RFC 9260 section 8.5.1).
+	RuleTagZero Rules = C.DCSCTP_RULE_TAG_ZERO
+	// RuleInitiateTagZero: the Initiate Tag is 0 (RFC 9260 sections 3.3.2 and 3.3.3).
+	RuleInitiateTagZero Rules = C.DCSCTP_RULE_INITIATE_TAG_ZERO
+	// RuleNoStreams: the number of outbound or inbound streams is 0 (RFC 9260 sections 3.3.2 and 3.3.3).
+	RuleNoStreams Rules = C.DCSCTP_RULE_NO_STREAMS
+	// RuleSmallWindow: INIT or INIT ACK advertises a window below 1,500 bytes (RFC 9260 section 6).
+	RuleSmallWindow Rules = C.DCSCTP_RULE_SMALL_WINDOW
+	// RuleInitAckCookie: INIT ACK has no State Cookie (RFC 9260 section 3.3.3).
+	RuleInitAckCookie Rules = C.DCSCTP_RULE_INIT_ACK_COOKIE
+	// RuleHeartbeatInfo: HEARTBEAT has no Heartbeat Info (RFC 9260 section 3.3.5).
+	RuleHeartbeatInfo Rules = C.DCSCTP_RULE_HEARTBEAT_INFO
+	// RuleNoUserData: DATA or I-DATA has no user data (RFC 9260 section 6.2).
+	RuleNoUserData Rules = C.DCSCTP_RULE_NO_USER_DATA
+	// RuleDataBesideIData: an association has both DATA and I-DATA (RFC 8260 section 2.2.1).
+	RuleDataBesideIData Rules = C.DCSCTP_RULE_DATA_BESIDE_IDATA
+	// RuleGapBlocks: gap ack blocks are empty, out of order or not isolated (RFC 9260 section 3.3.4).
+	RuleGapBlocks Rules = C.DCSCTP_RULE_GAP_BLOCKS
+	// RuleReservedBits: reserved flags are set (RFC 9260 section 3.2).
+	RuleReservedBits Rules = C.DCSCTP_RULE_RESERVED_BITS
+	// RuleZeroChecksum: the checksum is 0 where a CRC32c is required (RFC 9653 section 5.2).
+	RuleZeroChecksum Rules = C.DCSCTP_RULE_ZERO_CHECKSUM
+	// RuleCookieEchoFirst: COOKIE ECHO isn't the first chunk (RFC 9260 section 5.1).
+	RuleCookieEchoFirst Rules = C.DCSCTP_RULE_COOKIE_ECHO_FIRST
+	// RuleControlFirst: a control chunk comes after user data (RFC 9260 section 6.10).
+	RuleControlFirst Rules = C.DCSCTP_RULE_CONTROL_FIRST
+	// RuleAfterAbort: a chunk comes after ABORT (RFC 9260 section 3.3.7).
+	RuleAfterAbort Rules = C.DCSCTP_RULE_AFTER_ABORT
+	// RuleDataWithAbort: user data is bundled with ABORT (RFC 9260 section 3.3.7).
+	RuleDataWithAbort Rules = C.DCSCTP_RULE_DATA_WITH_ABORT
+)
+
+// Has returns whether all of these rules are in the set.
+func (r Rules) Has(rules Rules) bool { return r&rules == rules }
+
+// List returns the rules that are in the set, each as a set of its own, in the order of their bits.
+func (r Rules) List() []Rules {
+	var list []Rules
+	for ; r != 0; r &= r - 1 {
+		list = append(list, r&-r)
+	}
+	return list
+}
+
+// Name returns the name of a rule, as sctp_dump writes it: words with hyphens. "unknown" of another set than of one rule.
+func (r Rules) Name() string { return C.GoString(C.dcsctp_rule_name(C.uint32_t(r))) }
+
+// Text returns what breaks a rule, in a few words. "unknown" of another set than of one rule.
+func (r Rules) Text() string { return C.GoString(C.dcsctp_rule_text(C.uint32_t(r))) }
+
+// String returns the names of the rules that are in the set, with blanks between them; "-" where there is none.
+func (r Rules) String() string {
+	var names []string
+	for _, rule := range r.List() {
+		names = append(names, rule.Name())
+	}
+	if names == nil {
+		return "-"
+	}
+	return strings.Join(names, " ")
+}
+
+// Known is what is known of the association that a packet belongs to. Of its zero value: nothing.
+type Known struct {
+	RefusesZero bool // the end that it goes to sent INIT or INIT ACK without Zero Checksum Acceptable (RFC 9653 section 4)
+	HasData     bool // an end sent DATA
+	HasIData    bool // an end sent I-DATA
+}
+
+// BrokenRules returns the rules that the packet breaks. Its common header and its chunks are looked at, up to the first chunk
+// whose length is impossible: what can't be read breaks no rule. Its CRC32c is computed here.
+func (p Packet) BrokenRules(known Known) Rules {
+	return Rules(C.go_broken_rules(bytesOf(p), C.size_t(len(p)), C.struct_dcsctp_known{
+		refuses_zero: C.bool(known.RefusesZero),
+		has_data:     C.bool(known.HasData),
+		has_i_data:   C.bool(known.HasIData),
+	}))
 }
 
 // worded returns the words for a number; for one without words what it is, and the number.

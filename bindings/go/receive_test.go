@@ -4,6 +4,10 @@ package davgyuti_test
 
 import (
 	"fmt"
+	"os"
+	"regexp"
+	"sort"
+	"strings"
 	"testing"
 
 	"davgyuti.example/davgyuti"
@@ -245,5 +249,159 @@ func TestWords(t *testing.T) {
 			"[discard abort destroy and abort refusal 3]"},
 	} {
 		equal(t, "words", fmt.Sprint(c.all), c.wanted)
+	}
+}
+
+// The rows of one packet in examples/rules.txt, whose names are in no order.
+func TestBrokenRules(t *testing.T) {
+	rows, err := os.ReadFile("../../examples/rules.txt")
+	if err != nil {
+		t.Skip("examples/ isn't here")
+	}
+	count, seen := 0, map[string]bool{}
+	for _, row := range strings.Split(string(rows), "\n") {
+		parts := strings.Split(row, " = ")
+		if len(parts) != 2 || row[0] == '#' || strings.Contains(parts[0], "/") {
+			continue
+		}
+		found := davgyuti.Packet(ofHex(parts[0])).BrokenRules(davgyuti.Known{})
+		names, wanted := strings.Fields(found.String()), strings.Fields(parts[1])
+		sort.Strings(names)
+		sort.Strings(wanted)
+		equal(t, row, names, wanted)
+		for _, name := range wanted {
+			seen[name] = true
+		}
+		count++
+	}
+	equal(t, "many rows", count > 100, true)
+	// (18 rules, and "-")
+	equal(t, "rules seen", len(seen), 19)
+}
+
+// Each rule is a constant here, and they are the header's.
+func TestRules(t *testing.T) {
+	text, err := os.ReadFile("dcsctp.h")
+	if err != nil {
+		t.Fatal(err)
+	}
+	named := []davgyuti.Rules{davgyuti.RulePortZero, davgyuti.RuleInitAlone, davgyuti.RuleInitTag, davgyuti.RuleTagZero,
+		davgyuti.RuleInitiateTagZero, davgyuti.RuleNoStreams, davgyuti.RuleSmallWindow, davgyuti.RuleInitAckCookie,
+		davgyuti.RuleHeartbeatInfo, davgyuti.RuleNoUserData, davgyuti.RuleDataBesideIData, davgyuti.RuleGapBlocks,
+		davgyuti.RuleReservedBits, davgyuti.RuleZeroChecksum, davgyuti.RuleCookieEchoFirst, davgyuti.RuleControlFirst,
+		davgyuti.RuleAfterAbort, davgyuti.RuleDataWithAbort}
+	found := regexp.MustCompile(`case DCSCTP_RULE_\w+: return "(.*)";`).FindAllStringSubmatch(string(text), -1)
+	equal(t, "count", len(found), 2*len(named))
+	var all davgyuti.Rules
+	for i, rule := range named {
+		equal(t, "bit", rule, davgyuti.Rules(1<<i))
+		equal(t, "name", rule.Name(), found[i][1])
+		equal(t, "text", rule.Text(), found[len(named)+i][1])
+		all |= rule
+	}
+	equal(t, "list", all.List(), named)
+	equal(t, "none", davgyuti.Rules(0).String(), "-")
+	equal(t, "two", (davgyuti.RulePortZero | davgyuti.RuleGapBlocks).String(), "port-zero gap-blocks")
+	equal(t, "no rule", []string{all.Name(), all.Text()}, []string{"unknown", "unknown"})
+}
+
+// RFC 8260 section 2.2.1: DATA or I-DATA, in either direction. RFC 9653 section 5.2: a CRC32c to an end that didn't say that it
+// accepts zero.
+func TestBrokenRulesByWhatIsKnown(t *testing.T) {
+	data := davgyuti.Packet(ofHex("13881389 00000007 00000000 00030011 00000001 00000000 00000000 61000000"))
+	iData := davgyuti.Packet(ofHex("13881389 00000007 00000000 40030015 00000001 00000000 00000000 00000000 61000000"))
+	both := davgyuti.RuleDataBesideIData | davgyuti.RuleZeroChecksum
+	for _, c := range []struct {
+		packet davgyuti.Packet
+		known  davgyuti.Known
+		wanted davgyuti.Rules
+	}{
+		{data, davgyuti.Known{}, 0},
+		{data, davgyuti.Known{HasData: true}, 0},
+		{data, davgyuti.Known{HasIData: true}, davgyuti.RuleDataBesideIData},
+		{iData, davgyuti.Known{HasIData: true}, 0},
+		{iData, davgyuti.Known{HasData: true}, davgyuti.RuleDataBesideIData},
+		{iData, davgyuti.Known{RefusesZero: true}, davgyuti.RuleZeroChecksum},
+		{iData, davgyuti.Known{RefusesZero: true, HasData: true}, both},
+		{data[:11], davgyuti.Known{RefusesZero: true, HasIData: true}, 0},
+		{nil, davgyuti.Known{}, 0},
+	} {
+		equal(t, fmt.Sprint(c.known), c.packet.BrokenRules(c.known), c.wanted)
+	}
+	one := davgyuti.RuleZeroChecksum
+	equal(t, "has", []bool{both.Has(one), both.Has(both), one.Has(both)}, []bool{true, true, false})
+}
+
+// An INIT ACK of an INIT (section 3.2.2): an Unrecognized Parameter (section 3.3.3.1.2) for each type with the highest-order bits 01
+// or 11, up to the first with 00 or 01. Stops are counted from the list on.
+func TestUnrecognizedParameters(t *testing.T) {
+	const numbers = "00000007 00020000 00010001 00000001"
+	own := davgyuti.Init{InitiateTag: 7, ARwnd: 0x20000, OutboundStreams: 1, InboundStreams: 1, InitialTSN: 1}
+	for _, c := range []struct {
+		list          string
+		known         []davgyuti.ParameterType
+		length, items string
+		stop          int
+	}{
+		{"", nil, "0014", "", 0},
+		{"c0000004 80080005 c0", []davgyuti.ParameterType{0xc000, 0x8008}, "0014", "", 9},
+		{"c0000004 80080005 c0", nil, "001c", "00080008 c0000004", 9},
+		{"c0060005 61000000 c0000004", nil, "0028", "00080009 c0060005 61000000 00080008 c0000004", 12},
+		{"c0000004 40000005 61000000 c0010004", nil, "0025", "00080008 c0000004 00080009 40000005 61000000", 4},
+		{"80000004 00ff0004 c0000004", nil, "0014", "", 4},
+	} {
+		came, _ := davgyuti.Begin(make([]byte, 100), 5000, 5001, 0)
+		equal(t, "INIT", came.AddChunk(davgyuti.ChunkInit, 0, ofHex(numbers+c.list)), nil)
+		init, _ := came.LastChunk()
+		wanted := ofHex("13891388 00000007 00000000 0200" + c.length + numbers + c.items)
+		builder, _ := davgyuti.Begin(make([]byte, len(wanted)), 5001, 5000, 7)
+		equal(t, "INIT ACK", builder.AddInitAck(own), nil)
+		stop, err := builder.AddUnrecognizedParameters(init, c.known)
+		equal(t, c.list, []interface{}{stop, err, builder.Bytes()}, []interface{}{32 + c.stop, nil, wanted})
+		if c.items == "" {
+			continue
+		}
+		builder, _ = davgyuti.Begin(make([]byte, len(wanted)-1), 5001, 5000, 7)
+		equal(t, "INIT ACK", builder.AddInitAck(own), nil)
+		_, err = builder.AddUnrecognizedParameters(init, c.known)
+		equal(t, c.list, []interface{}{err, len(builder.Bytes())}, []interface{}{davgyuti.ErrNoRoom, 32})
+	}
+	builder, _ := davgyuti.Begin(make([]byte, 100), 5001, 5000, 7)
+	_, err := builder.AddUnrecognizedParameters(davgyuti.Chunk{}, nil)
+	equal(t, "no chunk to add to", err, davgyuti.ErrBadPlace)
+	equal(t, "INIT ACK", builder.AddInitAck(own), nil)
+	// (a Chunk that was made up has no list)
+	stop, err := builder.AddUnrecognizedParameters(davgyuti.Chunk{Type: davgyuti.ChunkInit, Value: make([]byte, 1000)}, nil)
+	equal(t, "made up", []interface{}{stop, err, len(builder.Bytes())}, []interface{}{0, nil, 32})
+}
+
+// An ERROR (section 3.2) with a cause Unrecognized Chunk Type (section 3.3.10.6) for each type with the highest-order bits 01 or
+// 11, up to the first with 00 or 01.
+func TestUnrecognizedChunks(t *testing.T) {
+	const front = "13891388 00000007 00000000"
+	for _, c := range []struct {
+		chunks string
+		known  []davgyuti.ChunkType
+		added  string
+		stop   int
+	}{
+		{"", nil, "", 12},
+		{"0b000004 81000004", []davgyuti.ChunkType{11}, "", 20},
+		{"0b000004 c1000005 61000000 fe000004", []davgyuti.ChunkType{11}, "09000018 00060009 c1000005 61000000 00060008 fe000004", 28},
+		{"c1000004 0b000004 41000005 61000000", []davgyuti.ChunkType{11, 0xc1}, "0900000d 00060009 41000005 61000000", 20},
+		{"c1000004 3f000004 c1000004", nil, "0900000c 00060008 c1000004", 16},
+	} {
+		wanted := ofHex(front + c.added)
+		builder, _ := davgyuti.Begin(make([]byte, len(wanted)), 5001, 5000, 7)
+		stop, err := builder.AddUnrecognizedChunks(sealed(c.chunks), c.known)
+		equal(t, c.chunks, []interface{}{stop, err, builder.Bytes()}, []interface{}{c.stop, nil, wanted})
+		_, isThere := builder.LastChunk()
+		equal(t, "the last chunk is the ERROR", isThere, c.added != "")
+		if c.added == "" {
+			continue
+		}
+		builder, _ = davgyuti.Begin(make([]byte, len(wanted)-1), 5001, 5000, 7)
+		_, err = builder.AddUnrecognizedChunks(sealed(c.chunks), c.known)
+		equal(t, c.chunks, []interface{}{err, len(builder.Bytes())}, []interface{}{davgyuti.ErrNoRoom, 12})
 	}
 }

@@ -8,9 +8,8 @@ import "C"
 import "unsafe"
 
 // A Builder writes a packet into a buffer of the caller: AddParameter, AddCause, AddNumber, AddCauseNumber, AddReConfig,
-// AddMissingParameters, AddRegisteredParameter and AddRegisteredCause add to the last chunk's list, and each other Add function
-// adds a chunk. Each returns nil; or it changes
-// nothing, and returns why:
+// AddMissingParameters, AddUnrecognizedParameters, AddRegisteredParameter and AddRegisteredCause add to the last chunk's list, and
+// each other Add function adds a chunk. Each returns nil; or it changes nothing, and returns why:
 //
 //	ErrBadPlace  there is no chunk to add to
 //	ErrBadValue  the chunk would have more than 65,535 bytes; some functions say what else can't be written
@@ -211,6 +210,34 @@ func (b *Builder) AddMissingParameters(types []ParameterType) error {
 	to, room := b.to()
 	return b.extended(C.go_add_missing_parameters(to, room, b.size, b.start, (*C.uint16_t)(first(types)),
 		C.size_t(len(types))))
+}
+
+// AddUnrecognizedParameters adds to an INIT ACK, the last chunk, an Unrecognized Parameter (section 3.3.3.1.2) for each parameter of
+// an INIT that came whose type isn't known and is to be reported (section 3.2.2): whole and in order, up to the first at which
+// processing stops, and with it. All, or nothing. known are the types that your program knows. The first result is where your
+// program stops: the Offset of the parameter at which processing stops, or of the end of the INIT's value if it stops at none.
+func (b *Builder) AddUnrecognizedParameters(init Chunk, known []ParameterType) (int, error) {
+	to, room := b.to()
+	init.packet = b.apart(init.packet)
+	from, length, chunk := init.inC()
+	reported := C.go_add_unrecognized_parameters(to, room, b.size, b.start, from, length, chunk, (*C.uint16_t)(first(known)),
+		C.size_t(len(known)))
+	return int(reported.end), b.extended(reported.result)
+}
+
+// AddUnrecognizedChunks adds an ERROR with a cause Unrecognized Chunk Type (section 3.3.10.6) for each chunk of a packet that came
+// whose type isn't known and is to be reported (section 3.2): whole and in order, up to the first at which processing stops, and
+// with it; no ERROR if there is none. All, or nothing. known are the types that your program knows. The first result is where your
+// program stops: the Offset of the chunk at which processing stops, or the packet's length if it stops at none.
+func (b *Builder) AddUnrecognizedChunks(came Packet, known []ChunkType) (int, error) {
+	to, room := b.to()
+	came = b.apart(came)
+	reported := C.go_add_unrecognized_chunks(to, room, b.size, bytesOf(came), C.size_t(len(came)), (*C.uint8_t)(first(known)),
+		C.size_t(len(known)))
+	if reported.result.size == b.size {
+		return int(reported.end), b.extended(reported.result)
+	}
+	return int(reported.end), b.added(reported.result)
 }
 
 func (b *Builder) to() (*C.uint8_t, C.size_t) { return bytesOf(b.buffer), C.size_t(len(b.buffer)) }
