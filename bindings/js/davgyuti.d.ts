@@ -623,6 +623,17 @@ export class Builder {
   /** Adds an error cause of a code in CauseFields to the last chunk. */
   addRegisteredCause<T extends keyof CauseFields>(code: T, fields: Given<CauseFields[T]>): this;
 
+  /** Adds to an INIT ACK, the last chunk, an Unrecognized Parameter (section 3.3.3.1.2) for each parameter of an INIT that came whose
+      type isn't known and is to be reported (section 3.2.2): whole and in order, up to the first at which processing stops, and with
+      it. All, or nothing: throws NO_ROOM where there is no room for all. `known` are the types that your program knows. Returns where
+      it stops: the `offset` of the parameter at which processing stops; null if it stops at none. */
+  addUnrecognizedParameters(init: Pick<UncheckedChunk, 'value' | 'valueOffset'>, known: Iterable<number>): number | null;
+  /** Adds an ERROR with a cause Unrecognized Chunk Type (section 3.3.10.6) for each chunk of a packet that came whose type isn't known
+      and is to be reported (section 3.2): whole and in order, up to the first at which processing stops, and with it; no ERROR if
+      there is none. All, or nothing, likewise. Returns the `offset` of the chunk at which processing stops; null if it stops at
+      none. */
+  addUnrecognizedChunks(bytes: Uint8Array, known: Iterable<number>): number | null;
+
   /** Takes the last chunk back, with what was added to it. Throws BAD_PLACE where there is none. */
   removeLast(): this;
   /** A copy of the last chunk; null where there is none. Its `bytes` are all that is sent of one without a packet around it. */
@@ -742,6 +753,64 @@ export function initRefusal(fault: InitFault, isAck: boolean, inCookieWait: bool
     no ABORT answers. Its tag is the initiate tag; where that is 0, the packet's own, with the T bit. Seal it. Throws a WriteError of
     BAD_VALUE for NO_FAULT. */
 export function initAbort(header: Header, initiateTag: number, fault: InitFault): Uint8Array;
+
+/** A rule of the RFCs that `check` doesn't look at, which accepts a packet that breaks it: what breaks it, and the section that gives
+    it, which says what is done with such a packet, if anything is. Its number is a bit. */
+export const Rule: {
+  /** A port is 0 (RFC 9260 section 3.1). */
+  readonly PORT_ZERO: 0x1;
+  /** INIT, INIT ACK or SHUTDOWN COMPLETE isn't alone (RFC 9260 section 6.10). */
+  readonly INIT_ALONE: 0x2;
+  /** INIT has a verification tag other than 0 (RFC 9260 section 8.5.1). */
+  readonly INIT_TAG: 0x4;
+  /** The verification tag is 0 without INIT alone (RFC 9260 section 8.5.1). */
+  readonly TAG_ZERO: 0x8;
+  /** The Initiate Tag is 0 (RFC 9260 sections 3.3.2 and 3.3.3). */
+  readonly INITIATE_TAG_ZERO: 0x10;
+  /** The number of outbound or inbound streams is 0 (RFC 9260 sections 3.3.2 and 3.3.3). */
+  readonly NO_STREAMS: 0x20;
+  /** INIT or INIT ACK advertises a window below 1,500 bytes (RFC 9260 section 6). */
+  readonly SMALL_WINDOW: 0x40;
+  /** INIT ACK has no State Cookie (RFC 9260 section 3.3.3). */
+  readonly INIT_ACK_COOKIE: 0x80;
+  /** HEARTBEAT has no Heartbeat Info (RFC 9260 section 3.3.5). */
+  readonly HEARTBEAT_INFO: 0x100;
+  /** DATA or I-DATA has no user data (RFC 9260 section 6.2). */
+  readonly NO_USER_DATA: 0x200;
+  /** An association has both DATA and I-DATA (RFC 8260 section 2.2.1). */
+  readonly DATA_BESIDE_IDATA: 0x400;
+  /** Gap ack blocks are empty, out of order or not isolated (RFC 9260 section 3.3.4). */
+  readonly GAP_BLOCKS: 0x800;
+  /** Reserved flags are set (RFC 9260 section 3.2). */
+  readonly RESERVED_BITS: 0x1000;
+  /** The checksum is 0 where a CRC32c is required (RFC 9653 section 5.2). */
+  readonly ZERO_CHECKSUM: 0x2000;
+  /** COOKIE ECHO isn't the first chunk (RFC 9260 section 5.1). */
+  readonly COOKIE_ECHO_FIRST: 0x4000;
+  /** A control chunk comes after user data (RFC 9260 section 6.10). */
+  readonly CONTROL_FIRST: 0x8000;
+  /** A chunk comes after ABORT (RFC 9260 section 3.3.7). */
+  readonly AFTER_ABORT: 0x10000;
+  /** User data is bundled with ABORT (RFC 9260 section 3.3.7). */
+  readonly DATA_WITH_ABORT: 0x20000;
+};
+export type Rule = Of<typeof Rule>;
+/** Returns the name of a rule, as sctp_dump writes it: words with hyphens; "unknown" for a number that is no rule's. */
+export function ruleName(rule: number): string;
+/** Returns what breaks a rule, in a few words; "unknown" for a number that is no rule's. */
+export function ruleText(rule: number): string;
+/** What is known of the association that a packet belongs to; what is left out is false. */
+export interface Known {
+  /** Whether the end that it goes to sent INIT or INIT ACK without Zero Checksum Acceptable (RFC 9653 section 4). */
+  refusesZero?: boolean;
+  /** Whether an end sent DATA. */
+  hasData?: boolean;
+  /** Whether an end sent I-DATA. */
+  hasIData?: boolean;
+}
+/** Returns the rules that a packet breaks, in the order of their numbers. Its common header and its chunks are looked at, up to the
+    first chunk whose length is impossible: what can't be read breaks no rule. Its CRC32c is computed here. */
+export function brokenRules(bytes: Uint8Array, known?: Known): Rule[];
 
 // ---- what is authenticated, under keys of yours
 //

@@ -331,6 +331,7 @@ const structs = {
     addressSize: 'size', restOffset: 'size', restSize: 'size',
   }),
   association: new Struct({ ownTag: 'u32', peerTag: 'u32', hasPeerTag: 'bool', awaitsCookie: 'bool' }),
+  known: new Struct({ refusesZero: 'bool', hasData: 'bool', hasIData: 'bool' }),
   cookie: new Struct({
     created: 'u64', lifespan: 'u64', localTag: 'u32', peerTag: 'u32', localInitialTsn: 'u32', peerInitialTsn: 'u32',
     localPort: 'u16', peerPort: 'u16', outboundStreams: 'u16', inboundStreams: 'u16', addressesOffset: 'size', addressesSize: 'size',

@@ -57,7 +57,8 @@ test('the structs are the header\'s', () => {
 test('the constants and texts are the header\'s', () => {
   const own = {
     result: '', chunk_type: 'CHUNK_', parameter_type: 'PARAMETER_', cause_code: 'CAUSE_', re_config_result: 'RE_CONFIG_', action: 'ACTION_',
-    tag_verdict: 'TAG_', answer: 'ANSWER_', init_fault: 'INIT_', refusal: 'REFUSAL_', cookie_state: 'COOKIE_',
+    tag_verdict: 'TAG_', answer: 'ANSWER_', init_fault: 'INIT_', refusal: 'REFUSAL_', rule: 'RULE_',
+    cookie_state: 'COOKIE_',
   };
   const enums = [...header.matchAll(/enum dcsctp_(\w+) \{([^}]*)\};/g)];
   assert.deepEqual(enums.map(it => it[1]).sort(), Object.keys(own).sort());
@@ -74,6 +75,11 @@ test('the constants and texts are the header\'s', () => {
   const body = header.match(/dcsctp_result_text\([^]*?\n}/)[0];
   for (const [, constant, said] of body.matchAll(/case DCSCTP_(\w+): return "(.*)";/g))
     assert.equal(davgyuti.resultText(davgyuti.Result[constant]), said);
+  for (const [what, of] of [['name', davgyuti.ruleName], ['text', davgyuti.ruleText]]) {
+    const texts = header.match(new RegExp(`dcsctp_rule_${what}\\([^]*?\\n}`))[0].matchAll(/case DCSCTP_RULE_(\w+): return "(.*)";/g);
+    assert.deepEqual(Object.entries(davgyuti.Rule).map(([name, rule]) => [name, of(rule)]), Array.from(texts, it => it.slice(1)));
+    assert.equal(of(3), 'unknown');
+  }
   assert.equal(davgyuti.resultText(99), header.match(/dcsctp_result_text[^]*?default: return "(.*)";/)[1]);
 });
 

@@ -1,17 +1,21 @@
 // SPDX-License-Identifier: Apache-2.0
 // What RFC 9260 asks of whoever receives a packet: the rows are those of the repository's tests/c/receive.c.
 import assert from 'node:assert/strict';
+import { readFileSync } from 'node:fs';
 import { test } from 'node:test';
 import * as davgyuti from '../davgyuti.mjs';
 
 const {
-  Action, actionReports, actionSkips, Answer, Builder, CauseCode, ChunkType, InitFault, ParameterType, Refusal, Result, TAG_REFLECTED, TagVerdict, WriteError, check,
-  header, initAbort, initFault, initRefusal, outOfTheBlue, reply, seal, unrecognizedChunk, unrecognizedParameter, verifyTag,
+  Action, actionReports, actionSkips, Answer, Builder, CauseCode, ChunkType, InitFault, ParameterType, Refusal, Result, Rule,
+  TAG_REFLECTED, TagVerdict, WriteError, brokenRules, check, chunks, header, initAbort, initFault, initRefusal, outOfTheBlue,
+  reply, ruleName, seal, unrecognizedChunk, unrecognizedParameter, verifyTag,
 } = davgyuti;
 const bytes = hex => Uint8Array.from(Buffer.from(hex.replace(/\s/g, ''), 'hex'));
 const NOTHING = new Uint8Array(0);
 const OWN = 0x01020304, PEER = 0x05060708, OTHER = 0x090a0b0c;
 const badValue = error => error instanceof WriteError && error.code === Result.BAD_VALUE;
+
+const noRoom = error => error instanceof WriteError && error.code === Result.NO_ROOM;
 
 const begun = verificationTag => new Builder({ sourcePort: 5000, destinationPort: 5001, verificationTag });
 
@@ -168,4 +172,99 @@ test('the ABORT: under the initiate tag, or reflected where there is none; and i
     else
       assert.deepEqual(abort(), bytes(hex));
   });
+});
+
+// The rows of one packet in examples/rules.txt, whose names are in no order.
+test('the rules that a packet breaks', () => {
+  const lines = readFileSync(new URL('../../../examples/rules.txt', import.meta.url), 'utf8').split('\n');
+  const rows = lines.filter(it => !it.startsWith('#')).map(it => it.split(' = ')).filter(it => it.length === 2 && !it[0].includes('/'));
+  assert.ok(rows.length > 100);
+  const seen = new Set();
+  for (const [packet, names] of rows) {
+    const wanted = names.split(' ').filter(it => it !== '-').sort();
+    const found = brokenRules(bytes(packet));
+    assert.deepEqual(found.map(ruleName).sort(), wanted, packet);
+    assert.deepEqual(found, found.slice().sort((one, other) => one - other));
+    found.forEach(it => seen.add(it));
+  }
+  assert.deepEqual([...seen].sort((one, other) => one - other), Object.values(Rule));
+});
+
+// RFC 8260 section 2.2.1: DATA or I-DATA, in either direction. RFC 9653 section 5.2: a CRC32c to an end that didn't say that it
+// accepts zero.
+test('the rules that a packet breaks, by what is known', () => {
+  const data = bytes('13881389 00000007 00000000 00030011 00000001 00000000 00000000 61000000');
+  const iData = bytes('13881389 00000007 00000000 40030015 00000001 00000000 00000000 00000000 61000000');
+  for (const [packet, known, wanted] of [
+    [data, {}, []],
+    [data, { hasData: true }, []],
+    [data, { hasIData: true }, ['DATA_BESIDE_IDATA']],
+    [iData, { hasIData: true }, []],
+    [iData, { hasData: true }, ['DATA_BESIDE_IDATA']],
+    [iData, { refusesZero: true }, ['ZERO_CHECKSUM']],
+    [iData, { refusesZero: true, hasData: true, hasIData: false }, ['DATA_BESIDE_IDATA', 'ZERO_CHECKSUM']],
+    [data.subarray(0, 11), { refusesZero: true, hasIData: true }, []],
+    [NOTHING, undefined, []],
+  ])
+    assert.deepEqual(brokenRules(packet, known), wanted.map(it => Rule[it]));
+  assert.throws(() => brokenRules('packet'), TypeError);
+  assert.throws(() => brokenRules(data, { hasData: 1 }), TypeError);
+  assert.throws(() => brokenRules(data, null), TypeError);
+});
+
+// An INIT ACK of an INIT (section 3.2.2): an Unrecognized Parameter (section 3.3.3.1.2) for each type with the highest-order bits 01
+// or 11, up to the first with 00 or 01. Stops are counted from the list on.
+test('the parameters that are not recognized, reported', () => {
+  const numbers = '00000007 00020000 0001 0001 00000001';
+  const own = { initiateTag: 7, aRwnd: 0x20000, outboundStreams: 1, inboundStreams: 1, initialTsn: 1 };
+  for (const [list, known, length, items, stop] of [
+    ['', [], '0014', '', null],
+    ['c0000004 80080005 c0', [0xc000, 0x8008], '0014', '', null],
+    ['c0000004 80080005 c0', [], '001c', '00080008 c0000004', null],
+    ['c0060005 61000000 c0000004', [], '0028', '00080009 c0060005 61000000 00080008 c0000004', null],
+    ['c0000004 40000005 61000000 c0010004', [], '0025', '00080008 c0000004 00080009 40000005 61000000', 4],
+    ['80000004 00ff0004 c0000004', new Set(), '0014', '', 4],
+  ]) {
+    const [init] = chunks(begun(0).addChunk(ChunkType.INIT, 0, bytes(numbers + list)).finish());
+    const wanted = bytes(`13881389 00000007 00000000 0200 ${length} ${numbers} ${items}`);
+    const ack = room => new Builder({ sourcePort: 5000, destinationPort: 5001, verificationTag: 7, room }).addInitAck(own);
+    const builder = ack(wanted.length);
+    assert.equal(builder.addUnrecognizedParameters(init, known), stop === null ? null : 32 + stop, list);
+    assert.deepEqual(builder.finish({ checksum: false }), wanted);
+    if (items !== '') {
+      const short = ack(wanted.length - 1);
+      assert.throws(() => short.addUnrecognizedParameters(init, known), noRoom);
+      assert.equal(short.size, 32);
+    }
+    assert.throws(() => begun(7).addUnrecognizedParameters(init, known), error => error.code === Result.BAD_PLACE);
+    assert.throws(() => ack().addUnrecognizedParameters(init, [0x10000]), RangeError);
+    assert.throws(() => ack().addUnrecognizedParameters(null, known), TypeError);
+  }
+});
+
+// An ERROR (section 3.2) with a cause Unrecognized Chunk Type (section 3.3.10.6) for each type with the highest-order bits 01 or 11,
+// up to the first with 00 or 01.
+test('the chunks that are not recognized, reported', () => {
+  const front = '13881389 00000007 00000000';
+  for (const [list, known, added, stop] of [
+    ['', [], '', null],
+    ['0b000004 81000004', [11], '', null],
+    ['0b000004 c1000005 61000000 fe000004', [11], '09000018 00060009 c1000005 61000000 00060008 fe000004', null],
+    ['c1000004 0b000004 41000005 61000000', [11, 0xc1], '0900000d 00060009 41000005 61000000', 20],
+    ['c1000004 3f000004 c1000004', [], '0900000c 00060008 c1000004', 16],
+  ]) {
+    const came = bytes(`13891388 00000008 00000000 ${list}`), wanted = bytes(`${front} ${added}`);
+    const builder = begun(7);
+    assert.equal(builder.addUnrecognizedChunks(came, known), stop, list);
+    assert.deepEqual(builder.finish({ checksum: false }), wanted);
+    // (the last chunk is the ERROR, if there is one)
+    assert.equal(builder.lastChunk()?.type, added === '' ? undefined : ChunkType.ERROR);
+    if (added !== '') {
+      const short = new Builder({ sourcePort: 5000, destinationPort: 5001, verificationTag: 7, room: wanted.length - 1 });
+      assert.throws(() => short.addUnrecognizedChunks(came, known), noRoom);
+      assert.equal(short.size, 12);
+    }
+    assert.throws(() => builder.addUnrecognizedChunks(came, [256]), RangeError);
+    assert.throws(() => builder.addUnrecognizedChunks('packet', known), TypeError);
+  }
 });

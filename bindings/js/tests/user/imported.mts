@@ -2,8 +2,9 @@
 // What TypeScript knows of the package: this compiles, but for each line below a @ts-expect-error, which must not.
 import {
   Builder, CauseCode, Chunk, ChunkType, CookieState, Fault, FaultCode, Packet, Parameter, ParameterType, ReConfigResult, ReConfigType, Result,
-  UncheckedChunk, WriteError, cause as causeOf, causes, check, chunks, dataFlags, firstFault, header, isKnownChunk, needsChecksum, openCookie,
-  outOfTheBlue, parameter, parameters, readChunk, registeredCause, registeredChunk, registeredParameter, withFlags,
+  Rule, UncheckedChunk, WriteError, brokenRules, cause as causeOf, causes, check, chunks, dataFlags, firstFault, header, isKnownChunk,
+  needsChecksum, openCookie, outOfTheBlue, parameter, parameters, read, readChunk, registeredCause, registeredChunk, registeredParameter,
+  ruleName, withFlags,
 } from 'davgyuti';
 // @ts-expect-error it is no part of the interface
 import { Needed } from 'davgyuti';
@@ -133,6 +134,16 @@ const data = withFlags({ tsn: 1, stream: 2, payload: bytes }, 3);
 new Builder({ sourcePort: 1, destinationPort: 2, verificationTag: 3 }).addData(data).lastChunk()?.bytes;
 if (!needsChecksum(bytes))
   check(bytes, { allowedZeroChecksum: true });
+
+// The rules that a packet breaks, and what isn't recognized.
+const broken: Rule[] = brokenRules(bytes, { hasData: true });
+numbers.push(...broken.filter(it => it !== Rule.PORT_ZERO), ruleName(broken[0] ?? 0).length);
+// @ts-expect-error nothing is known by this name
+brokenRules(bytes, { data: true });
+for (const chunk of [readChunk(bytes), ...read(bytes).chunks])
+  numbers.push(builder.addUnrecognizedParameters(chunk, [ParameterType.STATE_COOKIE]) ?? builder.addUnrecognizedChunks(bytes, new Set([0])) ?? 0);
+// @ts-expect-error it may stop nowhere
+numbers.push(builder.addUnrecognizedChunks(bytes, []));
 
 // The rest of the registry: a type says which fields there are.
 for (const chunk of chunks(packet)) {
