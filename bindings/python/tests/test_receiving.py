@@ -251,7 +251,7 @@ class Reported(unittest.TestCase):
 
 
 class Rules(unittest.TestCase):
-    """Packets of tests/dump/rules.txt, one that keeps each rule beside those that break it."""
+    """Packets of examples/rules.txt, one that keeps each rule beside those that break it."""
 
     def test_rows(self) -> None:
         rule = davgyuti.Rule
