@@ -91,7 +91,7 @@ class Functions(unittest.TestCase):
 class Structs(unittest.TestCase):
     def test_fields(self) -> None:
         found = re.findall(r"^struct dcsctp_(\w+) \{(.*?)^\};", HEADER, re.MULTILINE | re.DOTALL)
-        self.assertEqual(len(found), 16)
+        self.assertEqual(len(found), 17)
         for name, body in found:
             # (of the policy's reserve the library reads nothing)
             fields = [split(" ".join(it.split())) for it in body.split(";") if it.strip() and "reserved[" not in it]
@@ -101,7 +101,7 @@ class Structs(unittest.TestCase):
 
     def test_none_beside(self) -> None:
         structs = [it for it in vars(_library).values() if isinstance(it, type) and issubclass(it, ctypes.Structure)]
-        self.assertEqual(len(structs), 16)
+        self.assertEqual(len(structs), 17)
 
     def test_formats(self) -> None:
         for kind, struct in (
@@ -134,6 +134,7 @@ class Numbers(unittest.TestCase):
             **{f"ANSWER_{it.name}": it.value for it in davgyuti.Answer},
             **{f"INIT_{it.name}": it.value for it in davgyuti.InitFault},
             **{f"REFUSAL_{it.name}": it.value for it in davgyuti.Refusal},
+            **{f"RULE_{it.name}": it.value for it in davgyuti.Rule},
             **{f"COOKIE_{it.name}": it.value for it in davgyuti.CookieState},
             "FIRST_CHUNK": 12,
             "TAG_REFLECTED": 1,
@@ -155,6 +156,13 @@ class Names(unittest.TestCase):
         assert found
         texts = dict(re.findall(r'case DCSCTP_(\w+): return "(.*?)";', found[0]))
         self.assertEqual({it.name: it.text for it in davgyuti.Result}, texts)
+
+    def test_rules(self) -> None:
+        found = re.search(r"\*dcsctp_rule_text\(.*?\n}\n", HEADER, re.DOTALL)
+        assert found
+        texts = dict(re.findall(r'case DCSCTP_RULE_(\w+): return "(.*?)";', found[0]))
+        said = {it.name: str(it.__doc__).split(" (RFC ")[0] for it in davgyuti.Rule}
+        self.assertEqual(said, {name: text[0].upper() + text[1:] for name, text in texts.items()})
 
     def test_chunks(self) -> None:
         self.assertEqual(davgyuti.chunk_name(130), "RE-CONFIG")

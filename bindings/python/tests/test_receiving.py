@@ -228,7 +228,7 @@ class Reported(unittest.TestCase):
         )
         for known, stop, expected in cases:
             builder = PacketBuilder(5000, 5001, 7)
-            writer = builder.init_ack(davgyuti.InitAck(**numbers, parameters=[]))
+            writer = builder.init_ack(**numbers)
             before = len(builder)
             self.assertEqual(writer.unrecognized_parameters(init, known), stop)
             data = of_hex(expected)
@@ -274,7 +274,7 @@ class Rules(unittest.TestCase):
         self.assertEqual(davgyuti.broken_rules(data), ())
         self.assertEqual(davgyuti.broken_rules(data, refuses_zero=True), (davgyuti.Rule.ZERO_CHECKSUM,))
         builder = PacketBuilder(5000, 5001, 7)
-        builder.data(b"a", tsn=1, stream=0, ssn=0)
+        builder.data(b"a", tsn=1, stream=0, ssn=0, ppid=0)
         data = builder.seal()
         self.assertEqual(davgyuti.broken_rules(data, has_data=True), ())
         self.assertEqual(davgyuti.broken_rules(data, has_i_data=True), (davgyuti.Rule.DATA_BESIDE_IDATA,))

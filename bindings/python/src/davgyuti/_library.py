@@ -244,7 +244,7 @@ FUNCTIONS: dict[str, tuple[Any, ...]] = {
     "dcsctp_add_registered_parameter": (c_uint32, *_LIST, c_uint16, *_REGISTERED),
     "dcsctp_add_registered_cause": (c_uint32, *_LIST, c_uint16, *_REGISTERED),
     "dcsctp_add_unrecognized_parameters": (c_uint32, *_LIST, *_BYTES, POINTER(c_uint16), c_size_t, POINTER(c_size_t)),
-    "dcsctp_add_unrecognized_chunks": (c_uint32, *_OUTPUT, *_BYTES, POINTER(c_uint8), c_size_t, POINTER(c_size_t)),
+    "dcsctp_add_unrecognized_chunks": (c_uint32, *_OUTPUT, *_BYTES, *_BYTES, POINTER(c_size_t)),
     "dcsctp_unrecognized_chunk": (c_uint32, c_uint8),
     "dcsctp_unrecognized_parameter": (c_uint32, c_uint16),
     "dcsctp_verify_tag": (c_uint32, *_BYTES, POINTER(Association)),

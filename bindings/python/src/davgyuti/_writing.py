@@ -4,7 +4,7 @@
 import struct
 import threading
 from collections.abc import Callable, Iterable, Sequence
-from ctypes import byref, c_size_t, c_uint8, c_uint16, c_uint32
+from ctypes import byref, c_size_t, c_uint16, c_uint32
 from ipaddress import IPv4Address, IPv6Address
 from itertools import accumulate
 from types import TracebackType
@@ -450,8 +450,8 @@ class PacketBuilder:
         """Adds an ERROR with a cause Unrecognized Chunk Type (RFC 9260 section 3.3.10.6) for each chunk of a packet that came whose
         type isn't known, and is to be reported (section 3.2), whole and in order, up to the first at which processing stops, and
         with it; no ERROR if there is none. All, or nothing. Returns the offset of the chunk at which processing stops, or None."""
-        data, end = to_bytes(data), c_size_t()
-        self._call(bare.dcsctp_add_unrecognized_chunks, *_bytes(data), *_numbers(c_uint8, _u8, known, "a type"), byref(end))
+        data, types, end = to_bytes(data), bytes(_u8(it, "a type") for it in known), c_size_t()
+        self._call(bare.dcsctp_add_unrecognized_chunks, *_bytes(data), *_bytes(types), byref(end))
         return end.value if end.value < len(data) else None
 
     def shutdown(self, cumulative_tsn_ack: int) -> None:
