@@ -9,4 +9,3 @@ pub mod RegisteredPlaces
 pub mod Rows
 pub mod Walks
 pub mod Writings
-pub mod Reports
