@@ -661,6 +661,23 @@ enum dcsctp_action {
 uint32_t dcsctp_unrecognized_chunk(uint8_t type);
 uint32_t dcsctp_unrecognized_parameter(uint16_t type);
 
+/* Report all at once what your program doesn't know: `known` has the types that it knows. Of what came, each chunk or parameter
+   of another type is reported that dcsctp_unrecognized_.. says to report, whole, in order and without its padding, up to the
+   first at which processing stops, and with it; what comes after the first whose length is impossible isn't looked at. `end` is
+   set to where your program stops: the offset, in `bytes` or in `list`, of the chunk or the parameter at which processing
+   stops, or their length if it stops at none. They return DCSCTP_OK; or change nothing, and return DCSCTP_BAD_PLACE as the
+   functions above do, else DCSCTP_NO_ROOM where the packet has no room for all. */
+
+/* Adds to the INIT ACK that begins at `start` an Unrecognized Parameter (section 3.3.3.1.2) for each parameter of an INIT that
+   is reported (section 3.2.2). `list` are the INIT's parameters: from dcsctp_list_offset on, up to the end of its value. */
+uint32_t dcsctp_add_unrecognized_parameters(uint8_t *packet, size_t room, size_t *size, size_t start, const uint8_t *list,
+                                            size_t list_size, const uint16_t *known, size_t known_count, size_t *end);
+
+/* Adds an ERROR with a cause Unrecognized Chunk Type (section 3.3.10.6) for each chunk of a packet that is reported (section
+   3.2); no ERROR if there is none. `bytes` are the packet that came. */
+uint32_t dcsctp_add_unrecognized_chunks(uint8_t *packet, size_t room, size_t *size, const uint8_t *bytes, size_t length,
+                                        const uint8_t *known, size_t known_count, size_t *end);
+
 /* What you know of an association before you look at the tag of a packet. */
 struct dcsctp_association {
     uint32_t own_tag;   /* the initiate tag that you sent */
@@ -732,6 +749,44 @@ uint32_t dcsctp_init_refusal(uint32_t fault, bool is_ack, bool in_cookie_wait);
    nothing, and returns DCSCTP_BAD_VALUE for a number that is no fault's, else DCSCTP_NO_ROOM. */
 uint32_t dcsctp_init_abort(uint8_t *packet, size_t room, size_t *size, const struct dcsctp_header *header,
                            uint32_t initiate_tag, uint32_t fault);
+
+/* ---- the rules that a packet breaks
+
+   Rules of the RFCs beyond what dcsctp_check looks at, which accepts a packet that breaks them: those that sctp_dump --check
+   names. The section of each says what is done with such a packet, if anything is. */
+
+/* A rule, as a bit: what breaks it, and the section that gives it. */
+enum dcsctp_rule {
+    DCSCTP_RULE_PORT_ZERO = 0x1,            /* a port is 0 (RFC 9260 section 3.1) */
+    DCSCTP_RULE_INIT_ALONE = 0x2,           /* INIT, INIT ACK or SHUTDOWN COMPLETE isn't alone (RFC 9260 section 6.10) */
+    DCSCTP_RULE_INIT_TAG = 0x4,             /* INIT has a verification tag other than 0 (RFC 9260 section 8.5.1) */
+    DCSCTP_RULE_TAG_ZERO = 0x8,             /* the verification tag is 0 without INIT alone (RFC 9260 section 8.5.1) */
+    DCSCTP_RULE_INITIATE_TAG_ZERO = 0x10,   /* the Initiate Tag is 0 (RFC 9260 sections 3.3.2 and 3.3.3) */
+    DCSCTP_RULE_NO_STREAMS = 0x20,          /* the number of outbound or inbound streams is 0 (RFC 9260 sections 3.3.2 and 3.3.3) */
+    DCSCTP_RULE_SMALL_WINDOW = 0x40,        /* INIT or INIT ACK advertises a window below 1,500 bytes (RFC 9260 section 6) */
+    DCSCTP_RULE_INIT_ACK_COOKIE = 0x80,     /* INIT ACK has no State Cookie (RFC 9260 section 3.3.3) */
+    DCSCTP_RULE_HEARTBEAT_INFO = 0x100,     /* HEARTBEAT has no Heartbeat Info (RFC 9260 section 3.3.5) */
+    DCSCTP_RULE_NO_USER_DATA = 0x200,       /* DATA or I-DATA has no user data (RFC 9260 section 6.2) */
+    DCSCTP_RULE_DATA_BESIDE_IDATA = 0x400,  /* an association has both DATA and I-DATA (RFC 8260 section 2.2.1) */
+    DCSCTP_RULE_GAP_BLOCKS = 0x800,         /* gap ack blocks are empty, out of order or not isolated (RFC 9260 section 3.3.4) */
+    DCSCTP_RULE_RESERVED_BITS = 0x1000,     /* reserved flags are set (RFC 9260 section 3.2) */
+    DCSCTP_RULE_ZERO_CHECKSUM = 0x2000,     /* the checksum is 0 where a CRC32c is required (RFC 9653 section 5.2) */
+    DCSCTP_RULE_COOKIE_ECHO_FIRST = 0x4000, /* COOKIE ECHO isn't the first chunk (RFC 9260 section 5.1) */
+    DCSCTP_RULE_CONTROL_FIRST = 0x8000,     /* a control chunk comes after user data (RFC 9260 section 6.10) */
+    DCSCTP_RULE_AFTER_ABORT = 0x10000,      /* a chunk comes after ABORT (RFC 9260 section 3.3.7) */
+    DCSCTP_RULE_DATA_WITH_ABORT = 0x20000   /* user data is bundled with ABORT (RFC 9260 section 3.3.7) */
+};
+
+/* What you know of the association that a packet belongs to. All false: nothing. */
+struct dcsctp_known {
+    bool refuses_zero; /* the end that it goes to sent INIT or INIT ACK without Zero Checksum Acceptable (RFC 9653 section 4) */
+    bool has_data;     /* an end sent DATA */
+    bool has_i_data;   /* an end sent I-DATA */
+};
+
+/* Returns the rules that a packet breaks, each as its bit; zero if it breaks none. Its common header and its chunks are looked
+   at, up to the first chunk whose length is impossible: what can't be read breaks no rule. Its CRC32c is computed here. */
+uint32_t dcsctp_broken_rules(const uint8_t *packet, size_t length, const struct dcsctp_known *known);
 
 /* ---- what is authenticated, under keys of yours
 
@@ -842,6 +897,58 @@ static inline const char *dcsctp_result_text(uint32_t result)
     case DCSCTP_BAD_VALUE: return "a value that can't be written";
     case DCSCTP_BAD_PLACE: return "not the end of a packet, or not its last chunk";
     default: return "unknown result";
+    }
+}
+
+/* Returns the name of a rule, one bit, as sctp_dump writes it, or "unknown". */
+static inline const char *dcsctp_rule_name(uint32_t rule)
+{
+    switch (rule) {
+    case DCSCTP_RULE_PORT_ZERO: return "port-zero";
+    case DCSCTP_RULE_INIT_ALONE: return "init-alone";
+    case DCSCTP_RULE_INIT_TAG: return "init-tag";
+    case DCSCTP_RULE_TAG_ZERO: return "tag-zero";
+    case DCSCTP_RULE_INITIATE_TAG_ZERO: return "initiate-tag-zero";
+    case DCSCTP_RULE_NO_STREAMS: return "no-streams";
+    case DCSCTP_RULE_SMALL_WINDOW: return "small-window";
+    case DCSCTP_RULE_INIT_ACK_COOKIE: return "init-ack-cookie";
+    case DCSCTP_RULE_HEARTBEAT_INFO: return "heartbeat-info";
+    case DCSCTP_RULE_NO_USER_DATA: return "no-user-data";
+    case DCSCTP_RULE_DATA_BESIDE_IDATA: return "data-beside-idata";
+    case DCSCTP_RULE_GAP_BLOCKS: return "gap-blocks";
+    case DCSCTP_RULE_RESERVED_BITS: return "reserved-bits";
+    case DCSCTP_RULE_ZERO_CHECKSUM: return "zero-checksum";
+    case DCSCTP_RULE_COOKIE_ECHO_FIRST: return "cookie-echo-first";
+    case DCSCTP_RULE_CONTROL_FIRST: return "control-first";
+    case DCSCTP_RULE_AFTER_ABORT: return "after-abort";
+    case DCSCTP_RULE_DATA_WITH_ABORT: return "data-with-abort";
+    default: return "unknown";
+    }
+}
+
+/* Returns what breaks a rule, one bit, in a few words, or "unknown". */
+static inline const char *dcsctp_rule_text(uint32_t rule)
+{
+    switch (rule) {
+    case DCSCTP_RULE_PORT_ZERO: return "a port is 0";
+    case DCSCTP_RULE_INIT_ALONE: return "INIT, INIT ACK or SHUTDOWN COMPLETE isn't alone";
+    case DCSCTP_RULE_INIT_TAG: return "INIT has a verification tag other than 0";
+    case DCSCTP_RULE_TAG_ZERO: return "the verification tag is 0 without INIT alone";
+    case DCSCTP_RULE_INITIATE_TAG_ZERO: return "the Initiate Tag is 0";
+    case DCSCTP_RULE_NO_STREAMS: return "the number of outbound or inbound streams is 0";
+    case DCSCTP_RULE_SMALL_WINDOW: return "INIT or INIT ACK advertises a window below 1,500 bytes";
+    case DCSCTP_RULE_INIT_ACK_COOKIE: return "INIT ACK has no State Cookie";
+    case DCSCTP_RULE_HEARTBEAT_INFO: return "HEARTBEAT has no Heartbeat Info";
+    case DCSCTP_RULE_NO_USER_DATA: return "DATA or I-DATA has no user data";
+    case DCSCTP_RULE_DATA_BESIDE_IDATA: return "an association has both DATA and I-DATA";
+    case DCSCTP_RULE_GAP_BLOCKS: return "gap ack blocks are empty, out of order or not isolated";
+    case DCSCTP_RULE_RESERVED_BITS: return "reserved flags are set";
+    case DCSCTP_RULE_ZERO_CHECKSUM: return "the checksum is 0 where a CRC32c is required";
+    case DCSCTP_RULE_COOKIE_ECHO_FIRST: return "COOKIE ECHO isn't the first chunk";
+    case DCSCTP_RULE_CONTROL_FIRST: return "a control chunk comes after user data";
+    case DCSCTP_RULE_AFTER_ABORT: return "a chunk comes after ABORT";
+    case DCSCTP_RULE_DATA_WITH_ABORT: return "user data is bundled with ABORT";
+    default: return "unknown";
     }
 }
 

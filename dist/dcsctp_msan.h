@@ -242,6 +242,21 @@ DCSCTP_MSAN_ADD(dcsctp_add_registered_cause,
 DCSCTP_MSAN(uint32_t, dcsctp_unrecognized_chunk, (uint8_t type), (type), DCSCTP_MSAN_READS_NUMBERS(type), DCSCTP_MSAN_NOTHING)
 DCSCTP_MSAN(uint32_t, dcsctp_unrecognized_parameter, (uint16_t type), (type), DCSCTP_MSAN_READS_NUMBERS(type),
             DCSCTP_MSAN_NOTHING)
+/* Those that report what isn't recognized. */
+#define DCSCTP_MSAN_REPORT(name, declared, passed, before)                                                               \
+    DCSCTP_MSAN(uint32_t, name, declared, passed, before; DCSCTP_MSAN_READS(&room, 1); const size_t old = *size,          \
+                DCSCTP_MSAN_WRITES(returned == DCSCTP_OK, packet + old, *size - old);                                    \
+                DCSCTP_MSAN_WRITES(returned == DCSCTP_OK, end, 1))
+DCSCTP_MSAN_REPORT(dcsctp_add_unrecognized_parameters,
+                   (DCSCTP_MSAN_TO, size_t start, const uint8_t *list, size_t list_size, const uint16_t *known,
+                    size_t known_count, size_t *end),
+                   (packet, room, size, start, list, list_size, known, known_count, end), DCSCTP_MSAN_READS_NUMBERS(start);
+                   DCSCTP_MSAN_READS(list, list_size); DCSCTP_MSAN_READS(known, known_count))
+DCSCTP_MSAN_REPORT(dcsctp_add_unrecognized_chunks,
+                   (DCSCTP_MSAN_TO, const uint8_t *bytes, size_t length, const uint8_t *known, size_t known_count, size_t *end),
+                   (packet, room, size, bytes, length, known, known_count, end), DCSCTP_MSAN_READS_PACKET(bytes, length);
+                   DCSCTP_MSAN_READS(known, known_count))
+
 DCSCTP_MSAN(uint32_t, dcsctp_verify_tag,
             (const uint8_t *packet, size_t length, const struct dcsctp_association *association), (packet, length, association),
             DCSCTP_MSAN_READS_PACKET(packet, length); DCSCTP_MSAN_READS_FIELDS(association, own_tag, own_tag);
@@ -254,6 +269,8 @@ DCSCTP_MSAN(uint32_t, dcsctp_init_fault, (const uint8_t *packet, size_t length, 
             DCSCTP_MSAN_READS_PACKET(packet, length); DCSCTP_MSAN_READS_NUMBERS(is_ack), DCSCTP_MSAN_NOTHING)
 DCSCTP_MSAN(uint32_t, dcsctp_init_refusal, (uint32_t fault, bool is_ack, bool in_cookie_wait), (fault, is_ack, in_cookie_wait),
             DCSCTP_MSAN_READS_NUMBERS(fault ^ is_ack ^ in_cookie_wait), DCSCTP_MSAN_NOTHING)
+DCSCTP_MSAN(uint32_t, dcsctp_broken_rules, (const uint8_t *packet, size_t length, const struct dcsctp_known *known),
+            (packet, length, known), DCSCTP_MSAN_READS(packet, length); DCSCTP_MSAN_READS(known, 1), DCSCTP_MSAN_NOTHING)
 DCSCTP_MSAN(bool, dcsctp_is_listed, (const uint8_t *list, size_t list_size, uint8_t type), (list, list_size, type),
             DCSCTP_MSAN_READS(list, list_size); DCSCTP_MSAN_READS_NUMBERS(type), DCSCTP_MSAN_NOTHING)
 DCSCTP_MSAN(bool, dcsctp_verify_auth, (const uint8_t *key, size_t key_size, const uint8_t *bytes, size_t length),
