@@ -255,11 +255,11 @@ struct go_reported {
 
 /* The list is that of a chunk, and where the program stops an offset of its packet. */
 static inline struct go_reported go_add_unrecognized_parameters(TO, size_t start, const uint8_t *bytes, size_t length,
-                                                                struct dcsctp_chunk chunk, const uint16_t *known,
+                                                                const struct dcsctp_chunk *chunk, const uint16_t *known,
                                                                 size_t known_count)
 {
     struct go_reported reported = {{0, size}, 0};
-    size_t last = chunk.value_offset + chunk.value_size, first = dcsctp_list_offset(&chunk);
+    size_t last = chunk->value_offset + chunk->value_size, first = dcsctp_list_offset(chunk);
     if (last > length || first > last) /* (as of a Chunk that was changed) */
         first = last = 0;
     reported.result.code =

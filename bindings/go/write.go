@@ -220,9 +220,10 @@ func (b *Builder) AddUnrecognizedParameters(init Chunk, known []ParameterType) (
 	to, room := b.to()
 	init.packet = b.apart(init.packet)
 	from, length, chunk := init.inC()
-	reported := C.go_add_unrecognized_parameters(to, room, b.size, b.start, from, length, chunk, (*C.uint16_t)(first(known)),
+	reported := C.go_add_unrecognized_parameters(to, room, b.size, b.start, from, length, &chunk, (*C.uint16_t)(first(known)),
 		C.size_t(len(known)))
-	return int(reported.end), b.extended(reported.result)
+	err := b.extended(reported.result)
+	return int(reported.end), err
 }
 
 // AddUnrecognizedChunks adds an ERROR with a cause Unrecognized Chunk Type (section 3.3.10.6) for each chunk of a packet that came
@@ -234,10 +235,12 @@ func (b *Builder) AddUnrecognizedChunks(came Packet, known []ChunkType) (int, er
 	came = b.apart(came)
 	reported := C.go_add_unrecognized_chunks(to, room, b.size, bytesOf(came), C.size_t(len(came)), (*C.uint8_t)(first(known)),
 		C.size_t(len(known)))
+	take := b.added
 	if reported.result.size == b.size {
-		return int(reported.end), b.extended(reported.result)
+		take = b.extended
 	}
-	return int(reported.end), b.added(reported.result)
+	err := take(reported.result)
+	return int(reported.end), err
 }
 
 func (b *Builder) to() (*C.uint8_t, C.size_t) { return bytesOf(b.buffer), C.size_t(len(b.buffer)) }

@@ -201,7 +201,7 @@ impl Rules {
     /// use davgyuti::{Known, Rule, broken_rules};
     ///
     /// let rules = broken_rules(&[0; 12], &Known::default());
-    /// assert_eq!(rules.bits(), Rule::PortZero.number() | Rule::TagZero.number());
+    /// assert_eq!(rules.bits(), Rule::PortZero.number());
     /// ```
     #[must_use]
     pub const fn bits(&self) -> u32 {
