@@ -48,6 +48,9 @@ SECTIONS = [
 # Traits that say nothing to a caller: what every type has, what the proofs see of a type, and those of the libraries themselves.
 UNLISTED = {'Drop', 'Model', 'Field', 'Kind', 'ListedTlv', 'ReadableTlv', 'Widths'}
 
+# Modules that are public for the tool's crates alone: what they have is named at the end.
+FOR_THE_TOOL = [r'dcsctp_receive::(chunk_test|chunk_type|fields)\b']
+
 # What the doc comment of a public function begins with. One verb says one thing: a call returns, and doesn't give or yield.
 VERBS = set('''
     Accepts Adds Appends Begins Brings Builds Checks Copies Counts Drops Ends Fills Finds Forgets Hands Keeps Locates Makes Notes Opens
@@ -230,6 +233,20 @@ def implementations():
 IMPLEMENTATIONS = implementations()
 
 
+def public_types():
+    """The names of the types that any library has for others."""
+    found = set()
+    for crate in LIBRARIES:
+        for place, _, files in os.walk(os.path.join(ROOT, 'crates', crate, 'src')):
+            for file in files:
+                text = '\n'.join(lines_of(os.path.join(place, file))) if file.endswith('.rt') else ''
+                found.update(re.findall(r'^pub (?:struct|enum) (\w+)', text, re.M))
+    return found
+
+
+PUBLIC_TYPES = public_types()
+
+
 def traits_of(lines, at, name):
     """The traits that a type has: derived at its item, or by an `impl`."""
     text, found = '', [trait for trait, owner in IMPLEMENTATIONS if owner == name]
@@ -243,7 +260,7 @@ def traits_of(lines, at, name):
 
 
 def implementors_of(trait):
-    return sorted({owner for it, owner in IMPLEMENTATIONS if re.sub('<.*', '', it) == trait})
+    return sorted({owner for it, owner in IMPLEMENTATIONS if re.sub('<.*', '', it) == trait and owner in PUBLIC_TYPES})
 
 
 def paths_of():
@@ -265,6 +282,8 @@ def paths_of():
 def path_in_program(name, paths):
     """The path of a module or an item in a program, or nothing if it has none."""
     parts = name.split('::')
+    if any(re.match(it, name) for it in FOR_THE_TOOL):
+        return ''
     if parts[0] in LIBRARIES[:7]:
         return name
     for size in range(len(parts), 1, -1):
