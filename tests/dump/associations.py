@@ -3,7 +3,8 @@
 """usage: tests/dump/associations.py [--seed 1] [--into FOLDER] [--together] [--model] PROGRAM [CAPTURE ..]
        tests/dump/associations.py --write | --help
 
-Compares what sctp_dump says of a capture's associations, and of each packet's place in them, with a model over tshark's dissection.
+Compares what sctp_dump says of a capture's associations and their paths, and of each packet's place in them, with a model over
+tshark's dissection.
 
   --seed 1       the seed of the captures that are drawn
   --into FOLDER  keeps the captures that are made
@@ -45,7 +46,7 @@ REQUESTS, RESPONSE = (13, 14, 15, 17, 18), 16
 ADDRESSES = {5: 'sctp.parameter_ipv4_address', 6: 'sctp.parameter_ipv6_address'}
 TOPICS, REFUSAL, GRANT = {0xc001: 'added', 0xc002: 'deleted', 0xc004: 'primary'}, 0xc003, 0xc005
 STALE_COOKIE = 3
-MOST_WAITING, MOST_ADDRESSES, MOST_ANNOUNCED = 16, 4, 8
+MOST_WAITING, MOST_ADDRESSES, MOST_ANNOUNCED, MOST_PATHS = 16, 4, 8, 16
 
 
 # ---- the model (RFC 9260), over tshark's fields
@@ -104,8 +105,44 @@ def after(tsn, other):
     return 0 < (tsn - other) % 2 ** 32 < 2 ** 31
 
 
-class End:
+class Trips:
+    """Round trips of DATA, and the TSNs that are awaited."""
+
+    def __init__(self):
+        self.waiting, self.trips = {}, []
+
+    def wait(self, tsn, time):
+        if len(self.waiting) < MOST_WAITING:
+            self.waiting[tsn] = time
+
+    def leave(self, tsn):
+        self.waiting.pop(tsn, None)
+
+    def skip(self, tsn):
+        for waiting in [one for one in self.waiting if not after(one, tsn)]:
+            del self.waiting[waiting]
+
+    def acknowledged(self, cumulative, blocks, packet, time):
+        for tsn in list(self.waiting):
+            offset = (tsn - cumulative) % 2 ** 32
+            if offset == 0 or offset >= 2 ** 31 or any(first <= offset <= last for first, last in blocks):
+                sent = self.waiting.pop(tsn)
+                if sent <= time:
+                    self.trips.append((time - sent, packet, tsn))
+
+
+class Path(Trips):
+    """What one end sent from one address to another."""
+
+    def __init__(self, packet):
+        super().__init__()
+        self.packets = self.refused = self.zero = self.wrong = self.chunks = self.i_data = self.bytes = self.inits = 0
+        self.first, self.last, self.repeated, self.sent, self.pending = packet, packet, 0, 0, []
+
+
+class End(Trips):
     def __init__(self, port):
+        super().__init__()
         self.addresses, self.port, self.tags = [], port, []
         self.packets = self.refused = self.zero = self.wrong = self.chunks = self.bytes = 0
         self.seen, self.first, self.last, self.repeated, self.first_repeated = set(), None, None, 0, None
@@ -113,7 +150,6 @@ class End:
         self.window = self.cumulative = None
         self.closed = []
         self.sent, self.pending = 0, []
-        self.waiting, self.trips = {}, []
         self.inits = self.i_data = self.forward_tsns = self.abandoned = self.requests = 0
         # skipped: how many TSNs, up to which, by which packet
         self.skipped, self.asked = None, []
@@ -129,14 +165,13 @@ class End:
             self.repeated += 1
             self.first_repeated = self.first_repeated or packet
             self.first_repeated_tsn = tsn % 2 ** 32 if self.repeated == 1 else self.first_repeated_tsn
-            self.waiting.pop(tsn % 2 ** 32, None)
+            self.leave(tsn % 2 ** 32)
             return 'repeated', 1
         self.seen.add(tsn)
         ahead = 1 if self.last is None else tsn - self.last
         self.first = tsn if self.first is None else min(self.first, tsn)
         self.last = tsn if self.last is None else max(self.last, tsn)
-        if len(self.waiting) < MOST_WAITING:
-            self.waiting[tsn % 2 ** 32] = time
+        self.wait(tsn % 2 ** 32, time)
         return ('missing', ahead - 1) if ahead > 0 else ('late', 1)
 
     def note_acknowledged(self, tsn, packet):
@@ -158,8 +193,7 @@ class End:
             self.skipped = advance, tsn, packet
         elif after(tsn, self.skipped[1]):
             self.skipped = self.skipped[0] + advance, tsn, packet
-        for waiting in [one for one in self.waiting if not after(one, tsn)]:
-            del self.waiting[waiting]
+        self.skip(tsn)
 
     def ask(self, request, packet):
         """One with the number of one of the last 8 is that one, sent again."""
@@ -209,19 +243,23 @@ class End:
                 one[2] = True
                 break
 
-    def acknowledged(self, cumulative, blocks, packet, time):
-        for tsn in list(self.waiting):
-            offset = (tsn - cumulative) % 2 ** 32
-            if offset == 0 or offset >= 2 ** 31 or any(first <= offset <= last for first, last in blocks):
-                sent = self.waiting.pop(tsn)
-                if sent <= time:
-                    self.trips.append((time - sent, packet, tsn))
-
 
 class Association:
     def __init__(self, number, packet, time, chunk, ends, restart_of):
         self.number, self.packet, self.time, self.chunk, self.ends = number, packet, time, chunk, ends
         self.restart_of, self.ended, self.last, self.established, self.strays = restart_of, None, time, None, 0
+        # by the sender's side and both addresses, in the order of their first packets, and how many packets went on others
+        self.paths, self.other_paths = {}, 0
+
+    def path(self, side, packet):
+        """Returns the path of a packet; None if there is no room for it."""
+        way = side, packet['route'][0][0], packet['route'][1][0]
+        if way not in self.paths and len(self.paths) < MOST_PATHS:
+            self.paths[way] = Path(packet)
+        return self.paths.get(way)
+
+    def paths_of(self, side):
+        return [path for way, path in self.paths.items() if way[0] == side]
 
 
 class Model:
@@ -314,21 +352,59 @@ class Model:
         for end, address in zip((sender, receiver), (place[0] for place in packet['route'])):
             if address and address not in end.addresses:
                 end.addresses.append(address)
-        sender.packets += 1
-        sender.refused += packet['refused']
-        sender.zero += packet['checksum'] == 'zero'
-        sender.wrong += packet['checksum'] == 'wrong'
+        path = association.path(side, packet)
+        association.other_paths += not path
+        for one in filter(None, (sender, path)):
+            one.packets += 1
+            one.refused += packet['refused']
+            one.zero += packet['checksum'] == 'zero'
+            one.wrong += packet['checksum'] == 'wrong'
+        # where there is no room for a path nothing else is counted of it
+        path = path or Path(packet)
+        path.last = packet
         for kind, value in packet['chunks']:
             self.count_chunk(association, side, packet, kind, value)
+            self.count_on_path(association, side, path, packet, kind, value)
             if kind in (DATA, I_DATA):
                 key, count = sender.tsn(value[0], packet['number'], packet['time'])
                 steps[key] += count
+                if key == 'repeated':
+                    path.repeated += 1
+                    for one in association.paths_of(side):
+                        one.leave(value[0])
+                else:
+                    path.wait(value[0], packet['time'])
             if kind == COOKIE_ACK or kind in (SACK, NR_SACK) and receiver.chunks:
                 association.established = association.established or (packet['number'], packet['time'], kind)
         for one in sender.announced:
             one['used'] |= one['address'] == packet['route'][0][0]
         association.last = packet['time']
         return steps
+
+    @staticmethod
+    def count_on_path(association, side, path, packet, kind, value):
+        path.inits += kind == INIT
+        if kind in (DATA, I_DATA):
+            path.chunks += 1
+            path.i_data += kind == I_DATA
+            path.bytes += value[1]
+        elif kind in (SACK, NR_SACK, SHUTDOWN):
+            cumulative, blocks = (value, ()) if kind == SHUTDOWN else (value[0], value[2])
+            for one in association.paths_of(1 - side):
+                one.acknowledged(cumulative, blocks, packet['number'], packet['time'])
+        elif kind in (FORWARD_TSN, I_FORWARD_TSN):
+            for one in association.paths_of(side):
+                one.skip(value[0])
+        elif kind == HEARTBEAT:
+            path.sent += 1
+            path.pending.append((value, packet['number']))
+        elif kind == HEARTBEAT_ACK:
+            # the first of the paths on which such a HEARTBEAT is awaited
+            for one in association.paths_of(1 - side):
+                found = [sent for sent in one.pending if sent[0] == value]
+                if found:
+                    one.pending.remove(found[0])
+                    break
 
     def count_chunk(self, association, side, packet, kind, value):
         sender, receiver, number = association.ends[side], association.ends[1 - side], packet['number']
@@ -488,7 +564,7 @@ def packets(path, refused, file=0):
         yield {'number': (file, frame), 'time': nanoseconds(fields['frame.time_epoch'][0]), 'key': key, 'checksum': checksum,
                'tag': number(fields['sctp.verification_tag'][0]), 'types': types, 'chunks': chunks, 'initiate': initiate,
                'reflected': reflected, 'route': ((source, key[0]), (destination, key[1])),
-               'refused': frame in refused}
+               'refused': frame in refused, 'fields': fields}
 
 
 def modelled(paths, refused):
@@ -572,13 +648,39 @@ def expected_end(end, digits, paths):
     one.update(requests=end.requests, requests_unanswered=len(open_requests))
     if open_requests:
         one.update(at(open_requests[-1], 'last_request_unanswered'))
-    if end.trips:
-        times = sorted(time for time, _, _ in end.trips)
-        greatest = next(packet for time, packet, _ in end.trips if time == times[-1])
-        tsns = {tsn for time, packet, tsn in end.trips if packet == greatest and time == times[-1]}
-        one['round_trip'] = {'count': len(times), 'least': seconds(times[0], digits),
-                             'median': times[(len(times) - 1) // 2], 'greatest': seconds(times[-1], digits),
-                             'greatest_tsn': tsns, **at(greatest, 'greatest_packet')}
+    one.update(expected_trips(end, digits, at))
+    return one
+
+
+def expected_trips(end, digits, at):
+    """Returns what the program should print of round trips."""
+    if not end.trips:
+        return {}
+    times = sorted(time for time, _, _ in end.trips)
+    greatest = next(packet for time, packet, _ in end.trips if time == times[-1])
+    tsns = {tsn for time, packet, tsn in end.trips if packet == greatest and time == times[-1]}
+    return {'round_trip': {'count': len(times), 'least': seconds(times[0], digits),
+                           'median': times[(len(times) - 1) // 2], 'greatest': seconds(times[-1], digits),
+                           'greatest_tsn': tsns, **at(greatest, 'greatest_packet')}}
+
+
+def expected_path(way, path, digits, paths):
+    """Returns what the program should print of a path."""
+    def at(packet, key):
+        return packet_keys(packet, key, key.replace('_packet', '') + '_file', paths)
+
+    def moment(packet):
+        return {**packet_keys(packet['number'], 'packet', 'file', paths), 'time': seconds(packet['time'], digits)}
+
+    one = {'end': way[0], 'first': moment(path.first), 'last': moment(path.last), 'packets': path.packets, 'refused': path.refused,
+           'zero_checksums': path.zero, 'wrong_checksums': path.wrong, 'inits': path.inits, 'data': path.chunks,
+           'i_data': path.i_data, 'bytes': path.bytes, 'repeated': path.repeated, 'heartbeats': path.sent,
+           'heartbeats_unanswered': len(path.pending)}
+    if way[1]:
+        one.update({'from': way[1], 'to': way[2]})
+    if path.pending:
+        one.update(at(path.pending[0][1], 'first_unanswered'), **at(path.pending[-1][1], 'last_unanswered'))
+    one.update(expected_trips(path, digits, at))
     return one
 
 
@@ -613,6 +715,9 @@ def expected(model, digits, paths):
             line['duration'] = seconds(last - association.time, digits)
         if association.strays:
             line['out_of_the_blue'] = association.strays
+        line['paths'] = [expected_path(way, path, digits, paths) for way, path in association.paths.items()]
+        if association.other_paths:
+            line['packets_on_other_paths'] = association.other_paths
         yield line
 
 
@@ -646,7 +751,7 @@ def differences(path, want, got, checks_refused):
 def compare(paths, program, refused):
     """Compares a capture, of one file or several, and returns the number of associations and of those that differ."""
     name = ' '.join(os.path.basename(path) for path in paths)
-    run = subprocess.run([program, '--json', '--associations', *paths], stdout=subprocess.PIPE, text=True, check=False)
+    run = subprocess.run([program, '--json', '--paths', *paths], stdout=subprocess.PIPE, text=True, check=False)
     # a number with a fraction is kept as it is written
     lines = [json.loads(line, parse_float=str) for line in run.stdout.splitlines()]
     got, model = [it for it in lines if 'ends' in it], modelled(paths, refused or ())
@@ -900,9 +1005,39 @@ def heartbeats():
 def homes():
     capture = Capture('homes')
     tags = handshake(capture)
-    for step in range(7):
+    for step in range(9):
         capture.add((100 + step, 36412), (200 + step % 2, 40000), tags[1], data(1000 + step))
         capture.add((200 + step % 2, 40000), (100 + step, 36412), tags[0], sack(1000 + step))
+    return capture
+
+
+def two_paths():
+    """Two paths: DATA that is sent again and acknowledged on the other one, and HEARTBEATs, of which one path loses most."""
+    capture = Capture('paths')
+    tags = handshake(capture)
+    a, b = (9, A[1]), (10, B[1])
+    capture.add(A, B, tags[1], data(1000), data(1001), data(1002))
+    capture.add(b, a, tags[0], sack(1000), after=300)
+    capture.add(a, b, tags[1], data(1001), data(1003), after=1_000_000)
+    capture.add(B, A, tags[0], sack(1003), after=500)
+    # on the first path these are awaited, and skipped on the second
+    capture.add(A, B, tags[1], data(1004), data(1005))
+    capture.add(a, b, tags[1], forward_tsn(1004, (1,)))
+    capture.add(b, a, tags[0], sack(1005), after=700)
+    # of ten on the first path one is answered, of equal ones on both paths two, and all on the way back of the second
+    for step in range(10):
+        capture.add(A, B, tags[1], heartbeat(b'%d' % step))
+        capture.add(a, b, tags[1], heartbeat(b'other%d' % step))
+        capture.add(b, a, tags[0], heartbeat(b'other%d' % step, HEARTBEAT_ACK))
+    capture.add(b, a, tags[0], heartbeat(b'9', HEARTBEAT_ACK))
+    for one, other in ((a, b), (A, B)):
+        capture.add(one, other, tags[1], heartbeat(b'same'))
+    for _ in range(3):
+        capture.add(b, a, tags[0], heartbeat(b'same', HEARTBEAT_ACK))
+    # from the one to the other path's address: two further paths
+    capture.add(A, b, tags[1], data(1006), checksum='wrong')
+    capture.add(b, A, tags[0], data(2000, b'x', I_DATA))
+    shutdown(capture, tags, cumulative=2000)
     return capture
 
 
@@ -1188,7 +1323,7 @@ def run(given, folder):
     elif given.captures:
         captures = [([path], None) for path in given.captures]
     else:
-        cases = [case() for case in (plain, tsns, beginnings, endings, checksums, heartbeats, homes, abandoned, nr_sacks, requests,
+        cases = [case() for case in (plain, tsns, beginnings, endings, checksums, heartbeats, homes, two_paths, abandoned, nr_sacks, requests,
                                      announced, blue, back, whole)]
         cases += [drawn(given.seed), drawn(given.seed + 1)]
         captures = [([case.write(folder)], case.refused) for case in cases] + [(parts(folder), None)]

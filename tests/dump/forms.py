@@ -3,7 +3,7 @@
 """usage: tests/dump/forms.py PROGRAM
 
 Compares the three forms of what sctp_dump prints, which it writes apart: makes from its JSON the lines of --brief and the blocks,
-and looks whether it prints these, of its files in crates/sctp_dump/data and data/, of the packets in
+and looks whether it prints these, of its files in crates/sctp_dump/data and data/, under a key too, of the packets in
 examples/rules.txt, refused.txt and objects.py, and of one with each code, whose names it compares with names.txt. Prints what
 differs; status 0 if nothing does."""
 import collections
@@ -18,6 +18,7 @@ import sys
 import tempfile
 
 sys.dont_write_bytecode = True
+from auth import pcap, plain as with_auth, vectors
 from objects import DATA, ROOT, data, item, packet, with_texts
 
 COUNTS = (
@@ -100,6 +101,10 @@ def brief_chunk(chunk):
     return " ".join(word.replace(" ", "_") for word in words)
 
 
+def brief_type(name):
+    return name[-5:-1] if name.startswith("chunk type") else name.replace(" ", "_")
+
+
 def brief_end(seen, key, port, is_local):
     if "direction" in seen:
         name = f"({seen['transport']})" if "transport" in seen else ""
@@ -121,7 +126,8 @@ def brief(seen):
         line += " ! {kind} at {offset}: {reason}".format(**seen["fault"])
     elif "captured" in seen:
         line += " ! cut off"
-    return line
+    line += f" * AUTH {seen['auth']}" if "auth" in seen else ""
+    return line + (f" * unauthenticated {brief_type(seen['unauthenticated'])}" if "unauthenticated" in seen else "")
 
 
 # ---- blocks
@@ -229,6 +235,8 @@ def block(seen):
         row = at // 16 * 16
         text += f"\nerror: {seen['fault']['reason']}\nat byte {at}\n{row:04x}:"
         text += "".join(f" {byte:02x}" for byte in raw[row:row + 16]) + "\n" + " " * (6 + 3 * (at - row)) + "^^"
+    text += "\nauthentication: " + seen["auth"].replace("unknown", "not known") if "auth" in seen else ""
+    text += f"\nunauthenticated: {seen['unauthenticated']}" if "unauthenticated" in seen else ""
     return text + "\n"
 
 
@@ -337,12 +345,15 @@ def inputs():
         yield [*sorted(os.listdir(DATA)), odd], b""
     for name in sorted(glob.glob(f"{ROOT}/tests/dump/data/*.[lp]*")):
         yield [name], b""
+        yield ["--auth-key=0b", name], b""
     lines = [raw.hex() for raw in [*with_codes(), *(raw for _, raw in with_texts())]]
     for name, header in ("examples/rules.txt", ""), ("tests/dump/refused.txt", "138813890102030400000000 "):
         rows = [line.split(" = ")[0].split(" / ") for line in open(f"{ROOT}/{name}") if " = " in line and line[0] != "#"]
         lines += [header + row for row in sum(rows, [])]
     yield ["-"], "\n".join(lines).encode()
     yield ["-"], with_cuts()
+    for case in with_auth, vectors:
+        yield ["--auth-key=7:0badc0de", "-"], pcap(case(bytes.fromhex("0badc0de"), 7).packets)
 
 
 def differences(program):

@@ -115,7 +115,7 @@ def main():
     texts = "\n".join(raw.hex() for _, raw in with_texts()).encode()
     printed = []
     for words, given in ((sorted(os.listdir(DATA)), b""), (["-"], texts)):
-        words = [*words, "--associations", "--check"]
+        words = [*words, "--paths", "--check"]
         placed, plain = run(program, ["--places", *words], given), run(program, words, given)
         if len(placed) != len(plain):
             fail(str(words), "other lines with --places")

@@ -9,9 +9,9 @@ Runs the program over the rows of runs.txt, and compares all that it prints, and
 of its manual page, docs/sctp_dump.1, at which mandoc, if it is there, finds nothing wrong. Then tools/rules.py has it
 ask the rules of the packets of rules.txt in examples/, it has the chunks of refused.txt and the captures in data/, reports.py compares
 what it prints of the packets of reports.txt, faults.py looks at lengths that are refused, objects.py at its JSON, forms.py
-at its three forms, logs.py at associations of logs, times.py at times; where tshark is, associations.py at
-associations of captures, and tshark.py at packets; where scapy is, scapy.py at the same; fields.py compares the JSON and the
-Python package, of each field of a real stack'\''s packets, with tshark and scapy; and it has a table that is full, and inputs and
+at its three forms, logs.py at associations of logs, auth.py at AUTH, times.py at times; where tshark is, associations.py at
+associations of captures, messages.py at their messages, and tshark.py at packets; where scapy is, scapy.py at the same; fields.py
+compares the JSON and the Python package, of each field of a real stack'\''s packets, with tshark and scapy; and it has a table that is full, and inputs and
 outputs that fail. The last line is: dump: N passed, M failed. --quick leaves out the scripts, a word that isn'\''t UTF-8, and
 an output that is limited, for a program that runs in an emulator or under Wine.
 
@@ -192,11 +192,13 @@ judge 'lines that are too long' "${PIPESTATUS[1]}" 1
 # ---- JSON
 
 # Each line is an object, and each place holds the value of its key. Lines and blocks say the same. A log has the associations of
-# its capture, and captures have those of a model over tshark.
+# its capture, and captures have those of a model over tshark. AUTH is right where Python's HMAC is.
 look "$root/tests/dump/objects.py" "$program"
 look "$root/tests/dump/forms.py" "$program"
 look "$root/tests/dump/logs.py" "$program"
+look "$root/tests/dump/auth.py" "$program"
 look_with tshark "$root/tests/dump/associations.py" "$program"
+look_with tshark "$root/tests/dump/messages.py" "$program"
 
 # ---- blocks
 
@@ -280,6 +282,31 @@ second end sent packets 0: refused 0, checksums: zero 0, wrong 0
 WANTED
 judge 'more transports than are known by their names' $ended 0
 
+# ---- more fragments than are followed
+
+# DATA with these TSNs, each a message.
+messages() {
+    printf '138813890000000100000000 00030011 %08x 00010000 00000033 61000000\n' "$@"
+}
+
+# Of 1,026 messages 1,024 are followed; once all are acknowledged, there is room for the next one.
+{
+    messages {1..1026}
+    echo '138913880000000200000000 03000010 00000402 00010000 0000 0000' # SACK of 1026
+    messages 1027
+} | timeout 60 "$program" --messages 2>"$work/errors" >"$work/all"
+ended=${PIPESTATUS[1]}
+{
+    grep -c '^message of 1 > .*, acknowledged (packet 1027)$' "$work/all"
+    grep -v -e ', acknowledged (packet 1027)$' -e '^packets' "$work/all"
+} >"$work/printed"
+cat >"$work/wanted" <<'WANTED'
+1024
+message of 1 > stream 1, ssn 0, ppid 51 (WebRTC String), size 1, tsn 1027: sent (packet 1028), not acknowledged
+messages: DATA not followed 2, for which there was no room, or whose header isn't whole
+WANTED
+judge 'more fragments than are followed' "$ended" 0
+
 # ---- more addresses than are kept
 
 # An INIT with 3,000 addresses (of 24,020 bytes, in a packet of 24,032), twice: the first 8 are kept.
@@ -292,6 +319,18 @@ ended=${PIPESTATUS[1]}
     echo 'first end sent packets 2: refused 0, checksums: zero 2, wrong 0'
 } >"$work/wanted"
 judge 'more addresses than are kept' $ended 0
+
+# ---- more paths than are kept
+
+# Of 20 addresses a packet each to one: the paths of the first 16 are kept.
+printf '4500002400000000408400000a0000%02x0a000102 138813890000000500000000 0b000004\n' {1..20} |
+    timeout 60 "$program" --paths 2>"$work/errors" | grep -E '^path|^on other' >"$work/printed"
+ended=${PIPESTATUS[1]}
+{
+    printf 'path from 10.0.0.%d to 10.0.1.2: first end sent packets 1: refused 0, checksums: zero 1, wrong 0\n' {1..16}
+    echo 'on other paths packets 4'
+} >"$work/wanted"
+judge 'more paths than are kept' $ended 0
 
 # ---- an input that is waited for
 

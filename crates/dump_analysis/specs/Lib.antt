@@ -3,7 +3,9 @@ pub mod Announced
 pub mod Buckets
 pub mod Calendar
 pub mod Counts
+pub mod Messages
 pub mod Order
+pub mod Paths
 pub mod Questions
 pub mod RoundTrips
 pub mod Serial

@@ -5,6 +5,7 @@ ghost use Rattle.dump_capture.specs.Number.{one_more};
 ghost use Rattle.dump_analysis.specs.Counts.{CountsPacket, packet_of};
 ghost use Rattle.dump_analysis.specs.Sides.{counts_of, end_of, other};
 
+use crate::authentication::Authentication;
 use crate::chunk_type::{ABORT, COOKIE_ACK, INIT, NR_SACK, SACK, SHUTDOWN_COMPLETE};
 use crate::counts::SeenPacket;
 use crate::end::{End, Learned};
@@ -187,6 +188,26 @@ impl Association {
         self.last = packet.nanoseconds;
         sequence
     }
+
+    /// Counts what is found of AUTH in a packet that an end sent, and returns it.
+    pub fn authenticate(&mut self, sender: Side, packet: &SeenPacket<'_>) -> Authentication
+        ensures first { self.new.first.counts ≡ self.old.first.counts }
+        ensures second { self.new.second.counts ≡ self.old.second.counts }
+    {
+        match sender {
+            Side::First => authenticate_between(&mut self.first, &self.second, packet),
+            Side::Second => authenticate_between(&mut self.second, &self.first, packet),
+        }
+    }
+}
+
+/// Counts what is found of AUTH in a packet that one end sent to another, and returns it.
+fn authenticate_between(sender: &mut End, receiver: &End, packet: &SeenPacket<'_>) -> Authentication
+    ensures { sender.new.counts ≡ sender.old.counts }
+{
+    let found = Authentication::of(packet, &sender.vectors, &receiver.vectors);
+    sender.authentication.count(found);
+    found
 }
 
 /// Counts a packet that one end sent to another. Returns how its TSNs follow those before.

@@ -436,10 +436,12 @@ fn count_of(
 {
     let association = table.get_mut(flow.slot)?;
     let sequence = association.note(flow.sender, packet);
+    let authentication = association.authenticate(flow.sender, packet);
     Some(Membership {
         association: association.number,
         sender: flow.sender,
         sequence,
+        authentication,
     })
 }
 

@@ -9,6 +9,7 @@ use crate::chunk_type::{
     DATA, ERROR, FORWARD_TSN, HEARTBEAT, I_DATA, I_FORWARD_TSN, INIT, NR_SACK, SACK,
 };
 use crate::packet_number::PacketNumber;
+use crate::pair_key::PairKey;
 use crate::stale_cookies::StaleCookies;
 use dcsctp_borrowed::checksum::Checksum;
 use dcsctp_borrowed::part::{Item, Items, Part};
@@ -38,6 +39,8 @@ pub struct SeenPacket<'a> {
     pub is_refused: bool,
     /// Whether a filter passes it.
     pub passes: bool,
+    /// The endpoint pair shared key under which its AUTH is judged (RFC 4895), if one was given.
+    pub key: Option<PairKey>,
 }
 
 impl<'a> SeenPacket<'a> {

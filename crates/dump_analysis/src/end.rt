@@ -6,12 +6,14 @@ ghost use Rattle.dump_analysis.specs.Tsns.{Follows};
 
 use crate::acknowledgement::Acknowledgement;
 use crate::announced::{Announced, Announcements};
+use crate::authentication::AuthenticationCounts;
 use crate::chunk_type::{
     DATA, FORWARD_TSN, HEARTBEAT, HEARTBEAT_ACK, I_DATA, I_FORWARD_TSN, INIT, INIT_ACK, NR_SACK,
     RE_CONFIG, SACK,
 };
 use crate::counts::{Counts, SeenPacket};
 use crate::initiation::accepts_zero;
+use crate::key_vector::KeyVectors;
 use crate::packet_number::PacketNumber;
 use crate::requests::Requests;
 use crate::round_trips::RoundTrips;
@@ -77,6 +79,10 @@ pub struct End {
     /// Whether its INIT or INIT ACK announced Zero Checksum Acceptable (RFC 9653 section 4), if one
     /// was seen.
     pub accepts_zero: Option<bool>,
+    /// The key vectors that it announced (RFC 4895 section 6.1).
+    pub vectors: KeyVectors,
+    /// What is counted of AUTH in the packets that it sent.
+    pub authentication: AuthenticationCounts,
     /// What is counted of the packets that it sent.
     pub counts: Counts,
     /// The TSNs that it sent.
@@ -120,6 +126,8 @@ impl End {
             tag: None,
             other_tag: None,
             accepts_zero: None,
+            vectors: KeyVectors::new(),
+            authentication: AuthenticationCounts::new(),
             counts: Counts::new(),
             tsns: Tsns::new(),
             acknowledged: None,
@@ -190,7 +198,10 @@ impl End {
             }
             HEARTBEAT => self.heartbeats.ask(digest(value), packet.number),
             RE_CONFIG => self.requests.note_sent(chunk.value, packet.number),
-            INIT | INIT_ACK => self.accepts_zero = accepts_zero(chunk.value).or(self.accepts_zero),
+            INIT | INIT_ACK => {
+                self.accepts_zero = accepts_zero(chunk.value).or(self.accepts_zero);
+                self.vectors.note_sent(chunk.value);
+            }
             _ => {}
         }
         None

@@ -2,8 +2,13 @@
 
 use crate::announced::{Announced, Statement};
 use crate::association::{Association, Began, Ended, Established, Side};
+use crate::authentication_text::AuthenticationCountsJson;
+use crate::counts::Counts;
 use crate::end::End;
+use crate::moment::Moment;
 use crate::packet_number::{PacketKeys, PacketNumber, file_of};
+use crate::path::Path;
+use crate::paths::Paths;
 use crate::round_trips::RoundTrips;
 use crate::time::{TimeForm, TimeStyle};
 use crate::transport::Transport;
@@ -17,6 +22,8 @@ use std::fmt;
 pub struct AssociationJson<'a> {
     /// The association.
     pub association: &'a Association,
+    /// Its paths, if they are asked for.
+    pub paths: Option<&'a Paths>,
     /// How times are written.
     pub style: TimeStyle,
     /// The names of the files that were read: if there are several, a packet's number has its
@@ -50,6 +57,9 @@ impl<'a> fmt::Display for AssociationJson<'a> {
         let strays = association.out_of_the_blue;
         if strays > 0 {
             write!(f, ",\"out_of_the_blue\":{strays}")?;
+        }
+        if let Some(paths) = self.paths {
+            self.write_paths(paths, f)?;
         }
         f.write_str("}")
     }
@@ -100,10 +110,7 @@ impl<'a> AssociationJson<'a> {
         f.write_str(",\"ended\":{")?;
         self.write_first(ended.packet, ended.nanoseconds, f)?;
         write_chunk(ended.chunk, f)?;
-        let by = match ended.by {
-            Side::First => 0,
-            Side::Second => 1,
-        };
+        let by = index_of(ended.by);
         write!(f, ",\"by\":{by}")?;
         if let Some(code) = ended.cause {
             write!(f, ",\"cause\":{code}")?;
@@ -118,17 +125,74 @@ impl<'a> AssociationJson<'a> {
     fn write_end<W: fmt::Write>(&self, end: &End, f: &mut fmt::Formatter<W>) -> fmt::Result {
         f.write_str("{")?;
         write_addresses(end, f)?;
+        write_chunk_list(end, f)?;
         self.write_announced(end, f)?;
-        write_counts(end, f)?;
+        write_counts(&end.counts, f)?;
         self.write_tsns(end, f)?;
         self.write_skipped(end, f)?;
         self.write_sacks(end, f)?;
         self.write_heartbeats(end, f)?;
         self.write_requests(end, f)?;
         write_stale_cookies(end, f)?;
+        if end.authentication.are_some() {
+            let authentication = AuthenticationCountsJson(end.authentication);
+            write!(f, "{authentication}")?;
+        }
         if end.round_trips.count > 0 {
             self.write_round_trips(&end.round_trips, f)?;
         }
+        f.write_str("}")
+    }
+
+    /// Writes the paths, and how many packets went on those that found no room.
+    fn write_paths<W: fmt::Write>(&self, paths: &Paths, f: &mut fmt::Formatter<W>) -> fmt::Result {
+        f.write_str(",\"paths\":[")?;
+        let mut separator = "";
+        for path in &paths.list {
+            f.write_str(separator)?;
+            separator = ",";
+            self.write_path(path, f)?;
+        }
+        f.write_str("]")?;
+        let others = paths.others;
+        if others == 0 {
+            return Ok(());
+        }
+        write!(f, ",\"packets_on_other_paths\":{others}")
+    }
+
+    /// Writes what an end sent on a path.
+    fn write_path<W: fmt::Write>(&self, path: &Path, f: &mut fmt::Formatter<W>) -> fmt::Result {
+        let end = index_of(path.way.sender);
+        write!(f, "{{\"end\":{end}")?;
+        if let (Some(from), Some(to)) = (path.way.from, path.way.to) {
+            write!(f, ",\"from\":\"{from}\",\"to\":\"{to}\"")?;
+        }
+        self.write_moment("first", path.first, f)?;
+        self.write_moment("last", path.last, f)?;
+        write_counts(&path.counts, f)?;
+        let repeated = path.repeated;
+        let (sent, unanswered) = (path.counts.heartbeats, path.heartbeats.count);
+        write!(f, ",\"repeated\":{repeated},\"heartbeats\":{sent}")?;
+        write!(f, ",\"heartbeats_unanswered\":{unanswered}")?;
+        let (first, last) = (path.heartbeats.first(), path.heartbeats.last());
+        self.write_packet("first_unanswered", "first_unanswered_file", first, f)?;
+        self.write_packet("last_unanswered", "last_unanswered_file", last, f)?;
+        if path.round_trips.count > 0 {
+            self.write_round_trips(&path.round_trips, f)?;
+        }
+        f.write_str("}")
+    }
+
+    /// Writes an object with the number and the time of a packet.
+    fn write_moment<W: fmt::Write>(
+        &self,
+        key: &'static str,
+        moment: Moment,
+        f: &mut fmt::Formatter<W>,
+    ) -> fmt::Result {
+        write!(f, ",\"{key}\":{{")?;
+        self.write_first(moment.packet, moment.nanoseconds, f)?;
         f.write_str("}")
     }
 
@@ -357,6 +421,14 @@ impl<'a> AssociationJson<'a> {
     }
 }
 
+/// Returns the place of an end in the list of both.
+fn index_of(side: Side) -> u8 {
+    match side {
+        Side::First => 0,
+        Side::Second => 1,
+    }
+}
+
 /// Writes the transport, if it has a name; `null` if that isn't kept.
 fn write_transport<W: fmt::Write>(transport: &Transport, f: &mut fmt::Formatter<W>) -> fmt::Result {
     match transport {
@@ -373,6 +445,28 @@ fn write_transport<W: fmt::Write>(transport: &Transport, f: &mut fmt::Formatter<
 fn write_chunk<W: fmt::Write>(typ: u8, f: &mut fmt::Formatter<W>) -> fmt::Result {
     let name = ChunkName(typ);
     write!(f, ",\"chunk\":\"{name}\"")
+}
+
+/// Writes the chunk types that an end listed, if it listed some.
+fn write_chunk_list<W: fmt::Write>(end: &End, f: &mut fmt::Formatter<W>) -> fmt::Result {
+    let Some(vector) = end.vectors.last() else {
+        return Ok(());
+    };
+    let mut separator = ",\"chunk_list\":[";
+    for typ in vector.chunk_list() {
+        write!(f, "{separator}{{\"type\":{typ}")?;
+        let name = ChunkName(*typ);
+        if name.is_known() {
+            write!(f, ",\"name\":\"{name}\"")?;
+        }
+        f.write_str("}")?;
+        separator = ",";
+    }
+    if separator == "," {
+        f.write_str("]")
+    } else {
+        Ok(())
+    }
 }
 
 /// Writes what is counted of Stale Cookie causes, if there are some.
@@ -411,8 +505,7 @@ fn write_addresses<W: fmt::Write>(end: &End, f: &mut fmt::Formatter<W>) -> fmt::
 }
 
 /// Writes what is counted of packets and DATA.
-fn write_counts<W: fmt::Write>(end: &End, f: &mut fmt::Formatter<W>) -> fmt::Result {
-    let counts = &end.counts;
+fn write_counts<W: fmt::Write>(counts: &Counts, f: &mut fmt::Formatter<W>) -> fmt::Result {
     let (packets, refused) = (counts.packets, counts.refused);
     let (zero, wrong) = (counts.zero, counts.wrong);
     write!(f, ",\"packets\":{packets},\"refused\":{refused}")?;

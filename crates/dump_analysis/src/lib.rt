@@ -1,12 +1,15 @@
 //! What is found of a capture's packets beyond their grammar: which a filter passes (`filter`), how
 //! many break each rule of the RFCs (`warnings`), and which associations there were, in bounded
-//! memory (`associations`): how each began and ended, and what each of its ends sent.
+//! memory (`associations`): how each began and ended, and what each of its ends sent; what went on
+//! each of its paths (`details`), and what became of each user message (`messages`), where that is
+//! asked for.
 //!
 //! Every function reads a packet where it lies, as far as it can be read: refused and cut packets
 //! too. What a filter asks and what a rule says is defined by what is in a packet's header and
 //! chunks: in `specs/` and in those of `dcsctp_receive`. What is counted of a packet for an
 //! association is what `specs/` defines, and each packet is counted once: of one end of one
-//! association, or as unknown. The rest is proved safe and total: no clause says which association a
+//! association, or as unknown; and of an association on one path, or as on others. The rest is
+//! proved safe and total: no clause says which association a
 //! packet belongs to, nor what a text is.
 #![tactic(auto)]
 
@@ -14,18 +17,31 @@ mod acknowledgement;
 mod announced;
 mod association;
 mod associations;
+mod authentication;
+mod authentication_text;
 mod counts;
+mod details;
 mod end;
 pub mod filter;
+mod fragment;
 mod gone;
 mod initiation;
 mod json;
 mod key;
+mod key_vector;
 mod keys;
 pub mod laws;
 mod membership;
+mod message;
+mod message_report;
+mod messages;
+mod moment;
 mod order;
+mod outgoing;
 mod packet_number;
+mod pair_key;
+mod path;
+mod paths;
 mod report;
 mod requests;
 mod round_trips;
@@ -41,11 +57,25 @@ pub mod warnings;
 pub use crate::announced::{Announced, Announcements, RequestId, Statement};
 pub use crate::association::{Association, Began, Ended, Established, Side};
 pub use crate::associations::{Associations, Noted};
+pub use crate::authentication::{AuthVerdict, Authentication, AuthenticationCounts};
+pub use crate::authentication_text::{
+    AuthenticationBrief, AuthenticationCountsJson, AuthenticationJson, AuthenticationLines,
+};
 pub use crate::counts::{Counts, LeastWindow, SeenPacket};
+pub use crate::details::PathTable;
 pub use crate::end::{Acknowledged, Closed, End, Skipped};
+pub use crate::fragment::MessageKey;
 pub use crate::json::AssociationJson;
+pub use crate::key_vector::{KeyVector, KeyVectors};
 pub use crate::membership::{Membership, MembershipJson, Sequence};
+pub use crate::message::{Again, Fate, Message};
+pub use crate::message_report::{MessageJson, MessageReport};
+pub use crate::messages::Messages;
+pub use crate::moment::Moment;
 pub use crate::packet_number::{PacketNumber, PacketText};
+pub use crate::pair_key::PairKey;
+pub use crate::path::{Path, Way};
+pub use crate::paths::Paths;
 pub use crate::report::AssociationReport;
 pub use crate::requests::Requests;
 pub use crate::round_trips::RoundTrips;

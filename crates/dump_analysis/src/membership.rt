@@ -4,6 +4,7 @@ ghost use Rattle.std.specs.Prelude.{◌≡◌};
 ghost use Rattle.dump_analysis.specs.Tsns.{with_step};
 
 use crate::association::Side;
+use crate::authentication::Authentication;
 use crate::tsns::Step;
 use std::fmt;
 
@@ -50,6 +51,8 @@ pub struct Membership {
     pub sender: Side,
     /// How the packet's TSNs follow those before.
     pub sequence: Sequence,
+    /// What is found of AUTH in it.
+    pub authentication: Authentication,
 }
 
 /// It as keys of a JSON object, with a comma before each: `association`, and as `end` the sender's

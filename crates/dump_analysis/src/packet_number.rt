@@ -58,11 +58,8 @@ impl<'a> fmt::Display for PacketKeys<'a> {
     }
 }
 
-/// Returns the name of a packet's file, if there are several.
+/// Returns the name of a packet's file, if files have names.
 pub fn file_of<'a>(packet: PacketNumber, files: &'a [String]) -> Option<&'a str> {
-    if files.len() < 2 {
-        return None;
-    }
     match files.get(packet.file as usize) {
         Some(name) => Some(name.as_str()),
         None => None,

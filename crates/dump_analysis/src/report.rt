@@ -4,7 +4,12 @@ use crate::announced::{Announced, Statement};
 use crate::association::{Association, Began, Ended, Established, Side};
 use crate::counts::Counts;
 use crate::end::End;
+use crate::key_vector::KeyVectors;
+use crate::moment::Moment;
 use crate::packet_number::{PacketNumber, PacketText};
+use crate::path::Path;
+use crate::paths::Paths;
+use crate::round_trips::RoundTrips;
 use crate::time::TimeStyle;
 use crate::transport::Transport;
 use dump_text::names::{CauseName, ChunkName};
@@ -16,6 +21,8 @@ use std::fmt;
 pub struct AssociationReport<'a> {
     /// The association.
     pub association: &'a Association,
+    /// Its paths, if they are asked for.
+    pub paths: Option<&'a Paths>,
     /// How times are written.
     pub style: TimeStyle,
     /// The names of the files that were read: if there are several, a packet's number has its
@@ -29,9 +36,11 @@ impl<'a> fmt::Display for AssociationReport<'a> {
         write_head(association, f)?;
         f.write_str("first end: ")?;
         write_end(&association.first, f)?;
+        write_chunk_list(&association.first.vectors, f)?;
         self.write_announced(&association.first, f)?;
         f.write_str("second end: ")?;
         write_end(&association.second, f)?;
+        write_chunk_list(&association.second.vectors, f)?;
         self.write_announced(&association.second, f)?;
         self.write_began(&association.began, f)?;
         self.write_established(&association.established, f)?;
@@ -44,7 +53,11 @@ impl<'a> fmt::Display for AssociationReport<'a> {
         f.write_str("first end")?;
         self.write_sent(&association.first, f)?;
         f.write_str("second end")?;
-        self.write_sent(&association.second, f)
+        self.write_sent(&association.second, f)?;
+        match self.paths {
+            Some(paths) => self.write_paths(paths, f),
+            None => Ok(()),
+        }
     }
 }
 
@@ -193,16 +206,70 @@ impl<'a> AssociationReport<'a> {
         self.write_heartbeats(end, f)?;
         self.write_requests(end, f)?;
         write_stale_cookies(&end.counts, f)?;
-        self.write_round_trips(end, f)
+        if end.authentication.are_some() {
+            let authentication = end.authentication;
+            writeln!(f, "  {authentication}")?;
+        }
+        self.write_round_trips(&end.round_trips, f)
+    }
+
+    /// Writes the paths, and how many packets went on those that found no room.
+    fn write_paths<W: fmt::Write>(&self, paths: &Paths, f: &mut fmt::Formatter<W>) -> fmt::Result {
+        for path in &paths.list {
+            self.write_path(path, f)?;
+        }
+        let others = paths.others;
+        if others == 0 {
+            return Ok(());
+        }
+        writeln!(f, "on other paths packets {others}")
+    }
+
+    /// Writes what an end sent on a path.
+    fn write_path<W: fmt::Write>(&self, path: &Path, f: &mut fmt::Formatter<W>) -> fmt::Result {
+        f.write_str("path")?;
+        if let (Some(from), Some(to)) = (path.way.from, path.way.to) {
+            write!(f, " from {from} to {to}")?;
+        }
+        f.write_str(match path.way.sender {
+            Side::First => ": first end",
+            Side::Second => ": second end",
+        })?;
+        write_packets(&path.counts, f)?;
+        f.write_str("  first ")?;
+        self.write_moment(path.first, f)?;
+        f.write_str("; last ")?;
+        self.write_moment(path.last, f)?;
+        let (data, bytes) = (path.counts.data_chunks, path.counts.data_bytes);
+        let repeated = path.repeated;
+        writeln!(f, "\n  DATA {data}, bytes {bytes}, repeated {repeated}")?;
+        let (sent, unanswered) = (path.counts.heartbeats, path.heartbeats.count);
+        write!(f, "  HEARTBEAT {sent}, without answer {unanswered}")?;
+        if let (Some(first), Some(last)) = (path.heartbeats.first(), path.heartbeats.last()) {
+            let (first, last) = (self.packet(first), self.packet(last));
+            write!(f, " (first {first}, last {last})")?;
+        }
+        f.write_str("\n")?;
+        self.write_round_trips(&path.round_trips, f)
+    }
+
+    /// Writes the number and the time of a packet.
+    fn write_moment<W: fmt::Write>(
+        &self,
+        moment: Moment,
+        f: &mut fmt::Formatter<W>,
+    ) -> fmt::Result {
+        let packet = self.packet(moment.packet);
+        write!(f, "{packet}")?;
+        self.write_time(moment.nanoseconds, f)
     }
 
     /// Writes the line of the round trips, if there are some.
     fn write_round_trips<W: fmt::Write>(
         &self,
-        end: &End,
+        trips: &RoundTrips,
         f: &mut fmt::Formatter<W>,
     ) -> fmt::Result {
-        let trips = &end.round_trips;
         let count = trips.count;
         if count == 0 {
             return Ok(());
@@ -396,6 +463,24 @@ fn write_end<W: fmt::Write>(end: &End, f: &mut fmt::Formatter<W>) -> fmt::Result
     match end.tag {
         Some(tag) => writeln!(f, ", tag {tag:#010x}"),
         None => f.write_str(", tag not seen\n"),
+    }
+}
+
+/// Writes the line of the chunk types that an end listed (RFC 4895 section 3.2), if it listed some.
+fn write_chunk_list<W: fmt::Write>(vectors: &KeyVectors, f: &mut fmt::Formatter<W>) -> fmt::Result {
+    let Some(vector) = vectors.last() else {
+        return Ok(());
+    };
+    let mut separator = "  Chunk List: ";
+    for typ in vector.chunk_list() {
+        let name = ChunkName(*typ);
+        write!(f, "{separator}{name}")?;
+        separator = ", ";
+    }
+    if separator == ", " {
+        f.write_str("\n")
+    } else {
+        Ok(())
     }
 }
 

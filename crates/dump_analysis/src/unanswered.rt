@@ -20,7 +20,8 @@ pub struct Unanswered {
     asked: [Question; MOST],
     // where the next one goes
     next: usize,
-    // the last one that wasn't answered and is no longer in the ring
+    // the first one and the last one that weren't answered and are no longer in the ring
+    first_forgotten: Option<PacketNumber>,
     forgotten: Option<PacketNumber>,
 }
 
@@ -44,6 +45,7 @@ impl Unanswered {
             count: 0,
             asked: [none; MOST],
             next: 0,
+            first_forgotten: None,
             forgotten: None,
         }
     }
@@ -54,6 +56,7 @@ impl Unanswered {
         let place = self.next % MOST;
         let oldest = self.asked[place];
         if !oldest.is_answered {
+            self.first_forgotten = self.first_forgotten.or(oldest.packet);
             self.forgotten = oldest.packet;
         }
         self.asked[place] = Question {
@@ -76,6 +79,18 @@ impl Unanswered {
         false
     }
 
+    /// Returns whether one of the last 8 questions has this key, and no answer.
+    pub fn awaits(&self, key: u64) -> bool
+        ensures { IsTrue result ↔ Any (IsOpen key) self.now.asked }
+    {
+        for question in &self.asked {
+            if !question.is_answered && question.key == key {
+                return true;
+            }
+        }
+        false
+    }
+
     /// Notes an answer with this key: to the oldest question with the same one.
     pub fn answer(&mut self, key: u64)
         ensures answered { Any (IsOpen key) self.old.asked → self.new.count ≡ self.old.count - 1 }
@@ -90,6 +105,21 @@ impl Unanswered {
                 return;
             }
         }
+    }
+
+    /// Returns the packet of the first question that wasn't answered; `None` if all were.
+    pub fn first(&self) -> Option<PacketNumber> {
+        if self.first_forgotten.is_some() {
+            return self.first_forgotten;
+        }
+        for step in 0..MOST {
+            let place = self.next.wrapping_add(step) % MOST;
+            let question = self.asked[place];
+            if !question.is_answered {
+                return question.packet;
+            }
+        }
+        None
     }
 
     /// Returns the packet of the last question that wasn't answered; `None` if all were.

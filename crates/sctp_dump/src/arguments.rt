@@ -2,6 +2,7 @@
 
 ghost use Rattle.std.specs.Prelude.{◌≤◌, IfOk};
 
+use crate::auth_key::auth_key_of;
 use crate::failure::Failure;
 use crate::name::Name;
 use crate::options::{FormatOption, Options, OutputForm, TimeOption};
@@ -30,8 +31,15 @@ What is printed:
                    packet before)
   --associations   a block an association, in place of packets; with --brief or
                    --json after them
-  --keep NUMBER    of --associations and --check: the most associations that are
-                   kept at a time; 10000 if not given
+  --paths          the associations, each with its paths: what went from one
+                   address to another
+  --messages       a line a user message, as it is acknowledged or abandoned, and
+                   why it took that long, in place of packets; with --brief or
+                   --json after the packet
+  --auth-key KEY   whether AUTH is right under this endpoint pair shared key: as
+                   0badc0de, 7:0badc0de of Shared Key Identifier 7, or ''
+  --keep NUMBER    of --associations, --messages, --check and --auth-key: the most
+                   associations that are kept at a time; 10000 if not given
   --check          the rules of the RFCs that accepted packets break
   --summary        counts alone
 
@@ -157,6 +165,11 @@ impl<'a> Request<'a> {
             "--places" => options.places = true,
             "--payload" => options.payload = true,
             "--associations" => options.associations = true,
+            "--paths" => {
+                options.associations = true;
+                options.paths = true;
+            }
+            "--messages" => options.messages = true,
             "--check" => options.check = true,
             "--summary" => options.summary = true,
             "--faults" => options.faults = true,
@@ -188,6 +201,7 @@ impl Options {
         match name {
             "--time" => self.time = time_of(value)?,
             "--format" => self.form = form_of(value)?,
+            "--auth-key" => self.auth_key = Some(auth_key_of(value)?),
             "--udp-port" => {
                 let usage = "--udp-port takes a number from 1 to 65535";
                 self.udp_port = number_of(value, 1, 65_535, usage)? as u16;

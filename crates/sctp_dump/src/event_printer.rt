@@ -13,7 +13,8 @@ use crate::options::Options;
 use crate::printer::Printer;
 use crate::seen::SeenLines;
 use crate::sheet::{
-    Shown, push_association, push_associations, push_counts, push_file, push_packet, push_skipped,
+    Shown, push_association, push_associations, push_counts, push_file, push_left_out,
+    push_messages, push_packet, push_skipped,
 };
 use crate::skipped::{Said, SkippedLine, frame_reason_of};
 use crate::tracker::Tracker;
@@ -22,7 +23,7 @@ use dcsctp_borrowed::checksum::Checksum;
 use dcsctp_wire::packet::sctp_packet::FirstFault;
 use dump_analysis::rule::RULES;
 use dump_analysis::warnings::Warnings;
-use dump_analysis::{Noted, SeenPacket};
+use dump_analysis::{Authentication, AuthenticationCounts, Noted, SeenPacket};
 use dump_capture::event::{Part, Seen, Sink, Skipped, Time};
 use dump_capture::frame::{FoundPacket, packet_in};
 use dump_capture::line::Direction;
@@ -46,6 +47,7 @@ pub struct EventPrinter<W> {
     pub failure: Option<Failure>,
     /// How many accepted packets break each rule.
     pub warnings: Warnings,
+    authentication: AuthenticationCounts,
     files: Files,
     tracker: Tracker,
     clock: Clock,
@@ -66,6 +68,7 @@ impl<W: Write> EventPrinter<W> {
             counts: Counts::new(),
             failure: None,
             warnings: Warnings::new(),
+            authentication: AuthenticationCounts::new(),
             files: Files::new(alloc),
             tracker: Tracker::new(alloc),
             clock: Clock::new(options.time),
@@ -100,7 +103,11 @@ impl<W: Write> EventPrinter<W> {
     pub fn finish(&mut self) -> Result<(), Failure>
         ensures { self.new.counts ≡ self.old.counts }
     {
+        let (messages, left_out) = self.tracker.finish_messages()?;
+        let style = self.clock.style();
         let text = &mut self.output.text;
+        push_messages(&self.options, style, &self.files, messages.as_slice(), text)?;
+        push_left_out(&self.options, left_out, text)?;
         match self.tracker.take() {
             Some(associations) => {
                 push_associations(
@@ -108,12 +115,19 @@ impl<W: Write> EventPrinter<W> {
                     self.clock.style(),
                     &self.files,
                     associations,
+                    &mut self.tracker,
                     text,
                 )?
             }
             None => {}
         }
-        push_counts(&self.options, &self.counts, &self.warnings, text)?;
+        push_counts(
+            &self.options,
+            &self.counts,
+            &self.warnings,
+            &self.authentication,
+            text,
+        )?;
         match self.output.finish() {
             Ok(()) => Ok(()),
             Err(error) => Err(failure_of(&error)),
@@ -147,20 +161,29 @@ impl<W: Write> EventPrinter<W> {
             checksum: Checksum::of_packet(found.packet, found.length, word),
             is_refused: judged.verdict == Verdict::Refused,
             passes,
+            key: self.options.auth_key,
         };
         let Noted { of: member, left } = self.tracker.see(&self.options, &packet)?;
         match left {
             Some(association) => {
+                let paths = self.tracker.take_paths(association.number);
                 push_association(
                     &self.options,
                     self.clock.style(),
                     &self.files,
                     &association,
+                    paths.as_ref(),
                     &mut self.output.text,
                 )?
             }
             None => {}
         }
+        let authentication = match (&self.options.auth_key, member) {
+            (None, _) => Authentication::NOTHING,
+            (Some(_), Some(member)) => member.authentication,
+            (Some(_), None) => Authentication::of_none(&packet),
+        };
+        self.authentication.count(authentication);
         let known = self.tracker.known_of(&packet);
         let is_judged = is_judged(&self.options, judged.verdict);
         let broken = self
@@ -172,7 +195,7 @@ impl<W: Write> EventPrinter<W> {
             && (is_faulty || !self.options.faults);
         let since = self.clock.see(nanoseconds, is_printed);
         if !is_printed {
-            return Ok(());
+            return self.print_messages();
         }
         let shown = Shown {
             seen: SeenLines {
@@ -185,8 +208,30 @@ impl<W: Write> EventPrinter<W> {
             fault,
             broken,
             member,
+            authentication,
         };
-        push_packet(&self.options, shown, &mut self.output.text)
+        push_packet(&self.options, shown, &mut self.output.text)?;
+        self.print_messages()
+    }
+
+    /// Prints the messages that are over by the last packet.
+    fn print_messages(&mut self) -> Result<(), AllocError>
+        ensures options { self.new.options ≡ self.old.options }
+        ensures counts { self.new.counts ≡ self.old.counts }
+        ensures failure { self.new.failure ≡ self.old.failure }
+        ensures warnings { self.new.warnings ≡ self.old.warnings }
+    {
+        if !self.options.messages {
+            return Ok(());
+        }
+        let messages = self.tracker.take_messages();
+        push_messages(
+            &self.options,
+            self.clock.style(),
+            &self.files,
+            messages.as_slice(),
+            &mut self.output.text,
+        )
     }
 
     /// Prints a record or a line without a packet, if a reason is to be said.

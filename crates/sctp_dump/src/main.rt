@@ -5,6 +5,7 @@
 #![tactic(auto)]
 
 mod arguments;
+mod auth_key;
 mod counts;
 mod engine;
 mod event_printer;

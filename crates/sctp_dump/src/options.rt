@@ -5,6 +5,7 @@ ghost use Rattle.sctp_dump.specs.Counts.{policy_of};
 
 use crate::name::Name;
 use dcsctp_wire::packet::sctp_packet::ChecksumPolicy;
+use dump_analysis::PairKey;
 use dump_analysis::filter::Filter;
 use dump_capture::frame::UDP_PORT;
 
@@ -66,10 +67,16 @@ pub struct Options {
     pub check: bool,
     /// The associations.
     pub associations: bool,
+    /// The paths of each association.
+    pub paths: bool,
+    /// The user messages.
+    pub messages: bool,
     /// The form of times.
     pub time: TimeOption,
     /// How many associations are kept.
     pub keep: usize,
+    /// The key under which AUTH is judged.
+    pub auth_key: Option<PairKey>,
     /// Which packets are printed.
     pub filter: Filter,
     /// The name of the transport, in a log, whose packets are printed.
@@ -93,8 +100,11 @@ impl Options {
         places: false,
         check: false,
         associations: false,
+        paths: false,
+        messages: false,
         time: TimeOption::Captured,
         keep: 10_000,
+        auth_key: None,
         filter: Filter::ALL,
         transport: None,
         is_filtered: false,
@@ -124,8 +134,8 @@ impl Options {
         if self.filter.first > self.filter.last {
             return Some("no packet is from --from on and up to --to");
         }
-        if self.keep != Options::DEFAULT.keep && !(self.associations || self.check) {
-            return Some("--keep needs --associations or --check");
+        if self.keep != Options::DEFAULT.keep && !self.tracks_associations() {
+            return Some("--keep needs --associations, --messages, --check or --auth-key");
         }
         if self.summary && self.output == OutputForm::Brief {
             return Some("--brief has no effect beside --summary");
@@ -133,7 +143,7 @@ impl Options {
         if self.faults && !self.prints_packets() {
             return Some("--faults needs packets, which aren't printed");
         }
-        if self.prints_packets() || self.associations {
+        if self.prints_packets() || self.associations || self.messages {
             return None;
         }
         if self.is_filtered {
@@ -145,9 +155,14 @@ impl Options {
         }
     }
 
-    /// Returns whether packets are printed: not where associations or counts alone are.
+    /// Returns whether it has to be known of which association a packet is.
+    pub fn tracks_associations(&self) -> bool {
+        self.associations || self.messages || self.check || self.auth_key.is_some()
+    }
+
+    /// Returns whether packets are printed: not where associations, messages or counts alone are.
     pub fn prints_packets(&self) -> bool {
-        let replaced = self.associations && self.output == OutputForm::Blocks;
+        let replaced = (self.associations || self.messages) && self.output == OutputForm::Blocks;
         !(self.summary || replaced)
     }
 

@@ -6,12 +6,14 @@ use crate::options::{Options, OutputForm};
 use crate::seen::{SeenBrief, SeenJson, SeenLines};
 use crate::skipped::{SkippedJson, SkippedLine};
 use crate::summary::{Summary, SummaryJson, Unkept, UnkeptJson};
+use crate::tracker::Tracker;
 use dcsctp_wire::packet::sctp_packet::FirstFault;
 use dump_analysis::rule::BrokenRules;
 use dump_analysis::warnings::{WarningCounts, WarningLines, Warnings, WarningsBrief, WarningsJson};
 use dump_analysis::{
-    Association, AssociationJson, AssociationReport, Associations, Membership, MembershipJson,
-    TimeStyle,
+    Association, AssociationJson, AssociationReport, Associations, Authentication,
+    AuthenticationBrief, AuthenticationCounts, AuthenticationJson, AuthenticationLines, Membership,
+    MembershipJson, Message, MessageJson, MessageReport, Paths, TimeStyle,
 };
 use dump_report::{PacketBrief, PacketJson, PacketReport};
 use dump_text::json_text::JsonText;
@@ -30,6 +32,8 @@ pub struct Shown<'t, 'f, 'a> {
     pub broken: BrokenRules,
     /// Of which association it is.
     pub member: Option<Membership>,
+    /// What is found of AUTH in it, if a key was given.
+    pub authentication: Authentication,
 }
 
 /// Adds the name of an input.
@@ -55,6 +59,7 @@ pub fn push_packet(
 ) -> Result<(), AllocError> {
     let (bytes, length) = (shown.seen.found.packet, shown.seen.found.length);
     let (seen, word, fault, broken) = (shown.seen, shown.word, shown.fault, shown.broken);
+    let found = shown.authentication;
     match options.output {
         OutputForm::Blocks => {
             let report = PacketReport {
@@ -64,8 +69,8 @@ pub fn push_packet(
                 fault,
                 shows_all: options.payload,
             };
-            let warnings = WarningLines(broken);
-            writeln!(text, "{seen}{report}{warnings}")
+            let (found, warnings) = (AuthenticationLines(found), WarningLines(broken));
+            writeln!(text, "{seen}{report}{found}{warnings}")
         }
         OutputForm::Brief => {
             let report = PacketBrief {
@@ -75,7 +80,8 @@ pub fn push_packet(
                 fault,
             };
             let (seen, warnings) = (SeenBrief(seen), WarningsBrief(broken));
-            writeln!(text, "{seen} {report}{warnings}")
+            let found = AuthenticationBrief(found);
+            writeln!(text, "{seen} {report}{found}{warnings}")
         }
         OutputForm::Json => {
             let report = PacketJson {
@@ -86,12 +92,13 @@ pub fn push_packet(
                 places: options.places,
             };
             let (seen, warnings) = (SeenJson(seen), WarningsJson(broken));
+            let found = AuthenticationJson(found);
             let member = MembershipJson(if options.associations {
                 shown.member
             } else {
                 None
             });
-            writeln!(text, "{{{seen}{member},{report}{warnings}}}")
+            writeln!(text, "{{{seen}{member},{report}{found}{warnings}}}")
         }
     }
 }
@@ -112,12 +119,14 @@ pub fn push_skipped(
     }
 }
 
-/// Adds the associations, in the order in which they began.
+/// Adds the associations, in the order in which they began, each with its paths, which are taken
+/// from the tracker.
 pub fn push_associations(
     options: &Options,
     style: TimeStyle,
     files: &Files,
     associations: Associations,
+    tracker: &mut Tracker,
     text: &mut String,
 ) -> Result<(), AllocError> {
     let unkept = Unkept {
@@ -125,7 +134,8 @@ pub fn push_associations(
         unknown: associations.unknown(),
     };
     for association in associations.into_vec() {
-        push_association(options, style, files, &association, text)?;
+        let paths = tracker.take_paths(association.number);
+        push_association(options, style, files, &association, paths.as_ref(), text)?;
     }
     if !options.associations || !unkept.is_some() {
         return Ok(());
@@ -144,6 +154,7 @@ pub fn push_association(
     style: TimeStyle,
     files: &Files,
     association: &Association,
+    paths: Option<&Paths>,
     text: &mut String,
 ) -> Result<(), AllocError> {
     if !options.associations || !association.passes {
@@ -153,6 +164,7 @@ pub fn push_association(
     if options.output == OutputForm::Json {
         let object = AssociationJson {
             association,
+            paths,
             style,
             files,
         };
@@ -160,10 +172,53 @@ pub fn push_association(
     }
     let report = AssociationReport {
         association,
+        paths,
         style,
         files,
     };
     writeln!(text, "{report}")
+}
+
+/// Adds the messages of which a packet passed.
+pub fn push_messages(
+    options: &Options,
+    style: TimeStyle,
+    files: &Files,
+    messages: &[Message],
+    text: &mut String,
+) -> Result<(), AllocError> {
+    let files = files.named();
+    for message in messages {
+        if message.passes {
+            let report = MessageReport {
+                message,
+                style,
+                files,
+            };
+            if options.output == OutputForm::Json {
+                let object = MessageJson(report);
+                writeln!(text, "{object}")?;
+            } else {
+                writeln!(text, "{report}")?;
+            }
+        }
+    }
+    Ok(())
+}
+
+/// Adds how many DATA weren't followed, if some weren't.
+pub fn push_left_out(options: &Options, count: u64, text: &mut String) -> Result<(), AllocError> {
+    if count == 0 {
+        return Ok(());
+    }
+    if options.output == OutputForm::Json {
+        return writeln!(text, "{{\"data_not_followed\":{count}}}");
+    }
+    write!(
+        text,
+        "messages: DATA not followed {count}, for which there was no room"
+    )?;
+    writeln!(text, ", or whose header isn't whole")
 }
 
 /// Adds the counts.
@@ -171,15 +226,24 @@ pub fn push_counts(
     options: &Options,
     counts: &Counts,
     warnings: &Warnings,
+    authentication: &AuthenticationCounts,
     text: &mut String,
 ) -> Result<(), AllocError> {
+    let authentication = match options.auth_key {
+        Some(_) => Some(*authentication),
+        None => None,
+    };
     if options.output == OutputForm::Json {
         let warnings = if options.check {
             Some(warnings.total())
         } else {
             None
         };
-        let summary = SummaryJson { counts, warnings };
+        let summary = SummaryJson {
+            counts,
+            warnings,
+            authentication,
+        };
         return write!(text, "{summary}");
     }
     if options.check {
@@ -189,6 +253,7 @@ pub fn push_counts(
     let summary = Summary {
         counts,
         is_long: options.summary,
+        authentication,
     };
     write!(text, "{summary}")
 }

@@ -1,6 +1,7 @@
 //! What was counted, as text: the last line, and what is before it where counts alone are printed.
 
 use crate::counts::Counts;
+use dump_analysis::{AuthenticationCounts, AuthenticationCountsJson};
 use dump_text::names::ChunkName;
 use std::fmt;
 
@@ -9,8 +10,10 @@ use std::fmt;
 pub struct Summary<'a> {
     /// What was counted.
     pub counts: &'a Counts,
-    /// Whether lines of the types of chunks, and of the checksums, come before the last one.
+    /// Whether lines of the types of chunks, of the checksums and of AUTH come before the last one.
     pub is_long: bool,
+    /// What was counted of AUTH, if a key was given.
+    pub authentication: Option<AuthenticationCounts>,
 }
 
 impl<'a> fmt::Display for Summary<'a> {
@@ -25,6 +28,9 @@ impl<'a> fmt::Display for Summary<'a> {
             }
             let (zero, wrong) = (counts.zero, counts.wrong);
             writeln!(f, "checksums: zero {zero}, wrong {wrong}")?;
+            if let Some(authentication) = self.authentication {
+                writeln!(f, "{authentication}")?;
+            }
         }
         write_packets(counts, f)?;
         write_skipped(counts, f)
@@ -111,6 +117,8 @@ pub struct SummaryJson<'a> {
     pub counts: &'a Counts,
     /// How many rules accepted packets break, where they are looked at.
     pub warnings: Option<u64>,
+    /// What was counted of AUTH, if a key was given.
+    pub authentication: Option<AuthenticationCounts>,
 }
 
 impl<'a> fmt::Display for SummaryJson<'a> {
@@ -127,6 +135,10 @@ impl<'a> fmt::Display for SummaryJson<'a> {
         write_number(",\"cut_off\":", counts.partial, f)?;
         write_number(",\"zero_checksums\":", counts.zero, f)?;
         write_number(",\"wrong_checksums\":", counts.wrong, f)?;
+        if let Some(authentication) = self.authentication {
+            let keys = AuthenticationCountsJson(authentication);
+            write!(f, "{keys}")?;
+        }
         write_kinds(counts, f)?;
         write_number(",\"skipped\":", counts.skipped(), f)?;
         write_number(",\"not_sctp\":", counts.others, f)?;

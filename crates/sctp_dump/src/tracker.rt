@@ -1,8 +1,9 @@
-//! The associations of the packets so far, if associations or rules are asked for.
+//! The associations of the packets so far, if associations, messages or rules are asked for, and what
+//! is kept beside them: their paths and their messages.
 
 use crate::options::Options;
 use dump_analysis::rule::Known;
-use dump_analysis::{Associations, Noted, SeenPacket};
+use dump_analysis::{Associations, Message, Messages, Noted, PathTable, Paths, SeenPacket};
 use std::alloc::{AllocError, Global};
 
 /// The associations of the packets so far, if they are asked for.
@@ -10,6 +11,8 @@ use std::alloc::{AllocError, Global};
 pub struct Tracker {
     alloc: Global,
     associations: Option<Associations>,
+    paths: Option<PathTable>,
+    messages: Option<Messages>,
 }
 
 impl Tracker {
@@ -18,13 +21,39 @@ impl Tracker {
         Tracker {
             alloc,
             associations: None,
+            paths: None,
+            messages: None,
         }
     }
 
     /// Counts a packet among those of its association, if these are asked for. Returns of which it
     /// is, and which one left the table for it.
     pub fn see(&mut self, options: &Options, packet: &SeenPacket<'_>) -> Result<Noted, AllocError> {
-        if self.associations.is_none() && (options.associations || options.check) {
+        let noted = self.note(options, packet)?;
+        if self.paths.is_none() && options.paths {
+            self.paths = Some(PathTable::new(self.alloc));
+        }
+        match (&mut self.paths, noted.of) {
+            (Some(paths), Some(member)) => paths.see(member, packet)?,
+            _ => {}
+        }
+        if self.messages.is_none() && options.messages {
+            self.messages = Some(Messages::new(self.alloc));
+        }
+        if let Some(messages) = &mut self.messages {
+            if let Some(association) = &noted.left {
+                messages.leave(association.number)?;
+            }
+            if let Some(member) = noted.of {
+                messages.see(member, packet)?;
+            }
+        }
+        Ok(noted)
+    }
+
+    /// Counts a packet among those of its association, if these are asked for.
+    fn note(&mut self, options: &Options, packet: &SeenPacket<'_>) -> Result<Noted, AllocError> {
+        if self.associations.is_none() && options.tracks_associations() {
             self.associations = Some(Associations::new(self.alloc, options.keep)?);
         }
         match &mut self.associations {
@@ -33,6 +62,26 @@ impl Tracker {
                 of: None,
                 left: None,
             }),
+        }
+    }
+
+    /// Returns the messages that are over since this was asked last.
+    pub fn take_messages(&mut self) -> Vec<Message> {
+        match &mut self.messages {
+            Some(messages) => messages.take(),
+            None => Vec::new(self.alloc),
+        }
+    }
+
+    /// Returns the messages that are outstanding at the end of the capture, and how many DATA
+    /// weren't followed.
+    pub fn finish_messages(&mut self) -> Result<(Vec<Message>, u64), AllocError> {
+        match &mut self.messages {
+            Some(messages) => {
+                messages.finish()?;
+                Ok((messages.take(), messages.left_out()))
+            }
+            None => Ok((Vec::new(self.alloc), 0)),
         }
     }
 
@@ -48,6 +97,15 @@ impl Tracker {
                 }
             }
             None => Known::NOTHING,
+        }
+    }
+
+    /// Takes the paths of an association that left the table, or is printed last, if they are asked
+    /// for.
+    pub fn take_paths(&mut self, association: u64) -> Option<Paths> {
+        match &mut self.paths {
+            Some(paths) => paths.take(association),
+            None => None,
         }
     }
 

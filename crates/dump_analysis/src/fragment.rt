@@ -1,0 +1,223 @@
+//! The fragments of user messages: the DATA and I-DATA that one end sent.
+
+ghost use Rattle.std.specs.Prelude.{◌≡◌};
+ghost use Rattle.dump_analysis.specs.Messages.{is_whole};
+
+use crate::chunk_type::{DATA, I_DATA};
+use crate::counts::SeenPacket;
+use crate::end::Closed;
+use crate::moment::Moment;
+use crate::packet_number::PacketNumber;
+use crate::unanswered::digest;
+use dcsctp_borrowed::part::Item;
+use dcsctp_wire::packet::data_chunk::DataNumbers;
+use dcsctp_wire::packet::idata_chunk::IDataNumbers;
+use dcsctp_wire::packet::{read_u16_be, read_u32_be};
+
+/// Which message of its stream it is.
+#[derive(Clone, Copy, Debug, PartialEq, Eq)]
+pub struct MessageKey {
+    /// Whether it is of I-DATA.
+    pub is_i_data: bool,
+    /// The stream.
+    pub stream: u16,
+    /// Whether the message is unordered: the U bit.
+    pub is_unordered: bool,
+    /// The Stream Sequence Number of DATA (RFC 9260 section 3.3.1), or the Message Identifier of
+    /// I-DATA (RFC 8260 section 2.1).
+    pub number: u32,
+}
+
+/// The numbers of a DATA or an I-DATA.
+#[derive(Clone, Copy)]
+struct Numbers {
+    tsn: u32,
+    stream: u16,
+    number: u32,
+    place: u32,
+    ppid: Option<u32>,
+    // how many bytes they are
+    header: usize,
+}
+
+impl Numbers {
+    /// Returns those of a chunk; `None` where it has none, or they weren't captured.
+    fn of(chunk: Item<'_>) -> Option<Numbers> {
+        let value = chunk.value.bytes;
+        match chunk.first {
+            DATA if value.len() >= DataNumbers::SIZE => {
+                let tsn = read_u32_be(value);
+                Some(Numbers {
+                    tsn,
+                    stream: read_u16_be(&value[DataNumbers::STREAM_ID..]),
+                    number: u32::from(read_u16_be(&value[DataNumbers::SSN..])),
+                    place: tsn,
+                    ppid: Some(read_u32_be(&value[DataNumbers::PPID..])),
+                    header: DataNumbers::SIZE,
+                })
+            }
+            I_DATA if value.len() >= IDataNumbers::SIZE => {
+                let last = read_u32_be(&value[IDataNumbers::PPID_OR_FSN..]);
+                let is_beginning = chunk.second / 2 % 2 == 1;
+                Some(Numbers {
+                    tsn: read_u32_be(value),
+                    stream: read_u16_be(&value[DataNumbers::STREAM_ID..]),
+                    number: read_u32_be(&value[IDataNumbers::MID..]),
+                    place: if is_beginning { 0 } else { last },
+                    ppid: if is_beginning { Some(last) } else { None },
+                    header: IDataNumbers::SIZE,
+                })
+            }
+            _ => None,
+        }
+    }
+}
+
+/// A fragment that was sent.
+#[derive(Clone, Copy, Debug)]
+pub struct Fragment {
+    /// Its TSN.
+    pub tsn: u32,
+    /// By which the fragments of a message follow one another: the TSN of DATA, the Fragment
+    /// Sequence Number of I-DATA.
+    pub place: u32,
+    /// Whether a message begins with it: the B bit.
+    pub is_beginning: bool,
+    /// Whether a message ends with it: the E bit.
+    pub is_end: bool,
+    /// Of which message it is.
+    pub key: MessageKey,
+    /// The payload protocol identifier; `None` in I-DATA that is no beginning.
+    pub ppid: Option<u32>,
+    /// How many bytes of user data it has.
+    pub size: usize,
+    // of its bytes, as far as they were captured
+    digest: u64,
+    /// When it was sent first.
+    pub sent: Moment,
+    /// How often it was sent again, up to 2^32 - 1.
+    pub repeated: u32,
+    /// How long after it was sent first it was sent again first, in nanoseconds, if that is known.
+    pub repeated_after: Option<u64>,
+    /// Whether it was sent again with other bytes, or as another fragment.
+    pub is_changed: bool,
+    /// When its receiver had no room while it was outstanding.
+    pub closed: Option<Closed>,
+    /// Whether a filter passes a packet that has it.
+    pub passes: bool,
+    /// Whether it was acknowledged.
+    pub is_acknowledged: bool,
+    /// Whether it was acknowledged by the chunk that is looked at.
+    pub is_fresh: bool,
+    /// Whether its message ended.
+    pub is_over: bool,
+}
+
+impl Fragment {
+    /// Returns the fragment that a DATA or an I-DATA has; `None` for other chunks, and where its
+    /// header wasn't captured.
+    pub fn of(packet: &SeenPacket<'_>, chunk: Item<'_>) -> Option<Fragment> {
+        let numbers = Numbers::of(chunk)?;
+        let value = chunk.value.after(numbers.header);
+        Some(Fragment {
+            tsn: numbers.tsn,
+            place: numbers.place,
+            is_beginning: chunk.second / 2 % 2 == 1,
+            is_end: chunk.second % 2 == 1,
+            key: MessageKey {
+                is_i_data: chunk.first == I_DATA,
+                stream: numbers.stream,
+                is_unordered: chunk.second / 4 % 2 == 1,
+                number: numbers.number,
+            },
+            ppid: numbers.ppid,
+            size: value.size,
+            digest: digest(value.bytes),
+            sent: Moment::of(packet),
+            repeated: 0,
+            repeated_after: None,
+            is_changed: false,
+            closed: None,
+            passes: packet.passes,
+            is_acknowledged: false,
+            is_fresh: false,
+            is_over: false,
+        })
+    }
+
+    /// Notes that the TSN was sent again.
+    pub fn note_repeated(&mut self, again: &Fragment) {
+        if self.repeated == 0 {
+            self.repeated_after = again.sent.since(self.sent);
+        }
+        self.repeated = self.repeated.saturating_add(1);
+        self.is_changed |= self.key != again.key
+            || self.place != again.place
+            || self.is_beginning != again.is_beginning
+            || self.is_end != again.is_end
+            || self.ppid != again.ppid
+            || self.size != again.size
+            || self.digest != again.digest;
+        self.passes |= again.passes;
+    }
+
+    /// Notes that its receiver has no room.
+    pub fn note_closed(&mut self, packet: PacketNumber) {
+        let first = match self.closed {
+            Some(closed) => closed.first,
+            None => packet,
+        };
+        self.closed = Some(Closed {
+            first,
+            last: packet,
+        });
+    }
+
+    /// Returns whether this fragment of those that `leads_to` joins is of the same message as
+    /// another one of them: fragments of I-DATA have others between them.
+    pub fn is_beside(&self, other: &Fragment) -> bool {
+        !other.key.is_i_data || self.key == other.key
+    }
+
+    /// Returns whether another fragment is the next one that was seen of the same message of
+    /// DATA: with the same stream, and SSN if it is ordered. If it isn't, at most one TSN that
+    /// wasn't seen is between them: more of them may have an end and a beginning.
+    pub fn leads_to(&self, next: &Fragment) -> bool {
+        if self.is_end || next.is_beginning || self.key.is_i_data || next.key.is_i_data {
+            return false;
+        }
+        if self.key.is_unordered {
+            return next.key.is_unordered
+                && self.key.stream == next.key.stream
+                && next.tsn.wrapping_sub(self.tsn) <= 2;
+        }
+        self.key == next.key
+    }
+}
+
+/// Returns whether these are all fragments of a message, in order: the one that begins it, those
+/// after it, and the one that ends it.
+pub fn is_whole(fragments: &[Fragment]) -> bool
+    ensures { result ≡ is_whole fragments.now }
+{
+    let Some((first, rest)) = fragments.split_first() else {
+        return false;
+    };
+    if !first.is_beginning {
+        return false;
+    }
+    let mut last = *first;
+    for next in rest {
+        if last.is_end {
+            return false;
+        }
+        if next.is_beginning {
+            return false;
+        }
+        if next.place != last.place.wrapping_add(1) {
+            return false;
+        }
+        last = *next;
+    }
+    last.is_end
+}

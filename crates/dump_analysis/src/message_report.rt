@@ -1,0 +1,323 @@
+//! A user message, as text and as JSON.
+
+use crate::association::Side;
+use crate::end::Closed;
+use crate::message::{Fate, Message};
+use crate::moment::Moment;
+use crate::packet_number::{PacketKeys, PacketText};
+use crate::time::{TimeForm, TimeStyle};
+use dump_text::json_text::JsonText;
+use dump_text::names::ChunkName;
+use dump_text::registry::payload_protocol;
+use std::fmt;
+
+/// A user message as a line, without its line break.
+#[derive(Clone, Copy)]
+pub struct MessageReport<'a> {
+    /// The message.
+    pub message: &'a Message,
+    /// How times are written.
+    pub style: TimeStyle,
+    /// The names of the files that were read: if there are several, a packet's number has its
+    /// file's name after it.
+    pub files: &'a [String],
+}
+
+impl<'a> fmt::Display for MessageReport<'a> {
+    fn fmt<W: fmt::Write>(&self, f: &mut fmt::Formatter<W>) -> fmt::Result {
+        self.write_message(f)?;
+        let message = self.message;
+        f.write_str(": sent")?;
+        self.write_moment(message.sent, f)?;
+        match message.fate {
+            Fate::Acknowledged(moment) => {
+                f.write_str(", acknowledged")?;
+                self.write_moment(moment, f)?;
+                if let Some(nanoseconds) = message.delay() {
+                    let seconds = self.style.seconds(nanoseconds);
+                    write!(f, " after {seconds} s")?;
+                }
+            }
+            Fate::Abandoned { chunk, moment } => {
+                let (name, packet) = (ChunkName(chunk), self.packet(moment));
+                write!(f, ", abandoned by {name} in {packet}")?;
+            }
+            Fate::Unacknowledged => f.write_str(", not acknowledged")?,
+        }
+        self.write_fragments(f)?;
+        self.write_waits(f)
+    }
+}
+
+impl<'a> MessageReport<'a> {
+    /// Writes which message it is.
+    fn write_message<W: fmt::Write>(&self, f: &mut fmt::Formatter<W>) -> fmt::Result {
+        let (message, key) = (self.message, self.message.key);
+        let (association, stream, number) = (message.association, key.stream, key.number);
+        let mark = match message.sender {
+            Side::First => ">",
+            Side::Second => "<",
+        };
+        let name = if key.is_i_data { "mid" } else { "ssn" };
+        write!(
+            f,
+            "message of {association} {mark} stream {stream}, {name} {number}"
+        )?;
+        if key.is_unordered {
+            f.write_str(", unordered")?;
+        }
+        if let Some(ppid) = message.ppid {
+            write!(f, ", ppid {ppid}")?;
+            if let Some(name) = payload_protocol(ppid) {
+                write!(f, " ({name})")?;
+            }
+        }
+        let (size, first, last) = (message.size, message.first_tsn, message.last_tsn);
+        write!(f, ", size {size}, tsn {first}")?;
+        if first != last {
+            write!(f, " to {last}")?;
+        }
+        Ok(())
+    }
+
+    /// Writes what is to be said of its fragments.
+    fn write_fragments<W: fmt::Write>(&self, f: &mut fmt::Formatter<W>) -> fmt::Result {
+        let message = self.message;
+        if let Some(again) = message.first_repeated {
+            let tsn = again.tsn;
+            write!(f, "; tsn {tsn} sent again")?;
+            if let Some(nanoseconds) = again.after {
+                let seconds = self.style.seconds(nanoseconds);
+                write!(f, " after {seconds} s")?;
+            }
+            let repeated = message.repeated;
+            if repeated > 1 {
+                write!(f, ", {repeated} repeats in all")?;
+            }
+        }
+        if let Some(tsn) = message.changed {
+            write!(f, "; tsn {tsn} sent again with other bytes")?;
+        }
+        if let Some(first) = message.first_missing {
+            let name = if message.key.is_i_data { "fsn" } else { "tsn" };
+            write!(f, "; {name} {first}")?;
+            let missing = message.missing;
+            if missing > 1 {
+                let more = missing - 1;
+                write!(f, " and {more} more")?;
+            }
+            f.write_str(" never seen in this capture")?;
+        }
+        if message.is_odd {
+            f.write_str("; fragments contradict one another")?;
+        }
+        if !message.has_beginning {
+            f.write_str("; beginning not seen")?;
+        }
+        if !message.has_end {
+            f.write_str("; end not seen")?;
+        }
+        Ok(())
+    }
+
+    /// Writes for what it waited.
+    fn write_waits<W: fmt::Write>(&self, f: &mut fmt::Formatter<W>) -> fmt::Result {
+        if let Some(tsn) = self.message.waited_for {
+            write!(f, "; waited for tsn {tsn} of its stream")?;
+        }
+        let Some(closed) = self.message.closed else {
+            return Ok(());
+        };
+        let Closed { first, last } = closed;
+        f.write_str("; peer's window was 0 ")?;
+        let text = PacketText {
+            packet: first,
+            files: self.files,
+        };
+        if first == last {
+            return write!(f, "in {text}");
+        }
+        write!(f, "from {text} to ")?;
+        if first.file == last.file {
+            let number = last.number;
+            return write!(f, "{number}");
+        }
+        let text = PacketText {
+            packet: last,
+            files: self.files,
+        };
+        write!(f, "{text}")
+    }
+
+    /// Writes a time, if it is known, and the packet's number.
+    fn write_moment<W: fmt::Write>(
+        &self,
+        moment: Moment,
+        f: &mut fmt::Formatter<W>,
+    ) -> fmt::Result {
+        if let Some(nanoseconds) = moment.nanoseconds {
+            let time = self.style.time(nanoseconds);
+            write!(f, " {time}")?;
+        }
+        let packet = self.packet(moment);
+        write!(f, " ({packet})")
+    }
+
+    /// Returns a packet's number as text.
+    fn packet(&self, moment: Moment) -> PacketText<'a> {
+        PacketText {
+            packet: moment.packet,
+            files: self.files,
+        }
+    }
+}
+
+/// A user message as one JSON object (RFC 8259), without blanks and without a line break.
+#[derive(Clone, Copy)]
+pub struct MessageJson<'a>(pub MessageReport<'a>);
+
+impl<'a> fmt::Display for MessageJson<'a> {
+    fn fmt<W: fmt::Write>(&self, f: &mut fmt::Formatter<W>) -> fmt::Result {
+        self.write_message(f)?;
+        let message = self.0.message;
+        self.write_time("sent", message.sent, f)?;
+        self.write_packet("sent_packet", "sent_file", message.sent, f)?;
+        match message.fate {
+            Fate::Acknowledged(moment) => {
+                self.write_time("acknowledged", moment, f)?;
+                self.write_packet("acknowledged_packet", "acknowledged_file", moment, f)?;
+            }
+            Fate::Abandoned { chunk, moment } => {
+                let name = ChunkName(chunk);
+                write!(f, ",\"abandoned_by\":\"{name}\"")?;
+                self.write_packet("abandoned_packet", "abandoned_file", moment, f)?;
+            }
+            Fate::Unacknowledged => {}
+        }
+        if let Some(nanoseconds) = message.delay() {
+            let seconds = self.0.style.seconds(nanoseconds);
+            write!(f, ",\"delay\":{seconds}")?;
+        }
+        self.write_reasons(f)?;
+        f.write_str("}")
+    }
+}
+
+impl<'a> MessageJson<'a> {
+    /// Writes which message it is.
+    fn write_message<W: fmt::Write>(&self, f: &mut fmt::Formatter<W>) -> fmt::Result {
+        let (message, key) = (self.0.message, self.0.message.key);
+        let (association, stream, number) = (message.association, key.stream, key.number);
+        let end = match message.sender {
+            Side::First => 0,
+            Side::Second => 1,
+        };
+        let name = if key.is_i_data { "mid" } else { "ssn" };
+        write!(
+            f,
+            "{{\"message_of\":{association},\"end\":{end},\"stream\":{stream},\"{name}\":{number}"
+        )?;
+        let is_unordered = key.is_unordered;
+        write!(f, ",\"unordered\":{is_unordered}")?;
+        if let Some(ppid) = message.ppid {
+            write!(f, ",\"ppid\":{ppid}")?;
+            if let Some(name) = payload_protocol(ppid) {
+                let name = JsonText(name);
+                write!(f, ",\"ppid_name\":{name}")?;
+            }
+        }
+        let (size, fragments) = (message.size, message.fragments);
+        let (first, last) = (message.first_tsn, message.last_tsn);
+        write!(f, ",\"size\":{size},\"fragments\":{fragments}")?;
+        write!(f, ",\"first_tsn\":{first},\"last_tsn\":{last}")
+    }
+
+    /// Writes why it took that long.
+    fn write_reasons<W: fmt::Write>(&self, f: &mut fmt::Formatter<W>) -> fmt::Result {
+        let message = self.0.message;
+        if let Some(again) = message.first_repeated {
+            let (repeated, tsn) = (message.repeated, again.tsn);
+            write!(f, ",\"repeated\":{repeated},\"first_repeated_tsn\":{tsn}")?;
+            if let Some(nanoseconds) = again.after {
+                let seconds = self.0.style.seconds(nanoseconds);
+                write!(f, ",\"repeated_after\":{seconds}")?;
+            }
+        }
+        if let Some(tsn) = message.changed {
+            write!(f, ",\"changed_tsn\":{tsn}")?;
+        }
+        if let Some(first) = message.first_missing {
+            let missing = message.missing;
+            let name = if message.key.is_i_data { "fsn" } else { "tsn" };
+            write!(f, ",\"missing\":{missing},\"first_missing_{name}\":{first}")?;
+        }
+        write_flag("contradictory", message.is_odd, f)?;
+        write_flag("no_beginning", !message.has_beginning, f)?;
+        write_flag("no_end", !message.has_end, f)?;
+        if let Some(tsn) = message.waited_for {
+            write!(f, ",\"waited_for_tsn\":{tsn}")?;
+        }
+        let Some(closed) = message.closed else {
+            return Ok(());
+        };
+        let first = PacketKeys {
+            packet: closed.first,
+            key: "closed_first",
+            file_key: "closed_first_file",
+            files: self.0.files,
+        };
+        let last = PacketKeys {
+            packet: closed.last,
+            key: "closed_last",
+            file_key: "closed_last_file",
+            files: self.0.files,
+        };
+        write!(f, "{first}{last}")
+    }
+
+    /// Writes a time, if it is known.
+    fn write_time<W: fmt::Write>(
+        &self,
+        key: &'static str,
+        moment: Moment,
+        f: &mut fmt::Formatter<W>,
+    ) -> fmt::Result {
+        let Some(nanoseconds) = moment.nanoseconds else {
+            return Ok(());
+        };
+        let time = self.0.style.time(nanoseconds);
+        match self.0.style.form {
+            TimeForm::Seconds => write!(f, ",\"{key}\":{time}"),
+            TimeForm::Iso | TimeForm::Utc => write!(f, ",\"{key}\":\"{time}\""),
+        }
+    }
+
+    /// Writes a packet's number, and its file's name.
+    fn write_packet<W: fmt::Write>(
+        &self,
+        key: &'static str,
+        file_key: &'static str,
+        moment: Moment,
+        f: &mut fmt::Formatter<W>,
+    ) -> fmt::Result {
+        let keys = PacketKeys {
+            packet: moment.packet,
+            key,
+            file_key,
+            files: self.0.files,
+        };
+        write!(f, "{keys}")
+    }
+}
+
+/// Writes a key that is true, if it is.
+fn write_flag<W: fmt::Write>(
+    key: &'static str,
+    is_so: bool,
+    f: &mut fmt::Formatter<W>,
+) -> fmt::Result {
+    if !is_so {
+        return Ok(());
+    }
+    write!(f, ",\"{key}\":true")
+}

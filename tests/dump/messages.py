@@ -1,0 +1,515 @@
+#!/usr/bin/env python3
+# SPDX-License-Identifier: Apache-2.0
+"""usage: tests/dump/messages.py [--seed 1] [--into FOLDER] [--model] PROGRAM [CAPTURE ..]
+       tests/dump/messages.py --help
+
+Compares what sctp_dump says of a capture's user messages, as lines and as JSON, with a model over tshark's dissection.
+
+  --seed 1       the seed of the captures that are drawn
+  --into FOLDER  keeps the captures that are made
+  --model        prints the model's messages, a line each, and compares nothing
+
+Without a CAPTURE it makes some, and compares these and some stored ones, of crates/sctp_dump/data and tests/dump/data. The model keeps
+all fragments, where the program forgets those that it needs no longer and finds no room for some. tshark has no field for a
+payload: that one was sent again with other bytes is compared where the sizes differ. A capture with packets that were cut off
+can't be compared. Status: 0 if all agree, 1 if not. Needed is tshark.
+"""
+import argparse
+import json
+import os
+import random
+import struct
+import subprocess
+import sys
+import tempfile
+from concurrent.futures import ThreadPoolExecutor
+
+sys.dont_write_bytecode = True
+sys.path.insert(0, os.path.dirname(os.path.abspath(__file__)))
+import associations as base  # noqa: E402
+from associations import A, B, C, ABORT, DATA, FORWARD_TSN, I_DATA, I_FORWARD_TSN, NR_SACK, SACK, SHUTDOWN, SHUTDOWN_COMPLETE  # noqa: E402
+
+base.FIELDS += ['sctp.data_sid', 'sctp.data_ssn', 'sctp.data_mid', 'sctp.data_fsn', 'sctp.data_payload_proto_id',
+                'sctp.data_b_bit', 'sctp.data_e_bit', 'sctp.data_u_bit']
+STORED = ['crates/sctp_dump/data/associations.pcap', 'crates/sctp_dump/data/raw.pcap', 'tests/dump/data/usrsctp.pcap']
+
+
+# ---- the model
+
+class Fragment:
+    """A DATA or an I-DATA, by its fields; `at` is its TSN, counted on beyond 2^32."""
+
+    def __init__(self, tsn, size, kind, take):
+        self.tsn, self.size, self.is_i_data = tsn, size, kind == I_DATA
+        self.stream = next(take['sctp.data_sid'])
+        self.begins, self.ends, self.unordered = (next(take['sctp.data_%s_bit' % bit]) for bit in 'beu')
+        self.number = next(take['sctp.data_mid' if self.is_i_data else 'sctp.data_ssn'])
+        # an I-DATA has a PPID if it begins a message, and else its FSN (RFC 8260 section 2.1)
+        self.ppid = next(take['sctp.data_payload_proto_id']) if self.begins or not self.is_i_data else None
+        self.place = tsn if not self.is_i_data else 0 if self.begins else next(take['sctp.data_fsn'])
+        self.key = self.is_i_data, self.stream, self.unordered, self.number
+        self.again, self.changed, self.closed = [], False, []
+        self.acknowledged = self.over = False
+
+    def same(self, other):
+        return all(getattr(self, name) == getattr(other, name) for name in ('key', 'place', 'begins', 'ends', 'ppid', 'size'))
+
+    def leads_to(self, other):
+        """The other one is the next that was seen of the same message of DATA (RFC 9260 section 6.9)."""
+        if self.ends or other.begins or self.is_i_data or other.is_i_data or self.over != other.over:
+            return False
+        if self.unordered:
+            return other.unordered and self.stream == other.stream and other.at - self.at <= 2
+        return self.key == other.key
+
+
+def is_whole(group):
+    """All from the one that begins the message to the one that ends it: of each one's number the next one's is the next."""
+    return group[0].begins and group[-1].ends and not any(
+        before.ends or after.begins or (before.place + 1 - after.place) % 2 ** 32 for before, after in zip(group, group[1:]))
+
+
+class Sender:
+    def __init__(self, association, side):
+        self.association, self.side, self.all, self.passed, self.last, self.over = association, side, [], None, 0, False
+
+    def counted_on(self, tsn):
+        """Serial Number Arithmetic (RFC 9260 section 2.6), from the last TSN on."""
+        return self.last + (tsn - self.last + 2 ** 31) % 2 ** 32 - 2 ** 31
+
+    def send(self, fragment, moment):
+        fragment.at = self.counted_on(fragment.tsn)
+        if self.over or self.passed is not None and fragment.at <= self.passed:
+            return
+        self.last, fragment.sent = fragment.at, moment
+        for known in self.all:
+            if known.at == fragment.at:
+                known.again.append(moment[1] - known.sent[1])
+                known.changed |= not known.same(fragment)
+                return
+        self.all.append(fragment)
+
+    def groups(self):
+        """Yields the fragments of each message that isn't over."""
+        self.all.sort(key=lambda one: one.at)
+        groups, numbered = [], {}
+        for before, one in zip([None] + self.all, self.all):
+            if one.over:
+                continue
+            if one.is_i_data and one.key in numbered:
+                numbered[one.key].append(one)
+            elif not one.is_i_data and before and before.leads_to(one):
+                groups[-1].append(one)
+            else:
+                groups.append([one])
+                if one.is_i_data:
+                    numbered[one.key] = groups[-1]
+        return groups
+
+    def is_passed(self, group):
+        """Nothing of it is awaited: it ends with an end that is passed, or before a TSN that is, and wasn't seen."""
+        last = group[-1]
+        if self.passed is None or last.at > self.passed:
+            return False
+        return any(one.ends for one in group) or not last.is_i_data and last.at < self.passed
+
+    def acknowledge(self, cumulative, blocks, is_closed, moment):
+        for one in self.all:
+            offset = (one.tsn - cumulative) % 2 ** 32
+            one.acknowledged |= offset == 0 or offset >= 2 ** 31 or any(first <= offset <= last for first, last in blocks)
+        self.passed = max(self.counted_on(cumulative), self.counted_on(cumulative) if self.passed is None else self.passed)
+        ended = [group for group in self.groups()
+                 if all(one.acknowledged for one in group) and is_whole(group) or self.is_passed(group)]
+        # of those that are acknowledged at once none waits for another
+        waited = [self.waited_for(group, ended) for group in ended]
+        lines = [self.end(group, ('acknowledged', moment), tsn) for group, tsn in zip(ended, waited)]
+        for one in self.all:
+            if is_closed and not one.over:
+                one.closed.append(moment[0])
+        return lines
+
+    def waited_for(self, group, ended):
+        """Head-of-line blocking: an earlier TSN of the stream, ordered, that isn't acknowledged."""
+        first = group[0]
+        for one in self.all:
+            if not first.unordered and one.at < first.at and not one.acknowledged and not one.over and not one.unordered and \
+                    (one.stream, one.is_i_data) == (first.stream, first.is_i_data) and not any(one in other for other in ended):
+                return one.tsn
+        return None
+
+    def skip(self, cumulative, kind, moment):
+        passed = self.counted_on(cumulative)
+        self.passed = passed if self.passed is None else max(self.passed, passed)
+        ended = [group for group in self.groups()
+                 if any(not one.acknowledged and one.at <= self.passed for one in group) or self.is_passed(group)]
+        return [self.end(group, (base.NAMES[kind], moment)) for group in ended]
+
+    def finish(self):
+        lines = [self.end(group, None) for group in self.groups()]
+        self.over = True
+        return lines
+
+    def end(self, group, fate, waited_for=None):
+        """Returns what the program should print of a message."""
+        first = group[0]
+        key, sent = ('mid' if first.is_i_data else 'ssn'), min(one.sent for one in group)
+        line = {'message_of': self.association, 'end': self.side, 'stream': first.stream, key: first.number,
+                'unordered': bool(first.unordered)}
+        ppids = [one.ppid for one in group if one.ppid is not None]
+        if ppids:
+            line['ppid'] = ppids[0]
+        line.update(size=sum(one.size for one in group), fragments=len(group), first_tsn=first.tsn, last_tsn=group[-1].tsn,
+                    sent=base.seconds(sent[1], 6), sent_packet=sent[0][1])
+        if fate and fate[0] == 'acknowledged':
+            line.update(acknowledged=base.seconds(fate[1][1], 6), acknowledged_packet=fate[1][0][1])
+            if fate[1][1] >= sent[1]:
+                line['delay'] = base.seconds(fate[1][1] - sent[1], 6)
+        elif fate:
+            line.update(abandoned_by=fate[0], abandoned_packet=fate[1][0][1])
+        again = [one for one in group if one.again]
+        if again:
+            line.update(repeated=sum(len(one.again) for one in again), first_repeated_tsn=again[0].tsn)
+            if again[0].again[0] >= 0:
+                line['repeated_after'] = base.seconds(again[0].again[0], 6)
+        changed = [one.tsn for one in group if one.changed]
+        if changed:
+            line['changed_tsn'] = changed[0]
+        holes, odd = [], False
+        for index, (before, after) in enumerate(zip(group, group[1:])):
+            hole = (after.place - before.place) % 2 ** 32 - 1
+            odd |= hole < 0 or hole >= 2 ** 31 or before.ends or after.begins
+            known = any(one.acknowledged for one in group[index + 1:])
+            known |= not first.is_i_data and self.passed is not None and before.at + 1 <= self.passed
+            if 0 < hole < 2 ** 31 and known:
+                holes.append(((before.place + 1) % 2 ** 32, hole))
+        if holes:
+            line.update({'missing': sum(hole for _, hole in holes), 'first_missing_' + ('fsn' if first.is_i_data else 'tsn'): holes[0][0]})
+        for name, is_so in (('contradictory', odd), ('no_beginning', not any(one.begins for one in group)),
+                            ('no_end', not any(one.ends for one in group))):
+            if is_so:
+                line[name] = True
+        if waited_for is not None:
+            line['waited_for_tsn'] = waited_for
+        closed = [packet for one in group for packet in one.closed]
+        if closed:
+            line.update(closed_first=min(closed)[1], closed_last=max(closed)[1])
+        for one in group:
+            one.over = True
+        return line
+
+
+def modelled(path):
+    """Returns the messages of a capture."""
+    model, senders, lines = base.Model(), {}, []
+    for packet in base.packets(path, ()):
+        model.see(packet)
+        member = model.members[packet['number']]
+        if not member:
+            continue
+        take = {name: iter([1 if text == 'True' else 0 if text == 'False' else base.number(text) for text in values])
+                for name, values in packet['fields'].items() if name.startswith('sctp.data_')}
+        own, moment = (member['association'], member['end']), (packet['number'], packet['time'])
+        other = own[0], 1 - own[1]
+        for kind, value in packet['chunks']:
+            if kind in (DATA, I_DATA):
+                senders.setdefault(own, Sender(*own)).send(Fragment(*value, kind, take), moment)
+            elif kind in (FORWARD_TSN, I_FORWARD_TSN) and own in senders:
+                lines += senders[own].skip(value[0], kind, moment)
+            elif kind in (SACK, NR_SACK) and other in senders:
+                lines += senders[other].acknowledge(value[0], value[2], value[1] == 0, moment)
+            elif kind == SHUTDOWN and other in senders:
+                lines += senders[other].acknowledge(value, (), False, moment)
+            elif kind in (ABORT, SHUTDOWN_COMPLETE):
+                for end in (own[0], 0), (own[0], 1):
+                    lines += senders[end].finish() if end in senders else []
+    for end in sorted(senders):
+        lines += senders[end].finish()
+    return sorted(lines, key=order_of)
+
+
+def over_by(line):
+    """Returns the packet by which a message was over."""
+    return line.get('acknowledged_packet', line.get('abandoned_packet'))
+
+
+def order_of(line):
+    return over_by(line) or 2 ** 64, line['message_of'], line['end'], line['first_tsn'], line['sent_packet']
+
+
+def text_of(line, names):
+    """Returns the line of an object."""
+    key = 'mid' if 'mid' in line else 'ssn'
+    text = 'message of %d %s stream %d, %s %d' % (line['message_of'], '><'[line['end']], line['stream'], key, line[key])
+    text += ', unordered' * line['unordered']
+    if 'ppid' in line:
+        text += ', ppid %d' % line['ppid'] + (' (%s)' % names[line['ppid']] if line['ppid'] in names else '')
+    text += ', size %d, tsn %d' % (line['size'], line['first_tsn'])
+    text += ' to %d' % line['last_tsn'] * (line['last_tsn'] != line['first_tsn'])
+    text += ': sent %s (packet %d)' % (line['sent'], line['sent_packet'])
+    if 'acknowledged' in line:
+        text += ', acknowledged %s (packet %d)' % (line['acknowledged'], line['acknowledged_packet'])
+        text += ' after %s s' % line['delay'] if 'delay' in line else ''
+    elif 'abandoned_by' in line:
+        text += ', abandoned by %s in packet %d' % (line['abandoned_by'], line['abandoned_packet'])
+    else:
+        text += ', not acknowledged'
+    if 'repeated' in line:
+        text += '; tsn %d sent again' % line['first_repeated_tsn']
+        text += ' after %s s' % line['repeated_after'] if 'repeated_after' in line else ''
+        text += ', %d repeats in all' % line['repeated'] if line['repeated'] > 1 else ''
+    if 'changed_tsn' in line:
+        text += '; tsn %d sent again with other bytes' % line['changed_tsn']
+    for name in 'tsn', 'fsn':
+        if 'first_missing_' + name in line:
+            text += '; %s %d' % (name, line['first_missing_' + name])
+            text += ' and %d more' % (line['missing'] - 1) * (line['missing'] > 1) + ' never seen in this capture'
+    text += '; fragments contradict one another' * ('contradictory' in line)
+    text += '; beginning not seen' * ('no_beginning' in line) + '; end not seen' * ('no_end' in line)
+    text += '; waited for tsn %d of its stream' % line['waited_for_tsn'] if 'waited_for_tsn' in line else ''
+    if 'closed_first' in line:
+        first, last = line['closed_first'], line['closed_last']
+        text += '; peer\'s window was 0 ' + ('in packet %d' % first if first == last else 'from packet %d to %d' % (first, last))
+    return text
+
+
+def printed(program, path, *options):
+    return subprocess.run([program, *options, path], stdout=subprocess.PIPE, text=True, check=False).stdout.splitlines()
+
+
+def compare(path, program):
+    """Compares a capture, and returns the number of messages and of those that differ."""
+    name, want = os.path.basename(path), modelled(path)
+    got = [json.loads(line, parse_float=str) for line in printed(program, path, '--json', '--messages', '--summary')]
+    got, wrong = [line for line in got if 'message_of' in line], []
+    names = {line['ppid']: line.pop('ppid_name') for line in got if 'ppid_name' in line}
+    texts = [line for line in printed(program, path, '--messages') if line.startswith('message of ')]
+    # in the order of the packets by which they were over
+    packets = [over_by(line) for line in got if over_by(line)]
+    if packets != sorted(packets) or texts != [text_of(line, names) for line in got]:
+        wrong.append('lines in another order, or not those of the objects')
+    got.sort(key=order_of)
+    for index in range(max(len(want), len(got))):
+        pair = [some[index] if index < len(some) else None for some in (want, got)]
+        if pair[0] != pair[1]:
+            wrong.append('expected %s\n  printed  %s' % tuple(json.dumps(one) for one in pair))
+    for line in wrong[:5]:
+        print('%s: %s' % (name, line))
+    return len(want), len(wrong)
+
+
+# ---- captures
+
+BEGINS, ENDS, UNORDERED = 2, 1, 4
+
+
+def piece(tsn, bits, stream=1, number=0, payload=b'hello', ppid=51):
+    return base.chunk(DATA, bits, struct.pack('>IHHI', tsn % 2 ** 32, stream, number, ppid) + payload)
+
+
+def i_piece(tsn, bits, stream=1, mid=0, fsn=51, payload=b'hello'):
+    """An I-DATA; at a beginning its FSN's place has the PPID."""
+    return base.chunk(I_DATA, bits, struct.pack('>IHHII', tsn % 2 ** 32, stream, 0, mid, fsn) + payload)
+
+
+def reasons():
+    """Each fate and each reason, by itself."""
+    capture = base.Capture('reasons')
+    tags = base.handshake(capture, tsn_a=-1)
+
+    def sent(*chunks, after=1000):
+        capture.add(A, B, tags[1], *chunks, after=after)
+
+    def answered(*report, after=1000):
+        capture.add(B, A, tags[0], base.sack(*report), after=after)
+
+    # in three fragments over the wrap of TSNs, one of which comes twice; one that waits for it; and one of another stream
+    sent(piece(-1, BEGINS), piece(0, 0), piece(1, ENDS))
+    sent(piece(2, BEGINS | ENDS, number=1), piece(3, BEGINS | ENDS, stream=2))
+    answered(-1, 5000, ((2, 4),))
+    sent(piece(0, 0), after=1_420_000)
+    sent(piece(0, 0))
+    answered(3)
+    # a TSN that is never seen, in an ordered message; two of an unordered one, which may have an end and a beginning
+    sent(piece(4, BEGINS, number=1), piece(6, ENDS, number=1))
+    sent(piece(7, BEGINS | UNORDERED), piece(9, UNORDERED), piece(12, ENDS | UNORDERED))
+    answered(12)
+    # abandoned, in part and wholly; acknowledged in part, with what comes after it
+    sent(piece(13, BEGINS, number=2), piece(14, 0, number=2), piece(15, ENDS, number=2), piece(16, BEGINS | ENDS, number=3))
+    answered(13, 5000, ((3, 3),))
+    sent(base.forward_tsn(14, (1,)))
+    answered(16)
+    # the window is 0 while one is outstanding
+    sent(piece(17, BEGINS | ENDS, number=4))
+    for _ in range(3):
+        answered(16, 0)
+    answered(17, 100)
+    # two beginnings, two ends, and a TSN with other bytes
+    sent(piece(18, BEGINS, number=5), piece(19, BEGINS, number=6), piece(20, ENDS, number=6), piece(21, ENDS, number=6))
+    sent(piece(18, BEGINS, number=5, payload=b'others'))
+    answered(21)
+    # what an end sends after its TSN was acknowledged; and what is outstanding as the association ends
+    sent(piece(21, ENDS, number=6))
+    sent(piece(22, BEGINS, number=7))
+    capture.add(B, A, tags[0], piece(2000, BEGINS | ENDS))
+    capture.add(A, B, tags[1], base.chunk(ABORT, 0, b''))
+    sent(piece(23, ENDS, number=7))
+    return capture
+
+
+def interleaved():
+    """I-DATA of three streams in turn (RFC 8260 section 2.1)."""
+    capture = base.Capture('interleaved')
+    tags = base.handshake(capture)
+    bits = lambda fsn, last: BEGINS * (fsn == 0) | ENDS * (fsn == last)  # noqa: E731
+    tsn = 1000
+    for fsn in range(4):
+        for stream in 1, 2, 3:
+            if (stream, fsn) != (2, 2):
+                unordered = UNORDERED if stream == 3 else 0
+                capture.add(A, B, tags[1], i_piece(tsn, bits(fsn, 3) | unordered, stream, 7, fsn or 51))
+            tsn += 1
+    capture.add(B, A, tags[0], base.sack(1002, 5000, ((2, 4), (6, 9))))
+    capture.add(B, A, tags[0], base.sack(1011))
+    # two beginnings of one message, and one that goes on as the capture ends
+    capture.add(A, B, tags[1], i_piece(1012, BEGINS, mid=8), i_piece(1013, BEGINS | ENDS, mid=8), i_piece(1014, BEGINS, mid=9))
+    capture.add(B, A, tags[0], base.sack(1014))
+    return capture
+
+
+def midway():
+    """The capture begins within a message; and one end is seen alone."""
+    capture = base.Capture('midway')
+    capture.add(A, C, 0x61, piece(50, 0), piece(51, ENDS), piece(52, BEGINS | ENDS, number=1))
+    capture.add(C, A, 0x62, base.sack(52))
+    capture.add((7, 1), (8, 2), 0x63, piece(9, 0), piece(10, ENDS), piece(12, 0))
+    return capture
+
+
+def drawn(seed):
+    """Some associations at once, with loss, reordering, repetition, FORWARD-TSN, windows of 0, interleaving, wraps of TSNs, chunks
+    that contradict one another, and beginnings that weren't captured."""
+    draw = random.Random(seed)
+    capture, live, port = base.Capture('messages%d' % seed), [], 1000
+    for _ in range(6000):
+        if len(live) < 5 and draw.random() < 0.05:
+            port += 1
+            a, b = (draw.randrange(1, 9), port), (draw.randrange(11, 19), 5000)
+            tags = draw.getrandbits(32) or 1, draw.getrandbits(32) or 1
+            if draw.random() < 0.7:
+                base.handshake(capture, a, b, *tags)
+            live.append({'ends': (a, b), 'tags': tags, 'i_data': draw.random() < 0.4, 'loss': draw.choice((0, 0.05, 0.3)), 'sent': ([], []),
+                         'next': [draw.choice((draw.getrandbits(32), 2 ** 32 - 20)) for _ in 'ab'], 'open': ({}, {}), 'numbers': ({}, {}),
+                         'cumulative': [None, None], 'got': (set(), set())})
+        if not live:
+            continue
+        one = draw.choice(live)
+        side, after, what = draw.randrange(2), draw.randrange(1, 5000), draw.random()
+        source, destination, tag = one['ends'][side], one['ends'][1 - side], one['tags'][1 - side]
+        if what < 0.5:
+            fragment = next_fragment(draw, one, side)
+            one['sent'][side].append(fragment)
+            if draw.random() < 0.97:
+                one['got'][side].add(fragment[0])
+            if draw.random() >= one['loss']:
+                capture.add(source, destination, tag, fragment[1], after=after)
+        elif what < 0.62 and one['sent'][side]:
+            again = draw.choice(one['sent'][side][-12:])
+            one['got'][side].add(again[0])
+            bytes_of = again[1] if draw.random() < 0.95 else again[1][:2] + struct.pack('>H', len(again[1])) + again[1][4:] + b'more'
+            capture.add(source, destination, tag, bytes_of, after=after)
+        elif what < 0.9 and one['sent'][1 - side]:
+            capture.add(source, destination, tag, report_of(draw, one, 1 - side), after=after)
+        elif what < 0.96 and one['sent'][side]:
+            tsn = draw.choice(one['sent'][side][-6:])[0]
+            one['got'][side].update(range(tsn - 40, tsn + 1))
+            kind = I_FORWARD_TSN if one['i_data'] else FORWARD_TSN
+            capture.add(source, destination, tag, base.forward_tsn(tsn, (1,), kind), after=after)
+        elif what > 0.997:
+            live.remove(one)
+            if draw.random() < 0.5:
+                base.shutdown(capture, one['tags'], *one['ends'], one['next'][1] - 1)
+            else:
+                capture.add(source, destination, tag, base.chunk(ABORT, 0, base.parameter(12, b'')), after=after)
+    return capture
+
+
+def next_fragment(draw, one, side):
+    """Draws the next TSN of an end, and its chunk: of the message that is open, or with I-DATA of one of them."""
+    tsn, streams = one['next'][side], one['open'][side]
+    one['next'][side] += 1
+    stream = draw.choice(list(streams)) if streams and (not one['i_data'] or draw.random() < 0.6) else draw.randrange(3)
+    if stream not in streams:
+        number = one['numbers'][side][stream] = one['numbers'][side].get(stream, -1) + 1
+        streams[stream] = [number, draw.choice((0, 0, UNORDERED)), draw.choice((1, 1, 1, 2, 3, 6)), 0]
+    number, unordered, count, fsn = streams[stream]
+    streams[stream][3] += 1
+    bits = unordered | BEGINS * (fsn == 0) | ENDS * (fsn + 1 == count)
+    if fsn + 1 == count:
+        del streams[stream]
+    if draw.random() < 0.02:
+        bits ^= draw.choice((BEGINS, ENDS))
+    payload, ppid = bytes(draw.randrange(1, 50)), draw.choice((51, 53, 3_000_000))
+    if one['i_data']:
+        return tsn, i_piece(tsn, bits, stream, number, ppid if bits & BEGINS else fsn, payload)
+    return tsn, piece(tsn, bits, stream, number % 2 ** 16, payload, ppid)
+
+
+def report_of(draw, one, side):
+    """Draws a SACK or an NR-SACK of what an end's receiver got."""
+    got = one['got'][side]
+    cumulative = one['cumulative'][side]
+    cumulative = one['sent'][side][0][0] - 1 if cumulative is None else cumulative
+    while cumulative + 1 in got:
+        cumulative += 1
+    one['cumulative'][side] = cumulative
+    offsets = sorted(tsn - cumulative for tsn in got if tsn > cumulative)
+    blocks = []
+    for offset in offsets:
+        if blocks and blocks[-1][1] + 1 == offset:
+            blocks[-1][1] = offset
+        else:
+            blocks.append([offset, offset])
+    cumulative -= draw.choice((0, 0, 0, 0, 3))
+    window, blocks = draw.choice((0, 1, 50_000)), blocks if cumulative == one['cumulative'][side] else []
+    return base.sack(cumulative, window, blocks) if draw.random() < 0.8 else base.nr_sack(cumulative, window, blocks[:1], blocks[1:])
+
+
+def main():
+    parser = argparse.ArgumentParser(usage=__doc__.strip()[7:], add_help=False)
+    for flag in '--model', '--help':
+        parser.add_argument(flag, action='store_true')
+    parser.add_argument('--seed', type=int, default=1)
+    parser.add_argument('--into')
+    parser.add_argument('program', nargs='?')
+    parser.add_argument('captures', nargs='*')
+    given = parser.parse_args()
+    if given.help:
+        print(__doc__.strip())
+        return 0
+    if not given.program:
+        parser.error('no PROGRAM')
+    with tempfile.TemporaryDirectory() as folder:
+        return run(given, given.into or folder)
+
+
+def run(given, folder):
+    total = wrong = 0
+    captures = given.captures
+    if not captures:
+        cases = [reasons(), interleaved(), midway(), *(drawn(given.seed + step) for step in range(3))]
+        captures = [case.write(folder) for case in cases] + [os.path.join(base.ROOT, path) for path in STORED]
+    base.known_fields()
+    if given.model:
+        for path in captures:
+            for line in modelled(path):
+                print(json.dumps(line))
+        return 0
+    with ThreadPoolExecutor(2) as pool:
+        for messages, differing in pool.map(lambda path: compare(path, given.program), captures):
+            total, wrong = total + messages, wrong + differing
+    print('model: messages %d, differing %d' % (total, wrong))
+    return 1 if wrong or not total else 0
+
+
+if __name__ == '__main__':
+    sys.exit(main())
