@@ -6,3 +6,4 @@ pub mod SackBlocks
 pub mod Marks
 pub mod Reports
 pub mod AddedItems
+pub mod NewAddresses

@@ -2,10 +2,10 @@
 -- 8 ask of them.
 use Rattle.std.specs.Prelude.{◌==◌, ◌&&◌, Bool, false, ℕ, zero, suc, nat_lt, if◌then◌else◌, List, [], ◌∷◌, Option, Some, None, find, length, drop}
 use Rattle.std.specs.List.{list_any}
-use Rattle.std.specs.Option.{is_some}
+use Rattle.std.specs.{Option.{is_some}, Str.{bytes_eq}}
 use Rattle.dcsctp_tlv.specs.Number.{number32}
 use Rattle.dcsctp_chunk.specs.Flags.{is_set}
-use Rattle.dcsctp_borrowed.specs.{Grammar.{whole}, Part.{Part, Item, begins_with_item, first_item, after_item, after}}
+use Rattle.dcsctp_borrowed.specs.{Grammar.{whole}, Part.{Part, Item, begins_with_item, item_of, first_item, after_item, after}}
 use Rattle.dcsctp_receive.specs.declared.items.Wanted.{Wanted}
 use Rattle.dcsctp_receive.specs.declared.items.Wanted.TheVariants as wanted
 
@@ -47,9 +47,14 @@ is_of_type typ c = c.first == typ
 abbrev pub is_numbered : ℕ → Item → Bool
 is_numbered typ p = p.first == 0 && p.second == typ
 
+-- the same type, and the same value
+abbrev pub is_same : Item → Item → Bool
+is_same p q = q.first == p.first && q.second == p.second && bytes_eq q.value.bytes p.value.bytes
+
 abbrev pub is_wanted : Wanted → Item → Bool
 is_wanted (wanted.Chunk typ) i = is_of_type typ i
 is_wanted (wanted.Numbered typ) i = is_numbered typ i
+is_wanted (wanted.Same p) i = is_same (item_of p) i
 
 -- The packet contains a chunk of this type.
 abbrev pub contains : ℕ → List Item → Bool
@@ -59,6 +64,11 @@ contains typ chunks = list_any (is_of_type typ) chunks
 abbrev pub begins_with : ℕ → List Item → Bool
 begins_with typ [] = false
 begins_with typ (c ∷ cs) = is_of_type typ c
+
+-- without an AUTH at the front, which says of what comes after it who sent it (RFC 4895 section 6.3)
+abbrev pub after_auth : List Item → List Item
+after_auth [] = []
+after_auth (c ∷ cs) = if is_of_type 15 c then cs else c ∷ cs
 
 -- the only chunk, if it has this type
 abbrev pub only : ℕ → List Item → Option Item

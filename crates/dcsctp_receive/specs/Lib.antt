@@ -6,4 +6,6 @@ pub mod Fields
 pub mod VerificationTag
 pub mod OutOfTheBlue
 pub mod Initiation
+pub mod Restart
+pub mod Handling
 pub mod Rule

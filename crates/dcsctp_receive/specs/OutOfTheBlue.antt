@@ -5,7 +5,7 @@ use Rattle.std.specs.List.{list_any}
 use Rattle.dcsctp_borrowed.specs.Part.{Item}
 use Rattle.dcsctp_wire.specs.{Packet.{Meaning}, Chunk.{ChunkTree}, declared.packet.common_header.CommonHeader.{CommonHeader}}
 use Rattle.dcsctp_wire.specs.Chunk as tree
-use Rattle.dcsctp_receive.specs.{Chunks.{has_header, tag_of, chunks_of, contains, begins_with}, Fields.{is_stale_cookie_error}}
+use Rattle.dcsctp_receive.specs.{Chunks.{has_header, tag_of, chunks_of, contains, begins_with, after_auth}, Fields.{is_stale_cookie_error}}
 use Rattle.dcsctp_receive.specs.declared.out_of_the_blue.OutOfTheBlue.{OutOfTheBlue}
 use Rattle.dcsctp_receive.specs.declared.out_of_the_blue.OutOfTheBlue.TheVariants.{Discard, Init, CookieEcho, Respond}
 use Rattle.dcsctp_receive.specs.declared.out_of_the_blue.Reply.{Reply}
@@ -24,8 +24,8 @@ answer_of is_unicast tag chunks =
     -- processed as described in Section 5.1."
     if tag == 0 && contains 1 chunks then Init else
     -- 4) "If the packet contains a COOKIE ECHO chunk as the first chunk, it MUST be processed as
-    -- described in Section 5.1."
-    if begins_with 10 chunks then CookieEcho else
+    -- described in Section 5.1." Or "as the second chunk" behind an AUTH (RFC 4895 section 6.3).
+    if begins_with 10 (after_auth chunks) then CookieEcho else
     -- 5) "If the packet contains a SHUTDOWN ACK chunk, the receiver SHOULD respond to the sender of
     -- the OOTB packet with a SHUTDOWN COMPLETE chunk."
     if contains 8 chunks then Respond ShutdownComplete else

@@ -8,8 +8,6 @@ use Rattle.dcsctp_wire.specs.{Chunk.{ChunkTree, Unknown}, Packet.{Meaning}}
 use Rattle.dcsctp_borrowed.specs.{Grammar.{whole}, Part.{Item}}
 use Rattle.dcsctp_receive.specs.{Action.{action_to_chunk, action_to_parameter, skips, reports}, Chunks.{items_of, chunks_of}}
 use Rattle.dcsctp_receive.specs.declared.action.Action.{Action}
-use Rattle.dcsctp_receive.specs.declared.reported.Handling.{Handling}
-use Rattle.dcsctp_receive.specs.declared.reported.Handling.TheVariants as handling
 
 -- ---- one of them
 
@@ -154,9 +152,3 @@ parameter_stop known list = stop_offset (parameter_action known) (items_of (whol
 abbrev pub chunk_stop : List ℕ → List ℕ → Option ℕ
 chunk_stop known packet =
     option_map (λ offset. 12 + offset) (stop_offset (chunk_action known) (chunks_of packet))
-
--- ---- as the code says which items are looked at
-
-abbrev pub action_by : Handling → Item → Option Action
-action_by (handling.Chunks known) = chunk_action known.now
-action_by (handling.Parameters known) = parameter_action known.now

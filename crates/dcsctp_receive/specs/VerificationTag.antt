@@ -2,7 +2,7 @@
 -- 8.5.1).
 use Rattle.std.specs.Prelude.{◌==◌, ◌&&◌, Bool, false, ℕ, if◌then◌else◌, List, Option, Some, None}
 use Rattle.dcsctp_borrowed.specs.Part.{Item}
-use Rattle.dcsctp_receive.specs.Chunks.{has_header, tag_of, chunks_of, contains, begins_with, is_only, t_bit}
+use Rattle.dcsctp_receive.specs.Chunks.{has_header, tag_of, chunks_of, contains, begins_with, after_auth, is_only, t_bit}
 use Rattle.dcsctp_receive.specs.declared.verification_tag.Association.{Association}
 use Rattle.dcsctp_receive.specs.declared.verification_tag.TagVerdict.{TagVerdict}
 use Rattle.dcsctp_receive.specs.declared.verification_tag.TagVerdict.TheVariants.{Accept, Establish, OutOfTheBlue, Discard}
@@ -32,8 +32,8 @@ verdict_of a tag chunks =
     -- C: "packets carrying a SHUTDOWN COMPLETE chunk"
     if contains 14 chunks then by_t_bit a tag (t_bit 14 chunks) else
     -- D: "The receiver of a COOKIE ECHO chunk follows the procedures in Section 5", by which it is
-    -- the first chunk.
-    if begins_with 10 chunks then Establish else
+    -- the first chunk, or the second behind an AUTH (RFC 4895 section 6.3).
+    if begins_with 10 (after_auth chunks) then Establish else
     -- E: "packets carrying a SHUTDOWN ACK chunk": "If the receiver is in COOKIE-ECHOED or
     -- COOKIE-WAIT state, [..] it is treated as an OOTB packet."
     if a.awaits_cookie && contains 8 chunks then OutOfTheBlue else

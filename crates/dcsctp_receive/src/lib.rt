@@ -18,6 +18,7 @@ pub mod out_of_the_blue;
 mod parameters;
 mod reply;
 mod reported;
+pub mod restart;
 pub mod rule;
 pub mod unrecognized;
 pub mod verification_tag;

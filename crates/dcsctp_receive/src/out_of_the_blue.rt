@@ -8,7 +8,7 @@ ghost use Rattle.dcsctp_receive.specs.Chunks.{items_of};
 ghost use Rattle.dcsctp_receive.specs.OutOfTheBlue.{answer_of, answer_to, reply_chunk, reply_to};
 
 use crate::chunk_test::{ChunkTest, some};
-use crate::items::{begins_with, chunk_part, contains};
+use crate::items::{after_auth, begins_with, chunk_part, contains};
 use crate::reply::write_back;
 use dcsctp_borrowed::part::Part;
 use dcsctp_buffer::error::WriteError;
@@ -45,7 +45,8 @@ pub enum Reply {
 }
 
 /// Returns what is done with a packet that belongs to no association, by the steps of RFC 9260
-/// section 8.4 in their order. Bytes without a common header are discarded.
+/// section 8.4 in their order; a COOKIE ECHO is the first chunk behind an AUTH too (RFC 4895
+/// section 6.3). Bytes without a common header are discarded.
 ///
 /// `is_unicast` says whether the packet is to and from unicast addresses. Its chunks are looked at
 /// by their types alone, and an ERROR by the codes of its causes, up to the first whose length is
@@ -72,7 +73,7 @@ fn answer_of(is_unicast: bool, tag: u32, chunks: Part<'_>) -> OutOfTheBlue
     if tag == 0 && contains(chunks, init_chunk::CHUNK_TYPE) {
         return OutOfTheBlue::Init;
     }
-    if begins_with(chunks, cookie_echo_chunk::CHUNK_TYPE) {
+    if begins_with(after_auth(chunks), cookie_echo_chunk::CHUNK_TYPE) {
         return OutOfTheBlue::CookieEcho;
     }
     if contains(chunks, shutdown_ack_chunk::CHUNK_TYPE) {

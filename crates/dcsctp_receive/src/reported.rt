@@ -1,13 +1,16 @@
 //! The items of a list that are reported, one after the other.
 
-ghost use Rattle.std.specs.Prelude.{◌≡◌, ◌↔◌, ◌≤◌, ◌<◌, [], ◌∷◌, length, nat_le, IsOk, IfSome, IfNone, IfErr, if◌then◌else◌};
+ghost use Rattle.std.specs.List.{concat};
+ghost use Rattle.std.specs.Prelude.{◌≡◌, ◌↔◌, ◌≤◌, ◌<◌, ◌+◌, [], ◌∷◌, length, nat_le, IsOk, IfSome, IfNone, IfErr, if◌then◌else◌};
 ghost use Rattle.dcsctp_tlv.specs.Number.{AreBytes};
 ghost use Rattle.dcsctp_borrowed.specs.{Grammar.{whole}, Part.{part_of, item_of, front, after}};
 ghost use Rattle.dcsctp_buffer.specs.{Buffer.{IsBegun, Declines}, Item.{IsLastChunk}};
 ghost use Rattle.dcsctp_receive.specs.Chunks.{items_of};
-ghost use Rattle.dcsctp_receive.specs.Unrecognized.{type_of, parameter_action, is_reported, stops, stop_offset, wholes, added_size, error_size, AreAdded, IsErrorAdded, IsSomeErrorAdded, HasRoomForAll, HasErrorRoom, HasSomeRoom, action_by};
+ghost use Rattle.dcsctp_receive.specs.Unrecognized.{type_of, parameter_action, is_reported, stops, stop_offset, wholes, added_size, error_size, AreAdded, IsErrorAdded, IsSomeErrorAdded, HasRoomForAll, HasErrorRoom, HasSomeRoom};
+ghost use Rattle.dcsctp_receive.specs.{Handling.{action_by, address_action}, Restart.{is_address}};
 
 use crate::action::{Action, unrecognized_chunk, unrecognized_parameter};
+use crate::items::{has_same, is_numbered};
 use dcsctp_borrowed::part::{Item, Part};
 use dcsctp_buffer::error::WriteError;
 use dcsctp_buffer::item::{WritableItem, add_written, is_last_chunk};
@@ -18,6 +21,12 @@ use dcsctp_tlv::number::round_up_to_4;
 use dcsctp_tlv::widths::are_bytes;
 use dcsctp_wire::packet::error_chunk;
 
+/// The parameter IPv4 Address (RFC 9260 section 3.3.2.1.1).
+const IPV4_ADDRESS: u8 = 5;
+
+/// The parameter IPv6 Address (RFC 9260 section 3.3.2.1.2).
+const IPV6_ADDRESS: u8 = 6;
+
 /// What is done with the items of a list.
 #[derive(Clone, Copy)]
 pub(crate) enum Handling<'a> {
@@ -25,6 +34,8 @@ pub(crate) enum Handling<'a> {
     Chunks(&'a [u8]),
     /// With parameters, of which these types are recognized.
     Parameters(&'a [u16]),
+    /// With the parameters of an INIT for an association of these addresses.
+    Addresses(Part<'a>),
 }
 
 /// An item that is reported.
@@ -50,6 +61,7 @@ impl Handling<'_> {
                 }
             }
             Handling::Parameters(known) => parameter_action(known, item),
+            Handling::Addresses(known) => address_action(known, item),
         }
     }
 }
@@ -64,6 +76,27 @@ fn parameter_action(known: &[u16], item: Item<'_>) -> Option<Action>
     } else {
         Some(unrecognized_parameter(typ))
     }
+}
+
+/// Returns what is done with a parameter of an INIT for an association of these addresses: it is
+/// listed where it is a new one.
+fn address_action(known: Part<'_>, item: Item<'_>) -> Option<Action>
+    ensures { result ≡ address_action (items_of (part_of known.entry)) (item_of item.entry) }
+{
+    if is_address(item) && !has_same(known, item) {
+        Some(Action::SkipAndReport)
+    } else {
+        None
+    }
+}
+
+/// Returns whether it is an IPv4 Address or an IPv6 Address.
+fn is_address(item: Item<'_>) -> bool
+    ensures { result ≡ is_address (item_of item.entry) }
+{
+    let size = item.value.bytes.len();
+    (is_numbered(item, IPV4_ADDRESS) && size == 4)
+        || (is_numbered(item, IPV6_ADDRESS) && size == 16)
 }
 
 /// Returns a list of parameters.
@@ -106,6 +139,8 @@ pub(crate) fn next_reported<'a>(list: Part<'a>, handling: Handling<'_>) -> Optio
         wholes (action_by handling.entry) (items_of (part_of list.entry))
         ≡ r.whole.bytes.now ∷ wholes (action_by handling.entry) (items_of (part_of r.left))) }
     ensures less { IfSome result (λ r. length r.left.bytes.now < length list.entry.bytes.now) }
+    ensures within { IfSome result (λ r.
+        length r.whole.bytes.now + length r.left.bytes.now ≤ length list.entry.bytes.now) }
     ensures none { IfNone result
         (wholes (action_by handling.entry) (items_of (part_of list.entry)) ≡ []) }
 {
@@ -197,6 +232,38 @@ impl WritableItem for Copied<'_> {
 
     fn put_value(&self, output: &mut [u8], place: usize) {
         put_bytes(output, place, self.bytes);
+    }
+}
+
+/// The items of a list that are reported, one after the other, as the value of a cause.
+#[derive(Clone, Copy)]
+pub(crate) struct Listed<'a> {
+    pub(crate) list: Part<'a>,
+    pub(crate) handling: Handling<'a>,
+}
+
+impl WritableItem for Listed<'_> {
+    ghost value = { λ l. concat (wholes (action_by l.handling) (items_of (part_of l.list))) };
+
+    fn value_size(&self) -> usize {
+        let _length = self.list.bytes.len();
+        let mut rest = self.list;
+        let mut size = 0;
+        while let Some(item) = next_reported(rest, self.handling) {
+            size += item.whole.bytes.len();
+            rest = item.left;
+        }
+        size
+    }
+
+    fn put_value(&self, output: &mut [u8], place: usize) {
+        let mut rest = self.list;
+        let mut at = place;
+        while let Some(item) = next_reported(rest, self.handling) {
+            put_bytes(output, at, item.whole.bytes);
+            at += item.whole.bytes.len();
+            rest = item.left;
+        }
     }
 }
 

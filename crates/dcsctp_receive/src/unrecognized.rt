@@ -1,5 +1,5 @@
-//! What isn't recognized, reported all at once: the parameters of an INIT in the INIT ACK, and the
-//! chunks of a packet in an ERROR.
+//! What isn't recognized, reported all at once: the parameters of an INIT in the INIT ACK, those of
+//! another chunk, and the chunks of a packet, in an ERROR.
 
 ghost use Rattle.std.specs.Prelude.{◌≡◌, ◌↔◌, ℕ, length, IsOk, IfOk, IfErr, IfSome, option_map, ◌<◌, ◌^◌, ◌+◌};
 ghost use Rattle.dcsctp_wire.specs.{Packet.{Meaning}, Chunk.{ChunkTree}};
@@ -12,7 +12,8 @@ use dcsctp_buffer::error::WriteError;
 use dcsctp_wire::packet::sctp_packet::COMMON_HEADER_SIZE;
 use dcsctp_wire::packet::unrecognized_chunk_error_cause::CAUSE_CODE as UNRECOGNIZED_CHUNK;
 
-/// The type of the parameter Unrecognized Parameter (RFC 9260 section 3.3.3.1.2).
+/// The type of the parameter Unrecognized Parameter (RFC 9260 section 3.3.3.1.2), and the code of
+/// the cause Unrecognized Parameters (section 3.3.10.8).
 const UNRECOGNIZED_PARAMETER: u16 = 8;
 
 /// Adds an Unrecognized Parameter (RFC 9260 section 3.3.3.1.2) for each parameter of an INIT that
@@ -58,6 +59,42 @@ pub fn add_unrecognized_parameters(
         parameters,
         handling,
     )?;
+    Ok(stop_offset(parameters, handling))
+}
+
+/// Adds an ERROR with a cause Unrecognized Parameters (RFC 9260 section 3.3.10.8) for each parameter
+/// of an INIT ACK, or of another chunk but INIT, that is reported (section 3.2.2); no ERROR where
+/// there is none.
+///
+/// The packet is the one that answers: that of an INIT ACK begins with COOKIE ECHO. `list` and
+/// `known` are as of `add_unrecognized_parameters`, and the same are reported.
+///
+/// Returns the offset in the list of the parameter at which processing stops; `None` where it stops
+/// at none. Returns the first of these errors that is so, and then changes nothing: `BadPlace` as
+/// `add` of `dcsctp_buffer` does; `NoRoom` where the packet has no room for the whole ERROR, in the
+/// buffer or in the 65,532 bytes that a packet can have.
+pub fn add_unrecognized_parameters_error(
+    buffer: &mut [u8],
+    size: &mut usize,
+    list: &[u8],
+    known: &[u16],
+) -> Result<Option<usize>, WriteError>
+    ensures room { IsOk result ↔ HasErrorRoom (length buffer.old) size.old
+        (unrecognized_parameters known.now list.now) }
+    ensures stop { IfOk result (λ stop. stop ≡ parameter_stop known.now list.now) }
+    ensures added { IsOk result → IsErrorAdded 8 (unrecognized_parameters known.now list.now)
+        buffer.old size.old buffer.new size.new }
+    ensures held { IsOk result → (m : Meaning) → HoldsPacket buffer.old size.old m
+        → HoldsPacket buffer.new size.new
+        (with_error m 8 (unrecognized_parameters known.now list.now)) }
+    ensures declined { IfErr result (Declines (IsBegun (length buffer.old) size.old) (Unit {0})
+        (HasErrorRoom (length buffer.old) size.old
+        (unrecognized_parameters known.now list.now))) }
+    ensures unchanged { IfErr result (λ e. (buffer.new ≡ buffer.old) × (size.new ≡ size.old)) }
+{
+    let parameters = list_part(list);
+    let handling = Handling::Parameters(known);
+    add_error(buffer, size, UNRECOGNIZED_PARAMETER, parameters, handling)?;
     Ok(stop_offset(parameters, handling))
 }
 

@@ -5,7 +5,7 @@ ghost use Rattle.dcsctp_borrowed.specs.Part.{part_of};
 ghost use Rattle.dcsctp_receive.specs.Chunks.{items_of};
 ghost use Rattle.dcsctp_receive.specs.VerificationTag.{is_known_as, by_t_bit, verdict_of, verdict};
 
-use crate::items::{begins_with, chunk_part, contains, is_only, t_bit};
+use crate::items::{after_auth, begins_with, chunk_part, contains, is_only, t_bit};
 use dcsctp_borrowed::part::Part;
 use dcsctp_wire::packet::sctp_packet::CommonHeader;
 use dcsctp_wire::packet::{
@@ -30,7 +30,7 @@ pub enum TagVerdict {
     /// The tag is right: processes the packet.
     Accept,
     /// Follows the procedures of RFC 9260 section 5: the packet is an INIT alone under the tag 0,
-    /// or begins with COOKIE ECHO, whose tag these procedures look at.
+    /// or begins with COOKIE ECHO, perhaps behind an AUTH, whose tag these procedures look at.
     Establish,
     /// Treats the packet as out of the blue (RFC 9260 section 8.4).
     OutOfTheBlue,
@@ -76,7 +76,7 @@ fn verdict_of(association: &Association, tag: u32, chunks: Part<'_>) -> TagVerdi
             t_bit(chunks, shutdown_complete_chunk::CHUNK_TYPE),
         );
     }
-    if begins_with(chunks, cookie_echo_chunk::CHUNK_TYPE) {
+    if begins_with(after_auth(chunks), cookie_echo_chunk::CHUNK_TYPE) {
         return TagVerdict::Establish;
     }
     if association.awaits_cookie && contains(chunks, shutdown_ack_chunk::CHUNK_TYPE) {

@@ -1,7 +1,7 @@
 use Rattle.std.proofs.Common.{◌≡◌, ℕ, List, ◌∷◌, length, refl, sym, ap, subst, ◌∙◌, arith}
 use Rattle.std.proofs.lemmas.Bool.{false≢true}
 use Rattle.dcsctp_borrowed.specs.Part.{part_of}
-use Rattle.dcsctp_receive.specs.{Chunks.{items_of}, Unrecognized.{wholes, AreAdded, HasRoomForAll, action_by}}
+use Rattle.dcsctp_receive.specs.{Chunks.{items_of}, Unrecognized.{wholes, AreAdded, HasRoomForAll}, Handling.{action_by}}
 use Rattle.dcsctp_receive.proofs.AddedItems.{first_has_room, others_have_room}
 use Rattle.dcsctp_receive.proofs.reported.add_all.Goals as goal
 

@@ -1,7 +1,7 @@
 -- There is room for the items of the rest; once these are added, all are.
 use Rattle.std.proofs.Common.{ℕ, List, length}
 use Rattle.dcsctp_borrowed.specs.Part.{part_of}
-use Rattle.dcsctp_receive.specs.{Chunks.{items_of}, Unrecognized.{wholes, AreAdded, HasRoomForAll, action_by}}
+use Rattle.dcsctp_receive.specs.{Chunks.{items_of}, Unrecognized.{wholes, AreAdded, HasRoomForAll}, Handling.{action_by}}
 use Rattle.dcsctp_receive.proofs.reported.add_all.Given as goal
 
 abbrev pub invariant-loop-item : goal.invariant-loop-item

@@ -1,6 +1,6 @@
 use Rattle.std.proofs.Common.{refl, arith}
 use Rattle.dcsctp_borrowed.specs.Part.{part_of}
-use Rattle.dcsctp_receive.specs.{Chunks.{items_of}, Unrecognized.{wholes, action_by}}
+use Rattle.dcsctp_receive.specs.{Chunks.{items_of}, Unrecognized.{wholes}, Handling.{action_by}}
 use Rattle.dcsctp_receive.proofs.AddedItems.{causes_have_room}
 use Rattle.dcsctp_receive.proofs.reported.add_some.Goals as goal
 

@@ -1,7 +1,7 @@
 -- The items so far took what is gone of the room.
 use Rattle.std.proofs.Common.{◌≡◌, ◌+◌, length}
 use Rattle.dcsctp_borrowed.specs.Part.{part_of}
-use Rattle.dcsctp_receive.specs.{Chunks.{items_of}, Unrecognized.{wholes, added_size, action_by}}
+use Rattle.dcsctp_receive.specs.{Chunks.{items_of}, Unrecognized.{wholes, added_size}, Handling.{action_by}}
 use Rattle.dcsctp_receive.proofs.reported.fit.Given as goal
 
 abbrev pub invariant-loop-item : goal.invariant-loop-item

@@ -1,7 +1,7 @@
 -- What is reported of the list is what is reported of the rest.
 use Rattle.std.proofs.Common.{◌≡◌, ◌≤◌, length}
 use Rattle.dcsctp_borrowed.specs.Part.{part_of}
-use Rattle.dcsctp_receive.specs.{Chunks.{items_of}, Unrecognized.{wholes, action_by}}
+use Rattle.dcsctp_receive.specs.{Chunks.{items_of}, Unrecognized.{wholes}, Handling.{action_by}}
 use Rattle.dcsctp_receive.proofs.reported.next_reported.Given as goal
 
 abbrev pub invariant-loop-item : goal.invariant-loop-item

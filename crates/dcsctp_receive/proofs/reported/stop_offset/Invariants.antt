@@ -2,7 +2,7 @@
 use Rattle.std.proofs.Common.{◌≡◌, ◌≤◌, ◌+◌, ◌-◌, ℕ, length}
 use Rattle.std.specs.Option.{option_map}
 use Rattle.dcsctp_borrowed.specs.Part.{part_of}
-use Rattle.dcsctp_receive.specs.{Chunks.{items_of}, Unrecognized.{stop_offset, action_by}}
+use Rattle.dcsctp_receive.specs.{Chunks.{items_of}, Unrecognized.{stop_offset}, Handling.{action_by}}
 use Rattle.dcsctp_receive.proofs.reported.stop_offset.Given as goal
 
 abbrev pub invariant-loop-item : goal.invariant-loop-item
