@@ -14,8 +14,8 @@ Listed are the public items of the public modules of each library, under the pat
 first sentence of the doc comment, public fields, variants, methods, and the traits that are derived or have an `impl`, of an
 iterator with its items. A function that has conditions (`requires`) is marked with them, in words. Without a sentence comes what
 its name says or the head of the page: a field; a variant that holds a kind; most numbers; what each kind has; a method whose name
-and signature have each word of its sentence; a law, which docs/PROVED.md explains. Items of the lower libraries that `dcsctp_wire`
-doesn't pass on are named alone, at the end.
+and signature have each word of its sentence; a law, which docs/PROVED.md explains. Not listed is what the libraries
+call of each other: what `dcsctp_wire` doesn't pass on of those below it, and what makes a kind of a value that was checked.
 """
 import os
 import re
@@ -55,6 +55,7 @@ WIDTH = 140
 
 # Methods and constants of a type that the head of the page explains once, and the sentences of constants whose name says what they are.
 NUMBERS_HAVE = {'read', 'bytes', 'words'}
+KINDS, KIND = re.compile('(Chunk|Parameter|ErrorCause)$'), r'[^(]*(\(RFC [^()]*\))\.'
 REGISTERED = r'^[^(]* \((RFC|draft-)[^)]*\), (type|code) [0-9a-fx]+( or 6)?(: |\.$)'
 NUMBERS = r'The (type|code|offset) of |(Their|Its) bytes|The bytes of the (value|header)'
 
@@ -66,7 +67,7 @@ PLAIN_WORDS = set('''
     returns the a an of its their it is are this that these in on to and there number numbers how many iterator over order reads sets takes
 '''.split())
 
-# Modules that are public for the tool's crates alone: what they have is named at the end.
+# Modules that are public for the tool's crates alone, and not listed.
 FOR_THE_TOOL = [r'dcsctp_receive::(chunk_test|chunk_type|fields)\b']
 
 # What the doc comment of a public function begins with. One verb says one thing: a call returns, and doesn't give or yield.
@@ -80,8 +81,8 @@ HEAD = '''# The public items
 Made from the sources by `tools/api.py --write`; the gate compares it. In bold is the path to write in a `use`, for `packet`, `api`,
 `types` and `laws` after `dcsctp_wire::`, which each program needs. In braces are a struct's public fields; behind a type come its
 constants and its methods: `add_to` behind `Tsn` is `Tsn::add_to`. What a name says comes without a sentence, and what a law proves is in
-[PROVED.md](PROVED.md); the comment in the source says all. What the caller has to prove (`requires`) comes after the signature, after
-*needs*:
+[PROVED.md](PROVED.md); the comment in the source says all. Not listed is what the libraries call of each other alone. What the caller has
+to prove (`requires`) comes after the signature, after *needs*:
 
 | *needs* | the caller proves that |
 |---|---|
@@ -396,6 +397,8 @@ def item_of(lines, at, found, owner, sentence):
         text = entry(signature.removeprefix('const '), '', conditions)
     elif kind == 'struct' and are_numbers_of_kind(name):
         text = entry(signature, '')
+    elif kind == 'struct' and (section := re.fullmatch(KIND, sentence)) and KINDS.search(name):
+        text = f'`{signature}` {section[1]}.'
     else:
         text = entry(signature, shortened(sentence, conditions) if 'fn' in kind else sentence, conditions)
     if kind == 'enum':
@@ -418,7 +421,7 @@ def shortened(sentence, conditions):
 def variants_in_words(members):
     """The variants of an enum: those whose name says what they are, and then the others, each with its sentence."""
     members = [(variant, re.sub(REGISTERED, '', about)) for variant, about in members]
-    said = [variant for variant, about in members if not about or re.search(r'\(\w+(Chunk|Parameter|ErrorCause)\)$', variant)]
+    said = [variant for variant, about in members if not about or KINDS.search(variant.rstrip(')'))]
     others = [f' {entry(variant, about)}' for variant, about in members if variant not in said]
     return (f' {", ".join(f"`{it}`" for it in said)}.' if said else '') + ''.join(others)
 
@@ -451,8 +454,8 @@ def module_doc(path):
 
 
 def all_modules():
-    """What a program finds at each path: the module's first sentence and its items. And the names that have no such path, by module."""
-    paths, modules, unlisted = paths_of(), {}, {}
+    """What a program finds at each path: the module's first sentence and its items."""
+    paths, modules = paths_of(), {}
     for crate in LIBRARIES:
         places = modules_of(crate)
         public = {name for name, _ in places}
@@ -463,11 +466,10 @@ def all_modules():
                 if own and item.is_law() and 'laws' not in own.split('::'):
                     own = 'dcsctp_wire::laws'
                 if not own or item.is_internal():
-                    unlisted.setdefault(name, []).append(item)
                     continue
                 about = module_doc(path) if own == where or own == 'dcsctp_wire::laws' else ''
                 modules.setdefault(own, (about, []))[1].append(item)
-    return modules, unlisted
+    return modules
 
 
 def anchor(heading):
@@ -483,7 +485,7 @@ def number_of(module):
 
 def module_lines(name, about, items):
     """A module's path, and its items: numbers of kinds and what needs no sentence beside the path, methods behind their type."""
-    numbers = [f'`{it.name}` is {it.value}.' for it in items if it.is_number_of_kind()]
+    numbers = [f'`{it.name}` {it.value};' for it in items if it.is_number_of_kind()]
     items = [it for it in items if not it.is_number_of_kind() and not it.is_explained()]
     bare = [it for it in items if not it.owner and it.is_bare() and it.kind in ('const', 'fn')]
     own = [it for it in items if it.owner is None and it not in bare]
@@ -493,7 +495,7 @@ def module_lines(name, about, items):
     head = ' '.join(it for it in (f'**`{name.removeprefix("dcsctp_wire::")}`**:', about, *numbers, said) if it)
     if len(own) == 1:
         return item_lines(0, f'{head} {own[0].text}', [it for it in items if it.owner])
-    lines = wrapped(0, head.rstrip(':'))
+    lines = wrapped(0, re.sub(';$', '.', head.removesuffix(':')))
     for item in own:
         lines += item_lines(1, item.text, [it for it in items if it.owner == item.name])
     names = [it.name for it in own]
@@ -508,25 +510,17 @@ def item_lines(depth, text, behind):
 
 
 def page():
-    modules, unlisted = all_modules()
+    modules = all_modules()
     parts = {}
     for name in modules:
         title = next(title for title, pattern in SECTIONS if re.match(pattern, name))
         parts.setdefault(title, []).append(name)
-    titles, rest = [title for title, _ in SECTIONS[1:]] + ['Laws'], 'For the libraries themselves'
-    body = textwrap.wrap('; '.join(f'[{it}]({anchor(it)})' for it in [*titles, rest]) + '.', WIDTH, break_on_hyphens=False)
+    titles = [title for title, _ in SECTIONS[1:]] + ['Laws']
+    body = textwrap.wrap('; '.join(f'[{it}]({anchor(it)})' for it in titles) + '.', WIDTH, break_on_hyphens=False)
     for title in titles:
         body += ['', f'## {title}', '']
         for name, _ in sorted(((it, modules[it]) for it in parts[title]), key=number_of):
             body += module_lines(name, *modules[name])
-    body += ['', f'## {rest}', '', 'What the libraries call of each other, by module: programs call what is above.', '']
-    builds, others = [], []
-    for name, items in unlisted.items():
-        builds += [f'`{it.owner}`' for it in items if it.name == 'build']
-        names = [f'`{f"{it.owner}::" if it.owner else ""}{it.name}`' for it in items if it.name != 'build']
-        others += [f'`{name}`: {", ".join(names)}'] if names else []
-    others.append(f'`build` of {", ".join(builds)}, which makes a kind of a value that passed its check')
-    body += textwrap.wrap('; '.join(others) + '.', WIDTH, break_long_words=False, break_on_hyphens=False)
     return HEAD + '\n' + '\n'.join(body) + '\n'
 
 
