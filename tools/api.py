@@ -36,7 +36,7 @@ SECTIONS = [
     ('Laws', r'dcsctp_wire::laws'),
     ('Packets', r'dcsctp_wire::packet(::sctp_packet)?$'),
     ('Chunks', r'dcsctp_wire::packet::(\w*chunk\w*|data|plain_check)$'),
-    ('Parameters', r'dcsctp_wire::packet::(parameter|\w+_parameter$)'),
+    ('Parameters', r'dcsctp_wire::packet::(parameter|\w+_parameter$|add_streams_request$|request_numbers$)'),
     ('Error causes', r'dcsctp_wire::packet::\w+_\w+$'),
     ('Serial numbers, ids and times', r'dcsctp_wire::(types|api)'),
     ('Packets in their own bytes', r'dcsctp_borrowed'),
@@ -421,7 +421,7 @@ def shortened(sentence, conditions):
 def variants_in_words(members):
     """The variants of an enum: those whose name says what they are, and then the others, each with its sentence."""
     members = [(variant, re.sub(REGISTERED, '', about)) for variant, about in members]
-    said = [variant for variant, about in members if not about or KINDS.search(variant.rstrip(')'))]
+    said = [variant for variant, about in members if not about or KINDS.search(variant.rstrip(')')) or is_said(about, variant)]
     others = [f' {entry(variant, about)}' for variant, about in members if variant not in said]
     return (f' {", ".join(f"`{it}`" for it in said)}.' if said else '') + ''.join(others)
 
@@ -487,7 +487,7 @@ def module_lines(name, about, items):
     """A module's path, and its items: numbers of kinds and what needs no sentence beside the path, methods behind their type."""
     numbers = [f'`{it.name}` {it.value};' for it in items if it.is_number_of_kind()]
     items = [it for it in items if not it.is_number_of_kind() and not it.is_explained()]
-    bare = [it for it in items if not it.owner and it.is_bare() and it.kind in ('const', 'fn')]
+    bare = [it for it in items if not it.owner and it.is_bare() and (it.kind in ('const', 'fn') or are_numbers_of_kind(it.name))]
     own = [it for it in items if it.owner is None and it not in bare]
     said = f'{", ".join(it.text for it in bare)}.' if bare else ''
     if numbers or len(own) == 1:
