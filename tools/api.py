@@ -81,8 +81,8 @@ HEAD = '''# The public items
 Made from the sources by `tools/api.py --write`; the gate compares it. In bold is the path to write in a `use`, for `packet`, `api`,
 `types` and `laws` after `dcsctp_wire::`, which each program needs. In braces are a struct's public fields; behind a type come its
 constants and its methods: `add_to` behind `Tsn` is `Tsn::add_to`. What a name says comes without a sentence, and what a law proves is in
-[PROVED.md](PROVED.md); the comment in the source says all. Not listed is what the libraries call of each other alone. What the caller has
-to prove (`requires`) comes after the signature, after *needs*:
+[PROVED.md](PROVED.md); the comment in the source says all. Not listed are `Debug`, a trait that another implies (`Clone` beside `Copy`),
+and what the libraries call of each other alone. What the caller has to prove (`requires`) comes after the signature, after *needs*:
 
 | *needs* | the caller proves that |
 |---|---|
@@ -382,6 +382,7 @@ def item_of(lines, at, found, owner, sentence):
     kind, name = found['kind'], found['name']
     signature, conditions = signature_of(lines, at)
     value = signature.partition(' = ')[2] if kind == 'const' else ''
+    signature = signature.removesuffix(f' = {value}') if re.search(r'::\w+TYPE$', value) else signature
     # (without the fields or the items of a value)
     signature = re.sub(r': (\w+|\[.*\]) = (?:\1(?: \{.*)?|\[.*)$', r': \1', signature.removeprefix('pub '))
     if owner:
