@@ -60,7 +60,7 @@ REGISTERED = r'^[^(]* \((RFC|draft-)[^)]*\), (type|code) [0-9a-fx]+( or 6)?(: |\
 NUMBERS = r'The (type|code|offset) of |(Their|Its) bytes|The bytes of the (value|header)'
 
 # What another page says of each variant.
-ELSEWHERE = {'Rule': '[DUMP.md](DUMP.md#rules) has them all, in the order of `ALL`.'}
+ELSEWHERE = {'Rule': '[DUMP.md](DUMP.md#rules) says what each asks, in this order.'}
 
 # Words of a sentence that a name needn't say.
 PLAIN_WORDS = set('''
@@ -403,7 +403,9 @@ def item_of(lines, at, found, owner, sentence):
     else:
         text = entry(signature, shortened(sentence, conditions) if 'fn' in kind else sentence, conditions)
     if kind == 'enum':
-        text += f' {ELSEWHERE[name]}' if name in ELSEWHERE else variants_in_words(members)
+        if name in ELSEWHERE:
+            text, members = f'{text} {ELSEWHERE[name]}', [(variant, '') for variant, _ in members]
+        text += variants_in_words(members)
     if kind in ('struct', 'enum'):
         traits = traits_of(lines, at, name) if not are_numbers_of_kind(name) else []
         text += f' Has `{", ".join(traits)}`.' if traits and traits != ['Display', 'SerializableTlv'] else ''
