@@ -597,9 +597,12 @@ def c_registered(value):
 
 
 def c_page(table):
-    rows = []
+    """The types that are bytes to most calls: those of a level whose values are laid out alike share a row."""
+    alike = {}
     for row in (row for level in LISTS for row in table[level] if row.read != 'kind'):
-        cells = [f'`{row.level.upper()}_{row.identifier}` {digits(row)}', reference(row), '' if row.value == '-' else row.value,
-                 ', '.join(f'`{field}`' for field in c_registered(row.value))]
+        alike.setdefault((row.level, row.value), []).append(f'`{row.level.upper()}_{row.identifier}` {digits(row)}')
+    rows = []
+    for (_, value), names in alike.items():
+        cells = [', '.join(names), '' if value == '-' else value, ', '.join(f'`{field}`' for field in c_registered(value))]
         rows.append(''.join(f'| {cell} ' if cell else '| ' for cell in cells) + '|')
-    return ['\n'.join(['| `DCSCTP_` | standard | value | `dcsctp_registered` |', '|---|---|---|---|', *rows, ''])]
+    return ['\n'.join(['| `DCSCTP_` | value | `dcsctp_registered` |', '|---|---|---|', *rows, ''])]

@@ -11,13 +11,16 @@ Makes docs/API.md, the list of the libraries' public items, from their sources.
   --help     prints this
 
 Listed are the public items of the public modules of each library, under the path that a program writes: the signature, the
-first sentence of the doc comment, fields, variants, methods, and the traits that are derived or have an `impl`, of an iterator
-with its items; of a trait, what implements it. A function that has conditions (`requires`) is marked with them, in words. Items
-of the lower libraries that `dcsctp_wire` doesn't pass on are named alone, at the end.
+first sentence of the doc comment, public fields, variants, methods, and the traits that are derived or have an `impl`, of an
+iterator with its items. A function that has conditions (`requires`) is marked with them, in words. Without a sentence comes what
+its name says or the head of the page: a field; a variant that holds a kind; most numbers; what each kind has; a method whose name
+and signature have each word of its sentence; a law, which docs/PROVED.md explains. Not listed is what the libraries
+call of each other: what `dcsctp_wire` doesn't pass on of those below it, and what makes a kind of a value that was checked.
 """
 import os
 import re
 import sys
+import textwrap
 
 ROOT = os.path.dirname(os.path.dirname(os.path.abspath(__file__)))
 PAGE = os.path.join(ROOT, 'docs', 'API.md')
@@ -31,24 +34,40 @@ LIBRARIES = [
 # The sections of the page, and which modules each has, by their paths in a program: the first that matches.
 SECTIONS = [
     ('Laws', r'dcsctp_wire::laws'),
-    ('Packets', r'dcsctp_wire::packet::sctp_packet$'),
+    ('Packets', r'dcsctp_wire::packet(::sctp_packet)?$'),
     ('Chunks', r'dcsctp_wire::packet::(\w*chunk\w*|data|plain_check)$'),
-    ('Parameters', r'dcsctp_wire::packet::(parameter|\w+_parameter$)'),
+    ('Parameters', r'dcsctp_wire::packet::(parameter|\w+_parameter$|add_streams_request$|request_numbers$)'),
     ('Error causes', r'dcsctp_wire::packet::\w+_\w+$'),
-    ('Errors, sizes and numbers', r'dcsctp_wire::packet$'),
     ('Serial numbers, ids and times', r'dcsctp_wire::(types|api)'),
     ('Packets in their own bytes', r'dcsctp_borrowed'),
     ('What the registry has beyond the kinds', r'dcsctp_registry'),
     ("Packets written into the caller's buffer", r'dcsctp_buffer'),
     ('What a receiver is asked', r'dcsctp_receive'),
-    ('The checksum', r'dcsctp_crc32c'),
-    ('Authentication and cookies', r'dcsctp_auth'),
+    ('The checksum, authentication and cookies', r'dcsctp_crc32c|dcsctp_auth'),
 ]
 
 # Traits that say nothing to a caller: what every type has, what the proofs see of a type, and those of the libraries themselves.
-UNLISTED = {'Drop', 'Model', 'Field', 'Kind', 'ListedTlv', 'ReadableTlv', 'Widths'}
+# And what others imply.
+UNLISTED = {'Drop', 'Model', 'Field', 'Kind', 'ListedTlv', 'ReadableTlv', 'Widths', 'Debug', 'PartialEq', 'PartialOrd'}
 
-# Modules that are public for the tool's crates alone: what they have is named at the end.
+# Columns of the page.
+WIDTH = 140
+
+# Methods and constants of a type that the head of the page explains once, and the sentences of constants whose name says what they are.
+NUMBERS_HAVE = {'read', 'bytes', 'words'}
+KINDS, KIND = re.compile('(Chunk|Parameter|ErrorCause)$'), r'[^(]*(\(RFC [^()]*\))\.'
+REGISTERED = r'^[^(]* \((RFC|draft-)[^)]*\), (type|code) [0-9a-fx]+( or 6)?(: |\.$)'
+NUMBERS = r'The (type|code|offset) of |(Their|Its) bytes|The bytes of the (value|header)'
+
+# What another page says of each variant.
+ELSEWHERE = {'Rule': '[DUMP.md](DUMP.md#rules) says what each asks, in this order.'}
+
+# Words of a sentence that a name needn't say.
+PLAIN_WORDS = set('''
+    returns the a an of its their it is are this that these in on to and there number numbers how many iterator over order reads sets takes
+'''.split())
+
+# Modules that are public for the tool's crates alone, and not listed.
 FOR_THE_TOOL = [r'dcsctp_receive::(chunk_test|chunk_type|fields)\b']
 
 # What the doc comment of a public function begins with. One verb says one thing: a call returns, and doesn't give or yield.
@@ -59,10 +78,11 @@ VERBS = set('''
 
 HEAD = '''# The public items
 
-Made from the sources by `tools/api.py --write`; the gate compares it. A heading is the path to write in a `use`: the items below it
-are at that path, and `fn Tsn::add_to` is the method `add_to` of `Tsn`. A program needs the crate `dcsctp_wire`, and `dcsctp_borrowed`,
-`dcsctp_registry`, `dcsctp_buffer`, `dcsctp_receive`, `dcsctp_crc32c` and `dcsctp_auth` where it uses them. What the caller has to prove
-(`requires`) comes after the signature, after *needs*:
+Made from the sources by `tools/api.py --write`; the gate compares it. In bold is the path to write in a `use`, for `packet`, `api`,
+`types` and `laws` after `dcsctp_wire::`, which each program needs. In braces are a struct's public fields; behind a type come its
+constants and its methods: `add_to` behind `Tsn` is `Tsn::add_to`. What a name says comes without a sentence, and what a law proves is in
+[PROVED.md](PROVED.md); the comment in the source says all. Not listed are `Debug`, a trait that another implies (`Clone` beside `Copy`),
+and what the libraries call of each other alone. What the caller has to prove (`requires`) comes after the signature, after *needs*:
 
 | *needs* | the caller proves that |
 |---|---|
@@ -70,6 +90,12 @@ are at that path, and `fn Tsn::add_to` is the method `add_to` of `Tsn`. A progra
 | *encodable*, *placed* | `encodable()` is true |
 | *room*, *size* | the output, or what is left of the builder's limit, is large enough; it has `canonical_size()` bytes |
 | other words | what they say of the argument |
+
+Each kind of chunk, parameter and error cause has `Display`, `SerializableTlv` and `try_from(raw)`, or where it owns memory
+`try_from(alloc, raw)`, which reads the raw item if it is of this kind (`Unknown..`: of any); so have `Chunk`, `Parameter` and
+`ErrorCause`. What is called `..Numbers` is the numbers at the front of a kind's value, and `Copy`. It has `SIZE`, their bytes; constants
+that are offsets in the value, as `InitNumbers::A_RWND`; `read(value)`, which needs at least `SIZE` bytes; and `bytes()` or `words()`, the
+numbers as they are written.
 '''
 
 # What a condition without a name says, in words.
@@ -120,7 +146,7 @@ def first_sentence(doc):
             break
         paragraph.append(line)
     text = ' '.join(paragraph)
-    end = re.search(r'[.:](?= [A-Z]|$)', text)
+    end = re.search(r'\.(?= [A-Z`(]|$)|:(?= [A-Z])', text)
     return text[:end.end()] if end else text
 
 
@@ -176,26 +202,58 @@ def members_of(lines, at):
     return found
 
 
-def entry(depth, signature, sentence, conditions=()):
+def entry(signature, sentence, conditions=()):
     marks = f' *needs {", ".join(conditions)}*' if conditions else ''
-    return f'{"  " * depth}- `{signature}`{marks}' + (f': {sentence}' if sentence else '')
+    sentence = re.sub('^(Returns|Proves that) ', '', sentence)
+    return f'`{signature}`{marks}' + (f': {sentence}' if sentence else '')
+
+
+def are_numbers_of_kind(name):
+    """Whether a type is the numbers at the front of a kind's value."""
+    return (name or '').endswith('Numbers') and name not in ('Numbers', 'BytesAndNumbers')
+
+
+def is_said(sentence, *names):
+    """Whether these names have each word of the sentence, up to its first colon or semicolon."""
+    words = re.findall(r'[a-z]+', re.split('[:;]', sentence)[0].lower())
+    said = re.findall(r'[a-z]{3,}', ' '.join(re.sub('([A-Z])', r' \1', name) for name in names).lower())
+    return all(any(word.startswith(it) or it.startswith(word) for it in said) for word in words if word not in PLAIN_WORDS)
+
+
+def wrapped(depth, text):
+    """An item of a list, in lines of the pages' width; a line of it begins with nothing that begins an item, too."""
+    kept = re.sub(r' ([-+*=&|]) ', '\0\\1\0', text)
+    lines = textwrap.wrap(kept, WIDTH, initial_indent='  ' * depth + '- ', subsequent_indent='  ' * (depth + 1),
+                          break_long_words=False, break_on_hyphens=False)
+    return [line.replace('\0', ' ') for line in lines]
 
 
 class Item:
-    """A public item: its name, the type that it is a method or a constant of, if any, its lines of the page, its first sentence."""
+    """A public item: its name, the type that it is a method or a constant of, if any, its text on the page, its first sentence."""
 
-    def __init__(self, kind, name, owner, lines, sentence, value):
-        self.kind, self.name, self.owner, self.lines, self.sentence, self.value = kind, name, owner, lines, sentence, value
+    def __init__(self, kind, name, owner, text, sentence, value):
+        self.kind, self.name, self.owner, self.text, self.sentence, self.value = kind, name, owner, text, sentence, value
 
     def is_law(self):
         return self.sentence.startswith('Proves that ')
+
+    def is_bare(self):
+        """Whether it has no sentence."""
+        return self.text.endswith(('`', '*'))
+
+    def is_short(self):
+        return self.is_bare() or len(self.text) <= 110
+
+    def is_explained(self):
+        """Whether the head of the page says of all kinds, or of all that are numbers, that they have it."""
+        return self.name == 'try_from' or are_numbers_of_kind(self.owner) and self.name in NUMBERS_HAVE | {self.name.upper()}
 
     def is_number_of_kind(self):
         return self.name in ('CHUNK_TYPE', 'PARAMETER_TYPE', 'CAUSE_CODE')
 
     def is_internal(self):
         """Whether the libraries alone call it: what builds a kind, or fills a list, of bytes that were checked."""
-        return re.search(r'build$|_fill$', self.name) is not None and ' *needs meant' in self.lines[0]
+        return re.search(r'build$|_fill$', self.name) is not None and ' *needs meant' in self.text
 
 
 def passed_on(crate, name, path, public):
@@ -256,11 +314,7 @@ def traits_of(lines, at, name):
         text = line + text
     for names in re.findall(r'derive\(([^)]*)\)', text):
         found += [it.split('::')[-1].strip() for it in names.split(',') if it.strip()]
-    return sorted(set(found) - UNLISTED)
-
-
-def implementors_of(trait):
-    return sorted({owner for it, owner in IMPLEMENTATIONS if re.sub('<.*', '', it) == trait and owner in PUBLIC_TYPES})
+    return sorted(set(found) - UNLISTED - ({'Clone'} if 'Copy' in found else set()))
 
 
 def paths_of():
@@ -325,34 +379,59 @@ def items_of(path, wanted=None):
 
 def item_of(lines, at, found, owner, sentence):
     """The item of a line."""
+    kind, name = found['kind'], found['name']
     signature, conditions = signature_of(lines, at)
-    value = signature.partition(' = ')[2] if found['kind'] == 'const' else ''
-    signature = re.sub(r': (\w+) = \1(?: \{.*)?$', r': \1', signature.removeprefix('pub '))  # (without the fields of its value)
+    value = signature.partition(' = ')[2] if kind == 'const' else ''
+    signature = signature.removesuffix(f' = {value}') if re.search(r'::\w+TYPE$', value) else signature
+    # (without the fields or the items of a value)
+    signature = re.sub(r': (\w+|\[.*\]) = (?:\1(?: \{.*)?|\[.*)$', r': \1', signature.removeprefix('pub '))
     if owner:
-        signature = signature.replace(found['name'], f'{owner}::{found["name"]}', 1)
-    if found['kind'] == 'struct' and re.match(r'pub struct \w+;$', lines[at]):
+        front, arrow, returned = signature.removeprefix('fn ').partition(' -> ')
+        signature = front + arrow + re.sub(rf"\b{owner}\b(<'\w+>)?(?!::)", 'Self', returned)
+    if kind == 'struct' and re.match(r'pub struct \w+;$', lines[at]):
         signature += ';'
-    page = [entry(1 if owner else 0, signature, sentence, conditions)]
-    if found['kind'] in ('struct', 'enum'):
-        traits = traits_of(lines, at, found['name'])
-        page[0] += f' Has {", ".join(f"`{it}`" for it in traits)}.' if traits else ''
-        page += member_lines(members_of(lines, at))
-    if found['kind'] == 'trait':
-        owners = implementors_of(found['name'])
-        page[0] += f' Implemented by {", ".join(f"`{it}`" for it in owners)}.' if owners else ''
-        page += methods_of(lines, at)
-    return Item(found['kind'], found['name'], owner, page, sentence, value)
+    members = members_of(lines, at) if kind in ('struct', 'enum') else []
+    if kind == 'struct' and members:
+        signature += f' {{ {", ".join(member for member, _ in members)} }}'
+    said = sentence.startswith('Proves') or owner and not conditions and (name == 'new' or is_said(sentence, name, owner, signature))
+    if said or kind == 'const' and (re.match(NUMBERS, sentence) or owner and re.search(r'\d\)?$', value)):
+        text = entry(signature.removeprefix('const '), '', conditions)
+    elif kind == 'struct' and are_numbers_of_kind(name):
+        text = entry(signature, '')
+    elif kind == 'struct' and (section := re.fullmatch(KIND, sentence)) and KINDS.search(name):
+        text = f'`{signature}` {section[1]}.'
+    else:
+        text = entry(signature, shortened(sentence, conditions) if 'fn' in kind else sentence, conditions)
+    if kind == 'enum':
+        if name in ELSEWHERE:
+            text, members = f'{text} {ELSEWHERE[name]}', [(variant, '') for variant, _ in members]
+        text += variants_in_words(members)
+    if kind in ('struct', 'enum'):
+        traits = traits_of(lines, at, name) if not are_numbers_of_kind(name) else []
+        text += f' Has `{", ".join(traits)}`.' if traits and traits != ['Display', 'SerializableTlv'] else ''
+    if kind == 'trait':
+        text += ''.join(f' {method}' for method in methods_of(lines, at))
+    return Item(kind, name, owner, text, sentence, value)
 
 
-def member_lines(members):
-    """A line for each member; those that have no sentence share one."""
-    bare = ', '.join(f'`{member}`' for member, about in members if not about)
-    return [entry(1, member, about) for member, about in members if about] + ([f'  - {bare}'] if bare else [])
+def shortened(sentence, conditions):
+    """The sentence of a function without the sections of RFCs, which its type has, and its conditions; a long one up to a colon."""
+    sentence = re.sub(r', which ha(s|ve) (to be|at least) .*', '.', sentence) if conditions else sentence
+    sentence = re.sub(r' \((RFC|sections?) [^)]*\)', '', sentence)
+    return re.sub(r'(.{45}[^:;]*)[:;] .*', r'\1.', sentence) if len(sentence) > 105 else sentence
+
+
+def variants_in_words(members):
+    """The variants of an enum: those whose name says what they are, and then the others, each with its sentence."""
+    members = [(variant, re.sub(REGISTERED, '', about)) for variant, about in members]
+    said = [variant for variant, about in members if not about or KINDS.search(variant.rstrip(')')) or is_said(about, variant)]
+    others = [f' {entry(variant, about)}' for variant, about in members if variant not in said]
+    return (f' {", ".join(f"`{it}`" for it in said)}.' if said else '') + ''.join(others)
 
 
 def methods_of(lines, at):
     """The methods of a trait."""
-    page, doc = [], []
+    found, doc = [], []
     for number in range(at + 1, len(lines)):
         line = lines[number]
         if line.startswith('}'):
@@ -361,11 +440,11 @@ def methods_of(lines, at):
             doc.append(line.strip()[3:].strip())
         elif METHOD.match(line):
             signature, conditions = signature_of(lines, number)
-            page.append(entry(1, signature, first_sentence(doc), conditions))
+            found.append(entry(signature, first_sentence(doc), conditions))
             doc = []
         elif line.strip():
             doc = []
-    return page
+    return found
 
 
 def module_doc(path):
@@ -378,8 +457,8 @@ def module_doc(path):
 
 
 def all_modules():
-    """What a program finds at each path: the module's first sentence and its items. And the names that have no such path, by module."""
-    paths, modules, unlisted = paths_of(), {}, {}
+    """What a program finds at each path: the module's first sentence and its items."""
+    paths, modules = paths_of(), {}
     for crate in LIBRARIES:
         places = modules_of(crate)
         public = {name for name, _ in places}
@@ -390,11 +469,10 @@ def all_modules():
                 if own and item.is_law() and 'laws' not in own.split('::'):
                     own = 'dcsctp_wire::laws'
                 if not own or item.is_internal():
-                    unlisted.setdefault(name, []).append(item)
                     continue
                 about = module_doc(path) if own == where or own == 'dcsctp_wire::laws' else ''
                 modules.setdefault(own, (about, []))[1].append(item)
-    return modules, unlisted
+    return modules
 
 
 def anchor(heading):
@@ -409,46 +487,44 @@ def number_of(module):
 
 
 def module_lines(name, about, items):
-    """A module's heading, and its items: numbers of kinds in the first line, methods below their type."""
-    numbers = [f'`{it.name}` is {it.value}.' for it in items if it.is_number_of_kind()]
-    items = [it for it in items if not it.is_number_of_kind()]
-    if not numbers and sum(it.owner is None for it in items) == 1:
-        about = ''  # the only item says it
-    lines = [f'### {name}'] + [' '.join(it for it in (about, *numbers) if it)] * bool(about or numbers)
-    for item in items:
-        if item.owner is None:
-            lines += item.lines
-            for method in items:
-                lines += method.lines if method.owner == item.name else []
-    names = [it.name for it in items if it.owner is None]
-    return lines + [line for it in items if it.owner is not None and it.owner not in names for line in it.lines] + ['']
+    """A module's path, and its items: numbers of kinds and what needs no sentence beside the path, methods behind their type."""
+    numbers = [f'`{it.name}` {it.value};' for it in items if it.is_number_of_kind()]
+    items = [it for it in items if not it.is_number_of_kind() and not it.is_explained()]
+    bare = [it for it in items if not it.owner and it.is_bare() and (it.kind in ('const', 'fn') or are_numbers_of_kind(it.name))]
+    own = [it for it in items if it.owner is None and it not in bare]
+    said = f'{", ".join(it.text for it in bare)}.' if bare else ''
+    if numbers or len(own) == 1:
+        about = ''  # the item says it
+    head = ' '.join(it for it in (f'**`{name.removeprefix("dcsctp_wire::")}`**:', about, *numbers, said) if it)
+    if len(own) == 1:
+        return item_lines(0, f'{head} {own[0].text}', [it for it in items if it.owner])
+    lines = wrapped(0, re.sub(';$', '.', head.removesuffix(':')))
+    for item in own:
+        lines += item_lines(1, item.text, [it for it in items if it.owner == item.name])
+    names = [it.name for it in own]
+    return lines + [line for it in items if it.owner and it.owner not in names for line in wrapped(1, f'of `{it.owner}`: {it.text}')]
+
+
+def item_lines(depth, text, behind):
+    """An item, and what is behind it: what needs few words beside it, and each of the others below it."""
+    said = [it.text.rstrip('.') for it in behind if it.is_short()]
+    lines = wrapped(depth, f'{text} {"; ".join(said)}.' if said else text)
+    return lines + [line for it in behind if not it.is_short() for line in wrapped(depth + 1, it.text)]
 
 
 def page():
-    modules, unlisted = all_modules()
+    modules = all_modules()
     parts = {}
     for name in modules:
         title = next(title for title, pattern in SECTIONS if re.match(pattern, name))
         parts.setdefault(title, []).append(name)
     titles = [title for title, _ in SECTIONS[1:]] + ['Laws']
-    contents, body = [], []
+    body = textwrap.wrap('; '.join(f'[{it}]({anchor(it)})' for it in titles) + '.', WIDTH, break_on_hyphens=False)
     for title in titles:
-        names = [name for name, _ in sorted(((it, modules[it]) for it in parts[title]), key=number_of)]
-        links = ', '.join(f'[{name.removeprefix("dcsctp_wire::").removeprefix("packet::")}]({anchor(name)})' for name in names)
-        contents.append(f'- [{title}]({anchor(title)}): {links}')
-        body += [f'## {title}', '']
-        for name in names:
+        body += ['', f'## {title}', '']
+        for name, _ in sorted(((it, modules[it]) for it in parts[title]), key=number_of):
             body += module_lines(name, *modules[name])
-    rest = 'For the libraries themselves'
-    contents.append(f'- [{rest}]({anchor(rest)})')
-    body += [f'## {rest}', '', 'What the libraries call of each other, by module: programs call what is above.', '']
-    builds = []
-    for name, items in unlisted.items():
-        builds += [f'`{it.owner}`' for it in items if it.name == 'build']
-        names = [f'`{f"{it.owner}::" if it.owner else ""}{it.name}`' for it in items if it.name != 'build']
-        body += [f'- `{name}`: {", ".join(names)}'] if names else []
-    body.append(f'- `build` of {", ".join(builds)}, which makes a kind of a value that passed its check')
-    return HEAD + '\n' + '\n'.join(contents + [''] + body) + '\n'
+    return HEAD + '\n' + '\n'.join(body) + '\n'
 
 
 def broken_comments():

@@ -34,16 +34,17 @@ HEADER = '1388138801020304' + '00000000'
 
 PAGE_HEAD = '''# Packets of real peers
 
-Each line of digits is a packet, and below it is what a program prints of it: `echo DIGITS | ./sctp_show` or `echo DIGITS | ./sctp_dump`
-([how to build them](INSTALL.md)). Where the line `canonical=` of `sctp_show` is missing here, the canonical form is the packet itself
-with a checksum field of 0. `tools/captures.py --write` makes this page of `tools/captures.txt` and of what the programs print; tests hold
-it too (`tests/show/captures.txt`, `crates/test_values/src/tests/association.rt`, the stored run of `crates/sctp_dump`).
+Each line of digits is a packet, above it stands what it is, and below it what a program prints of it: `echo DIGITS | ./sctp_show` or
+`echo DIGITS | ./sctp_dump` ([how to build them](INSTALL.md)). Where the line `canonical=` of `sctp_show` is missing here, the canonical
+form is the packet itself with a checksum field of 0. `tools/captures.py --write` makes this page of `tools/captures.txt` and of what the
+programs print; tests hold it too (`tests/show/captures.txt`, `crates/test_values/src/tests/association.rt`, the stored run of
+`crates/sctp_dump`).
 '''
 
-# What is said below each heading.
+# What is said below each heading; what is below others is in the tables alone.
 SECTIONS = {
-    'Chunks': '''The chunks were captured; the header is the same in all: both ports 5000, tag 16909060, checksum 0. Below each is what `sctp_show`
-prints after the line of the header.
+    'Chunks': '''These chunks were captured, and more, of kinds that the association has too (`tests/show/captures.txt`); the header is the same in all:
+both ports 5000, tag 16909060, checksum 0. Below each is what `sctp_show` prints after the line of the header.
 ''',
     'An association, with its checksums': '''Two sockets of usrsctp 0.9.5.0 (Debian's `libusrsctp2`) in one process, `tools/association.c`: all packets from INIT to SHUTDOWN
 COMPLETE, as they were sent, from and to port 5000. Each carries its CRC32c: `read_verified` ([CALLING.md](CALLING.md)) reads it, and
@@ -143,26 +144,32 @@ def shown(entry, answer):
     return lines
 
 
+def block_of(entry, answer, dumps):
+    """What the page shows of a packet: what is said of it, its digits, and what is printed of it."""
+    block = [f'# {line}' for line in entry.words] + [entry.text]
+    if entry.fault is not None:
+        block.append(f'refused: {entry.fault}, at byte {entry.offset}')
+    elif not entry.is_whole:
+        block += shown(entry, answer)
+    else:
+        block += [line for line in shown(entry, answer) if line.startswith('canonical=')]
+    if entry.is_whole:
+        # the number of the packet and its ports come first, then the checksum
+        checksum, *chunks = next(dumps, '').splitlines()[2:]
+        block += chunks if checksum.endswith(': right') else [checksum, *chunks]
+    return '\n'.join(block) + '\n'
+
+
 def page_of(rows):
-    parts = [PAGE_HEAD]
-    blocks = dumped()
+    sections, dumps = [], dumped()
     for entry, answer in rows:
         if isinstance(entry, str):
-            parts.append(f'## {entry}\n\n{SECTIONS[entry]}')
-            continue
-        block = [entry.text]
-        if entry.fault is not None:
-            block.append(f'refused: {entry.fault}, at byte {entry.offset}')
-        elif not entry.is_whole:
-            block += shown(entry, answer)
+            sections.append((entry, []))
         else:
-            block += [line for line in shown(entry, answer) if line.startswith('canonical=')]
-        if entry.is_whole:
-            # the number of the packet and its ports come first, then the checksum
-            checksum, *chunks = next(blocks, '').splitlines()[2:]
-            block += chunks if checksum.endswith(': right') else [checksum, *chunks]
-        parts.append('\n'.join(entry.words) + '\n\n' + '\n'.join('    ' + line if line else '' for line in block) + '\n')
-    return '\n'.join(parts)
+            sections[-1][1].append(block_of(entry, answer, dumps))
+    parts = [f'## {heading}\n\n{SECTIONS[heading]}\n```text\n' + '\n'.join(blocks) + '```\n'
+             for heading, blocks in sections if heading in SECTIONS]
+    return PAGE_HEAD + '\n' + '\n'.join(parts)
 
 
 def table_of(rows):

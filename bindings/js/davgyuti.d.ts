@@ -1,5 +1,5 @@
 // SPDX-License-Identifier: Apache-2.0
-/** Reads, checks, prints and writes SCTP packets (RFC 9260), by proved functions compiled to WebAssembly.
+/** Reads, checks, prints and writes SCTP packets (RFC 9260), over WebAssembly.
 
     Bytes are copied into the memory of WebAssembly and out of it; only a `value`, a `payload`, the `bytes` of a part and what
     `registeredChunk` and the like give as bytes are views of the bytes that were given, as is what `openCookie` does. Numbers are

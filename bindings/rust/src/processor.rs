@@ -2,9 +2,9 @@
 //! The word of a packet by the processor's own instruction for CRC32c, where it has one.
 //!
 //! **Not proved**: unlike the rest of this crate it is Rust that rustc makes, and nothing else calls
-//! it. `tests/processor.rs` compares it with [`crate::word`] and [`crate::seal`], which are proved,
-//! on random packets of every size. The instruction is looked for at run time (SSE4.2 on x86-64,
-//! CRC on arm64); without it the proved functions are called.
+//! it. `tests/processor.rs` compares it with [`crate::word`] and [`crate::seal`], which call the
+//! library, on random packets of every size. The instruction is looked for at run time (SSE4.2 on
+//! x86-64, CRC on arm64); without it the library is called.
 //!
 //! ```
 //! use davgyuti::{Packet, Policy, processor};
