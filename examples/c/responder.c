@@ -1,7 +1,7 @@
 /* SPDX-License-Identifier: Apache-2.0 */
-/* A responder to start from: the side of an association that is called (RFC 9260), and takes user data. No byte is written
+/* A responder to start from: an end of an association (RFC 9260) that is called, or calls, and takes user data. No byte is written
    by hand, and there is no I/O and no clock: packets and the time go in, and packets come out. Left out: user data that is
-   sent, and with it timers; messages put together, and streams in order; addresses. There is one association at a time. */
+   sent, and timers; messages put together, and streams in order; paths. There is one association at a time. */
 #include <dcsctp.h>
 #include <string.h>
 
@@ -14,19 +14,21 @@ struct bytes {
 };
 
 struct responder {
-    /* What the caller sets; all else is 0 at first. The tag, not 0, the TSN, `random` and `tie_tags` are of the next association:
+    /* What the user sets; all else is 0 at first. The tag, not 0, the TSN, `random` and `tie_tags` are of the next association:
        they are drawn anew once `association` has the tag. */
     struct dcsctp_init own;
     uint8_t random[32], tie_tags[8];
     uint8_t key[32]; /* drawn once: who knows it can forge cookies */
-    struct bytes listed; /* types of chunks that count after AUTH alone (RFC 4895), not COOKIE ECHO; if empty, there is no AUTH */
+    struct bytes listed; /* types of chunks that count after AUTH alone (RFC 4895); if empty, there is no AUTH */
     struct bytes pair_key; /* the endpoint pair shared key, of 0 to 64 bytes, and its identifier */
     uint16_t pair_key_identifier;
     void *user;
     void (*take_data)(void *user, const struct dcsctp_data *data, const uint8_t *payload); /* each TSN once, as it comes */
-    enum { CLOSED, ESTABLISHED, SHUTDOWN_ACK_SENT } state;
+    enum { CLOSED, COOKIE_WAIT, COOKIE_ECHOED, ESTABLISHED, SHUTDOWN_ACK_SENT } state;
     struct dcsctp_cookie association; /* what the State Cookie said: until it comes back, nothing is kept of an INIT */
     uint8_t association_tie_tags[8];
+    uint8_t addresses[MOST_KEPT]; /* of the peer: the parameters in which it named them */
+    size_t addresses_size;
     uint32_t cumulative_tsn, next_request, last_result;
     struct dcsctp_gap_ack_block blocks[MOST_BLOCKS];
     uint32_t duplicates[MOST_DUPLICATES]; /* since the last SACK */
@@ -40,7 +42,7 @@ struct responder {
 struct exchange {
     const uint8_t *bytes;
     uint8_t *packet;
-    size_t length, room, size;
+    size_t length, room, size, cookie; /* cookie: where the COOKIE ECHO begins that is answered, if there is one */
     struct dcsctp_header header;
     struct dcsctp_chunk chunk;
     bool is_sack_due, is_authenticated;
@@ -63,12 +65,11 @@ static bool add_own_auth(const struct responder *r, struct exchange *x)
         && !dcsctp_add_parameter(TO(x), DCSCTP_FIRST_CHUNK, DCSCTP_PARAMETER_REQUESTED_HMAC_ALGORITHM, hmacs, sizeof hmacs);
 }
 
-/* Adds those of an INIT likewise. */
-static bool add_peer_auth(const struct exchange *init, struct exchange *x)
+/* Adds the parameters of an INIT or INIT ACK that have one of these types. */
+static bool add_parameters(const struct exchange *init, const uint16_t *types, size_t count, struct exchange *x)
 {
-    const uint16_t types[] = {DCSCTP_PARAMETER_RANDOM, DCSCTP_PARAMETER_CHUNK_LIST, DCSCTP_PARAMETER_REQUESTED_HMAC_ALGORITHM};
     struct dcsctp_parameter it;
-    for (int i = 0; i < 3; i++)
+    for (size_t i = 0; i < count; i++)
         for (size_t at = dcsctp_list_offset(&init->chunk); dcsctp_parameter_at(CHUNK(init), at, &it); at = it.next)
             if (it.type == types[i] && dcsctp_add_parameter(TO(x), DCSCTP_FIRST_CHUNK, it.type, init->bytes + it.value_offset,
                                                             it.value_size))
@@ -76,16 +77,43 @@ static bool add_peer_auth(const struct exchange *init, struct exchange *x)
     return true;
 }
 
+/* Whether a parameter is an address. */
+static bool is_address(uint16_t type)
+{
+    return type == DCSCTP_PARAMETER_IPV4_ADDRESS || type == DCSCTP_PARAMETER_IPV6_ADDRESS;
+}
+
 /* Writes what the cookie for an INIT holds after its numbers, as the parameters of a chunk: the Tie-Tags, if there is an
-   association, in the place of its tags, which nobody else may learn; and the parameters of AUTH of both ends. */
+   association, in the place of its tags, which nobody else may learn; the parameters of AUTH of both ends; and addresses. */
 static bool write_kept(const struct responder *r, const struct exchange *init, struct exchange *x)
 {
+    const uint16_t of_auth[] = {DCSCTP_PARAMETER_RANDOM, DCSCTP_PARAMETER_CHUNK_LIST, DCSCTP_PARAMETER_REQUESTED_HMAC_ALGORITHM},
+                   of_addresses[] = {DCSCTP_PARAMETER_IPV4_ADDRESS, DCSCTP_PARAMETER_IPV6_ADDRESS};
     return !dcsctp_begin(TO(x), 0, 0, 0) && !dcsctp_add_chunk(TO(x), DCSCTP_CHUNK_HEARTBEAT, 0, NULL, 0)
-        && (r->state == CLOSED || !dcsctp_add_parameter(TO(x), DCSCTP_FIRST_CHUNK, DCSCTP_PARAMETER_HEARTBEAT_INFO,
-                                                        r->association_tie_tags, sizeof r->association_tie_tags))
-        && (r->listed.size == 0 || (add_own_auth(r, x) && add_peer_auth(init, x)))
-        && dcsctp_chunk_at(x->packet, x->size, DCSCTP_FIRST_CHUNK, &x->chunk);
+        && (r->state < ESTABLISHED || !dcsctp_add_parameter(TO(x), DCSCTP_FIRST_CHUNK, DCSCTP_PARAMETER_HEARTBEAT_INFO,
+                                                            r->association_tie_tags, sizeof r->association_tie_tags))
+        && (r->listed.size == 0 || (add_own_auth(r, x) && add_parameters(init, of_auth, 3, x)))
+        && add_parameters(init, of_addresses, 2, x) && dcsctp_chunk_at(x->packet, x->size, DCSCTP_FIRST_CHUNK, &x->chunk);
 }
+
+/* Adds what this end says of itself to its INIT or INIT ACK. */
+static bool add_own(const struct responder *r, const uint8_t *cookie, size_t cookie_size, struct exchange *x)
+{
+    const uint8_t extensions[] = {DCSCTP_CHUNK_RE_CONFIG, DCSCTP_CHUNK_I_DATA, DCSCTP_CHUNK_FORWARD_TSN,
+                                  DCSCTP_CHUNK_I_FORWARD_TSN, DCSCTP_CHUNK_AUTH};
+    const bool has_auth = r->listed.size > 0;
+    return (!has_auth || add_own_auth(r, x))
+        && (!cookie || !dcsctp_add_parameter(TO(x), DCSCTP_FIRST_CHUNK, DCSCTP_PARAMETER_STATE_COOKIE, cookie, cookie_size))
+        && !dcsctp_add_parameter(TO(x), DCSCTP_FIRST_CHUNK, DCSCTP_PARAMETER_SUPPORTED_EXTENSIONS, extensions,
+                                 sizeof extensions - !has_auth)
+        && !dcsctp_add_parameter(TO(x), DCSCTP_FIRST_CHUNK, DCSCTP_PARAMETER_FORWARD_TSN_SUPPORTED, NULL, 0);
+}
+
+/* The types of parameters of INIT and INIT ACK that are known here, though perhaps ignored. */
+static const uint16_t known[] = {
+    DCSCTP_PARAMETER_IPV4_ADDRESS, DCSCTP_PARAMETER_IPV6_ADDRESS, DCSCTP_PARAMETER_STATE_COOKIE,
+    DCSCTP_PARAMETER_COOKIE_PRESERVATIVE, DCSCTP_PARAMETER_HOST_NAME_ADDRESS, DCSCTP_PARAMETER_SUPPORTED_ADDRESS_TYPES,
+    DCSCTP_PARAMETER_FORWARD_TSN_SUPPORTED};
 
 /* Whether an INIT has a Random that doesn't have 32 bytes. */
 static bool has_wrong_random(const struct exchange *x)
@@ -125,13 +153,8 @@ static bool answer_shutting_down(const struct responder *r, struct exchange *x)
    for one. */
 static bool answer_init(const struct responder *r, uint64_t now, struct exchange *x)
 {
-    const uint8_t extensions[] = {DCSCTP_CHUNK_RE_CONFIG, DCSCTP_CHUNK_I_DATA, DCSCTP_CHUNK_FORWARD_TSN,
-                                  DCSCTP_CHUNK_I_FORWARD_TSN, DCSCTP_CHUNK_AUTH};
-    const uint16_t known[] = {DCSCTP_PARAMETER_IPV4_ADDRESS, DCSCTP_PARAMETER_IPV6_ADDRESS, DCSCTP_PARAMETER_COOKIE_PRESERVATIVE,
-                              DCSCTP_PARAMETER_HOST_NAME_ADDRESS, DCSCTP_PARAMETER_SUPPORTED_ADDRESS_TYPES,
-                              DCSCTP_PARAMETER_FORWARD_TSN_SUPPORTED};
-    const bool has_auth = r->listed.size > 0;
-    const size_t list = dcsctp_list_offset(&x->chunk);
+    const size_t at = dcsctp_list_offset(&x->chunk); /* 0 in a chunk that is too short */
+    const struct bytes list = {x->bytes + at, at ? x->chunk.value_offset + x->chunk.value_size - at : 0};
     const uint32_t fault = dcsctp_init_fault(x->bytes, x->length, false);
     struct dcsctp_init peer;
     uint8_t kept_bytes[MOST_KEPT], sealed[72 + MOST_KEPT];
@@ -145,7 +168,11 @@ static bool answer_init(const struct responder *r, uint64_t now, struct exchange
             && !dcsctp_init_abort(TO(x), &x->header, peer.initiate_tag, fault);
     if (r->state == SHUTDOWN_ACK_SENT)
         return answer_shutting_down(r, x);
-    if (has_auth && has_wrong_random(x)) /* RFC 4895 section 6.1 */
+    if (r->state == ESTABLISHED && dcsctp_adds_addresses(list.at, list.size, r->addresses, r->addresses_size)) /* section 5.2.2 */
+        return !dcsctp_begin(TO(x), x->header.destination_port, x->header.source_port, peer.initiate_tag)
+            && !dcsctp_add_chunk(TO(x), DCSCTP_CHUNK_ABORT, 0, NULL, 0)
+            && !dcsctp_add_new_addresses(TO(x), DCSCTP_FIRST_CHUNK, list.at, list.size, r->addresses, r->addresses_size);
+    if (r->listed.size > 0 && has_wrong_random(x)) /* RFC 4895 section 6.1 */
         return !dcsctp_begin(TO(x), x->header.destination_port, x->header.source_port, peer.initiate_tag)
             && !dcsctp_add_chunk(TO(x), DCSCTP_CHUNK_ABORT, 0, NULL, 0)
             && !dcsctp_add_parameter(TO(x), DCSCTP_FIRST_CHUNK, DCSCTP_CAUSE_PROTOCOL_VIOLATION, NULL, 0);
@@ -158,16 +185,10 @@ static bool answer_init(const struct responder *r, uint64_t now, struct exchange
         || dcsctp_seal_cookie(sealed, sizeof sealed, &sealed_size, r->key, sizeof r->key, &cookie,
                               kept.packet + kept.chunk.value_offset, kept.chunk.value_size)
         || dcsctp_begin(TO(x), cookie.local_port, cookie.peer_port, cookie.peer_tag) || dcsctp_add_init_ack(TO(x), &r->own)
-        || (has_auth && !add_own_auth(r, x))
-        || dcsctp_add_parameter(TO(x), DCSCTP_FIRST_CHUNK, DCSCTP_PARAMETER_STATE_COOKIE, sealed, sealed_size)
-        || dcsctp_add_parameter(TO(x), DCSCTP_FIRST_CHUNK, DCSCTP_PARAMETER_SUPPORTED_EXTENSIONS, extensions,
-                                sizeof extensions - !has_auth)
-        || dcsctp_add_parameter(TO(x), DCSCTP_FIRST_CHUNK, DCSCTP_PARAMETER_FORWARD_TSN_SUPPORTED, NULL, 0))
+        || !add_own(r, sealed, sealed_size, x))
         return false;
-    /* what is known is ignored, and what isn't is reported, if there is room (section 3.2.2) */
-    dcsctp_add_unrecognized_parameters(TO(x), DCSCTP_FIRST_CHUNK, x->bytes + list,
-                                       x->chunk.value_offset + x->chunk.value_size - list, known,
-                                       sizeof known / sizeof *known, &end);
+    /* what isn't known is reported, if there is room (section 3.2.2) */
+    dcsctp_add_unrecognized_parameters(TO(x), DCSCTP_FIRST_CHUNK, list.at, list.size, known, sizeof known / sizeof *known, &end);
     return true;
 }
 
@@ -192,7 +213,7 @@ static void open_auth(struct responder *r, const uint8_t *kept, size_t size)
     r->shared_key_size = r->peer_listed_size = r->hmac = 0;
     for (size_t at = 0; size <= MOST_KEPT && dcsctp_item_at(kept, size, at, &it); at = it.next) {
         const size_t whole = it.value_offset + it.value_size - at, i = count >= 3;
-        if (it.type == DCSCTP_PARAMETER_HEARTBEAT_INFO) /* the Tie-Tags */
+        if (it.type == DCSCTP_PARAMETER_HEARTBEAT_INFO || is_address(it.type)) /* the Tie-Tags */
             continue;
         memcpy(vectors[i] + sizes[i], kept + at, whole);
         sizes[i] += whole;
@@ -207,6 +228,22 @@ static void open_auth(struct responder *r, const uint8_t *kept, size_t size)
     if (has_random && r->hmac != 0)
         dcsctp_shared_key(r->shared_key, sizeof r->shared_key, &r->shared_key_size, r->pair_key.at, r->pair_key.size, vectors[0],
                           sizes[0], vectors[1], sizes[1]);
+}
+
+/* Takes what `association` says of the peer, and what a cookie holds after its numbers. */
+static void begin_receiving(struct responder *r, const uint8_t *kept, size_t size)
+{
+    struct dcsctp_parameter it;
+    r->cumulative_tsn = r->association.peer_initial_tsn - 1;
+    r->next_request = r->association.peer_initial_tsn; /* RFC 6525 section 5.1.1 */
+    r->last_result = DCSCTP_RE_CONFIG_NOTHING_TO_DO;
+    r->block_count = r->duplicate_count = r->addresses_size = 0;
+    for (size_t at = 0; size <= MOST_KEPT && dcsctp_item_at(kept, size, at, &it); at = it.next)
+        if (is_address(it.type)) {
+            memcpy(r->addresses + r->addresses_size, kept + at, it.next - at);
+            r->addresses_size += it.next - at;
+        }
+    open_auth(r, kept, size);
 }
 
 /* Opens the association of a COOKIE ECHO, also if the peer begins anew; one that is open stays. Returns whether it is open; if
@@ -226,7 +263,7 @@ static bool open_association(struct responder *r, uint64_t now, struct exchange 
     for (size_t at = 0; dcsctp_item_at(kept, cookie.addresses_size, at, &it); at = it.next)
         is_tied = is_tied || (it.type == DCSCTP_PARAMETER_HEARTBEAT_INFO && it.value_size == sizeof r->association_tie_tags
                               && !memcmp(kept + it.value_offset, r->association_tie_tags, it.value_size));
-    const bool is_there = r->state != CLOSED, is_next = cookie.local_tag == r->own.initiate_tag;
+    const bool is_there = r->state >= ESTABLISHED, is_next = cookie.local_tag == r->own.initiate_tag;
     const bool is_local = is_there && cookie.local_tag == r->association.local_tag;
     const bool is_peers = is_there && cookie.peer_tag == r->association.peer_tag;
     if (is_local && is_peers) /* however old the cookie is (section 5.2.4, action D) */
@@ -247,12 +284,62 @@ static bool open_association(struct responder *r, uint64_t now, struct exchange 
     r->association = cookie;
     if (is_next)
         memcpy(r->association_tie_tags, r->tie_tags, sizeof r->tie_tags);
-    r->cumulative_tsn = cookie.peer_initial_tsn - 1;
-    r->next_request = cookie.peer_initial_tsn; /* RFC 6525 section 5.1.1 */
-    r->last_result = DCSCTP_RE_CONFIG_NOTHING_TO_DO;
-    r->block_count = r->duplicate_count = 0;
-    open_auth(r, kept, cookie.addresses_size);
+    begin_receiving(r, kept, cookie.addresses_size);
     return true;
+}
+
+/* Answers the INIT ACK that this end's INIT has brought: by COOKIE ECHO, and an ERROR where it has unknown parameters that are
+   reported; or by the ABORT that says what is wrong with it. Without either the packet is empty. */
+static void answer_init_ack(struct responder *r, struct exchange *x)
+{
+    const uint32_t fault = dcsctp_init_fault(x->bytes, x->length, true), refusal = dcsctp_init_refusal(fault, true, true);
+    const size_t list = dcsctp_list_offset(&x->chunk);
+    uint8_t kept_bytes[MOST_KEPT];
+    struct exchange kept = {.packet = kept_bytes, .room = sizeof kept_bytes};
+    struct dcsctp_init peer;
+    struct dcsctp_parameter it;
+    size_t end;
+    if (!dcsctp_init(CHUNK(x), &peer))
+        return;
+    if (refusal == DCSCTP_REFUSAL_DESTROY_AND_ABORT)
+        r->state = CLOSED;
+    if (fault != DCSCTP_INIT_NO_FAULT) {
+        if (refusal != DCSCTP_REFUSAL_DISCARD)
+            dcsctp_init_abort(TO(x), &x->header, peer.initiate_tag, fault);
+        return;
+    }
+    for (size_t at = list; dcsctp_parameter_at(CHUNK(x), at, &it) && it.type != DCSCTP_PARAMETER_STATE_COOKIE;)
+        at = it.next;
+    if (!write_kept(r, x, &kept) || dcsctp_begin(TO(x), r->association.local_port, r->association.peer_port, peer.initiate_tag)
+        || dcsctp_add_cookie_echo(TO(x), x->bytes + it.value_offset, it.value_size))
+        return;
+    dcsctp_add_unrecognized_parameters_error(TO(x), x->bytes + list, x->chunk.value_offset + x->chunk.value_size - list, known,
+                                             sizeof known / sizeof *known, &end);
+    r->association.peer_tag = peer.initiate_tag;
+    r->association.peer_initial_tsn = peer.initial_tsn;
+    r->association.inbound_streams = peer.outbound_streams;
+    r->state = COOKIE_ECHOED;
+    begin_receiving(r, kept.packet + kept.chunk.value_offset, kept.chunk.value_size);
+}
+
+/* Takes a chunk while this end calls (sections 5.1 and 5.2.6). Returns whether those after it are looked at. */
+static bool take_call(struct responder *r, struct exchange *x)
+{
+    struct dcsctp_parameter it;
+    if (x->chunk.type == DCSCTP_CHUNK_INIT_ACK && r->state == COOKIE_WAIT)
+        answer_init_ack(r, x);
+    if (x->chunk.type == DCSCTP_CHUNK_COOKIE_ACK && r->state == COOKIE_ECHOED) {
+        r->state = ESTABLISHED;
+        r->association.local_tag = r->own.initiate_tag;
+        memcpy(r->association_tie_tags, r->tie_tags, sizeof r->tie_tags);
+    }
+    if (x->chunk.type == DCSCTP_CHUNK_ERROR)
+        for (size_t at = dcsctp_list_offset(&x->chunk); dcsctp_parameter_at(CHUNK(x), at, &it); at = it.next)
+            if (it.type == DCSCTP_CAUSE_STALE_COOKIE)
+                r->state = CLOSED;
+    if (x->chunk.type == DCSCTP_CHUNK_ABORT)
+        r->state = CLOSED;
+    return r->state == ESTABLISHED;
 }
 
 /* Whether a TSN is the cumulative one, or comes before it. */
@@ -345,8 +432,10 @@ static bool answer_chunk(struct responder *r, struct exchange *x, size_t at)
 {
     const size_t start = x->size;
     struct dcsctp_parameter info;
+    if (r->state < ESTABLISHED)
+        return take_call(r, x);
     switch (x->chunk.type) {
-    case DCSCTP_CHUNK_COOKIE_ECHO: return at == DCSCTP_FIRST_CHUNK && !dcsctp_add_cookie_ack(TO(x));
+    case DCSCTP_CHUNK_COOKIE_ECHO: return at == x->cookie && !dcsctp_add_cookie_ack(TO(x));
     case DCSCTP_CHUNK_DATA: case DCSCTP_CHUNK_I_DATA: return take_data(r, x);
     case DCSCTP_CHUNK_FORWARD_TSN: case DCSCTP_CHUNK_I_FORWARD_TSN: return skip(r, x);
     case DCSCTP_CHUNK_RE_CONFIG: return answer_requests(r, x);
@@ -423,7 +512,9 @@ static bool sign(const struct responder *r, struct exchange *x)
 /* Says what is done with a packet, by its ports and its tag. */
 static uint32_t verdict_of(const struct responder *r, const struct exchange *x)
 {
-    const struct dcsctp_association association = {r->association.local_tag, r->association.peer_tag, true, false};
+    const bool calls = r->state < ESTABLISHED;
+    const struct dcsctp_association association = {calls ? r->own.initiate_tag : r->association.local_tag, r->association.peer_tag,
+                                                   r->state != COOKIE_WAIT, calls};
     return r->state == CLOSED || !has_its_ports(r, x) ? DCSCTP_TAG_OUT_OF_THE_BLUE
                                                       : dcsctp_verify_tag(x->bytes, x->length, &association);
 }
@@ -436,10 +527,31 @@ static bool answer_chunks(struct responder *r, struct exchange *x)
         return false;
     for (size_t next; take_chunk(r, x, at) && (next = x->chunk.next, dcsctp_chunk_at(x->bytes, x->length, next, &x->chunk));)
         at = next;
-    if (x->is_sack_due && r->state != CLOSED && !dcsctp_add_sack(TO(x), r->cumulative_tsn, r->own.a_rwnd, r->blocks,
+    if (x->is_sack_due && r->state >= ESTABLISHED && !dcsctp_add_sack(TO(x), r->cumulative_tsn, r->own.a_rwnd, r->blocks,
                                                                  r->block_count, r->duplicates, r->duplicate_count))
         r->duplicate_count = 0;
     return x->size > DCSCTP_FIRST_CHUNK && (r->shared_key_size == 0 || sign(r, x));
+}
+
+/* Answers a packet with COOKIE ECHO, which may come after an AUTH, and has to where it is listed: the keys are those that its
+   cookie says (RFC 4895 section 6.3), and an AUTH that isn't right under them changes nothing. */
+static bool answer_cookie(struct responder *r, uint64_t now, struct exchange *x)
+{
+    const struct responder before = *r;
+    const struct dcsctp_chunk first = x->chunk;
+    if (first.type != DCSCTP_CHUNK_COOKIE_ECHO && (first.type != DCSCTP_CHUNK_AUTH
+                                                   || !dcsctp_chunk_at(x->bytes, x->length, first.next, &x->chunk)))
+        return false;
+    if (!open_association(r, now, x))
+        return x->size > 0;
+    x->cookie = first.type == DCSCTP_CHUNK_AUTH ? first.next : DCSCTP_FIRST_CHUNK;
+    x->chunk = first;
+    const bool has_answer = answer_chunks(r, x);
+    if (!x->is_authenticated && (first.type == DCSCTP_CHUNK_AUTH || dcsctp_is_listed(r->listed.at, r->listed.size, first.type))) {
+        *r = before;
+        return false;
+    }
+    return has_answer;
 }
 
 /* Answers a packet: one that belongs to no association as section 8.4 says. Returns whether there is an answer. */
@@ -456,7 +568,20 @@ static bool answer(struct responder *r, uint64_t now, struct exchange *x)
     }
     if (x->chunk.type == DCSCTP_CHUNK_INIT)
         return answer_init(r, now, x);
-    return x->chunk.type == DCSCTP_CHUNK_COOKIE_ECHO && (open_association(r, now, x) ? answer_chunks(r, x) : x->size > 0);
+    return answer_cookie(r, now, x);
+}
+
+/* Calls a peer: writes the INIT, and returns its size, or 0 if it has no room. There is no timer: who calls sends it again, and
+   then what answers the INIT ACK, while the state stays (section 5.1). */
+size_t responder_call(struct responder *r, uint16_t local_port, uint16_t peer_port, uint8_t *packet, size_t room)
+{
+    struct exchange x = {.packet = packet, .room = room};
+    r->association = (struct dcsctp_cookie){.local_initial_tsn = r->own.initial_tsn, .local_port = local_port,
+                                            .peer_port = peer_port, .outbound_streams = r->own.outbound_streams};
+    r->shared_key_size = r->peer_listed_size = 0;
+    r->state = COOKIE_WAIT;
+    return !dcsctp_begin(TO(&x), local_port, peer_port, 0) && !dcsctp_add_init(TO(&x), &r->own) && add_own(r, NULL, 0, &x)
+        && !dcsctp_seal(packet, x.size) ? x.size : 0;
 }
 
 /* Takes bytes that came, at a time in microseconds, and writes the packet that answers. Returns its size, or 0 if there is

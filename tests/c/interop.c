@@ -42,6 +42,7 @@ struct scenario {
     unsigned lost, late;           /* packets of a hundred */
     bool is_authenticated;         /* chunks come after AUTH (RFC 4895), with SHA-1: Debian's usrsctp has no other HMAC */
     const char *key, *wrong_key;   /* the endpoint pair shared key; what the responder takes for it */
+    bool lists_cookies;            /* COOKIE ECHO comes after AUTH too */
     void (*run)(void);             /* what is done with an association, in place of messages and its end */
 };
 
@@ -52,6 +53,10 @@ static void run_shutting_down(void);
 static void run_stale(void);
 static void run_unknown(void);
 static void run_forgotten(void);
+static void run_wrong_cookie(void);
+static void run_addresses(void);
+static void run_collision(void);
+static void run_calls(void);
 
 /* Not here, since usrsctp itself stops now and then: I-DATA with loss and partial reliability, and SCTP_RESET_ASSOC. */
 static const struct scenario scenarios[] = {
@@ -80,6 +85,15 @@ static const struct scenario scenarios[] = {
     {.name = "responder-unknown", .is_short = true, .is_answered = true, .run = run_unknown},
     {.name = "responder-forgotten", .is_short = true, .is_answered = true, .run = run_forgotten},
     {.name = "responder-auth-forgotten", .is_short = true, .is_answered = true, .is_authenticated = true, .run = run_forgotten},
+    {.name = "responder-auth-cookies", .is_short = true, .is_answered = true, .is_authenticated = true, .lists_cookies = true,
+     .run = run_restart},
+    {.name = "responder-wrong-cookie", .is_short = true, .is_answered = true, .is_authenticated = true, .lists_cookies = true,
+     .key = "a key", .wrong_key = "another", .run = run_wrong_cookie},
+    {.name = "responder-addresses", .is_short = true, .is_answered = true, .run = run_addresses},
+    {.name = "responder-collision", .is_short = true, .is_answered = true, .run = run_collision},
+    {.name = "responder-auth-collision", .is_short = true, .is_answered = true, .is_authenticated = true, .lists_cookies = true,
+     .run = run_collision},
+    {.name = "responder-calls", .is_short = true, .is_answered = true, .run = run_calls},
 };
 enum { SCENARIOS = sizeof scenarios / sizeof *scenarios };
 
@@ -712,7 +726,13 @@ static void write_row(const uint8_t *bytes, size_t length)
 /* ---- the beginning and the end of the responder */
 
 static const uint8_t authenticated[] = {PLAIN_DATA, PLAIN_SACK, PLAIN_HEARTBEAT, PLAIN_HEARTBEAT_ACK, PLAIN_ABORT,
-    PLAIN_SHUTDOWN, PLAIN_SHUTDOWN_ACK, PLAIN_ERROR, PLAIN_RE_CONFIG, PLAIN_COOKIE_ACK};
+    PLAIN_SHUTDOWN, PLAIN_SHUTDOWN_ACK, PLAIN_ERROR, PLAIN_RE_CONFIG, PLAIN_COOKIE_ACK, PLAIN_COOKIE_ECHO};
+
+/* How many of these are listed. */
+static size_t listed_count(void)
+{
+    return sizeof authenticated - !scenario->lists_cookies;
+}
 
 /* Draws what the responder's next association has. */
 static void draw_next(void)
@@ -733,7 +753,7 @@ static void begin_responder(size_t messages)
     for (size_t i = 0; i < sizeof responder.key; i++)
         responder.key[i] = (uint8_t)draw(&state);
     if (scenario->is_authenticated)
-        responder.listed = (struct bytes){authenticated, sizeof authenticated};
+        responder.listed = (struct bytes){authenticated, listed_count()};
     if (key) {
         responder.pair_key = (struct bytes){(const uint8_t *)key, strlen(key)};
         responder.pair_key_identifier = KEY_IDENTIFIER;
@@ -875,7 +895,7 @@ static void authenticate(struct socket *socket)
     uint32_t words[32] = {0};
     struct sctp_authkey *key = (struct sctp_authkey *)(void *)words;
     struct sctp_authkeyid active = {.scact_keynumber = KEY_IDENTIFIER};
-    for (size_t i = 0; i < sizeof authenticated - (scenario->wrong_key != NULL); i++) {
+    for (size_t i = 0; i < listed_count() - (scenario->wrong_key && !scenario->lists_cookies); i++) {
         struct sctp_authchunk chunk = {.sauth_chunk = authenticated[i]};
         set(socket, SCTP_AUTH_CHUNK, &chunk, sizeof chunk);
     }
@@ -930,6 +950,14 @@ static void call(void)
     struct sockaddr_conn to = address_of(&sides[0]);
     sides[0].socket = open_socket(&sides[0]);
     REQUIRE(usrsctp_connect(sides[0].socket, (struct sockaddr *)&to, sizeof to) < 0 && errno == EINPROGRESS);
+}
+
+/* The responder calls usrsctp. */
+static void call_back(void)
+{
+    answer_size = responder_call(&responder, 5000, 5000, answer_given, sizeof answer_given);
+    REQUIRE(answer_size > 0 && responder.state == COOKIE_WAIT);
+    send_packet(name_of(&sides[1]), answer_given, answer_size, 0, 0);
 }
 
 static void connect_sides(void)
@@ -1161,6 +1189,17 @@ static void run_wrong_key(void)
     crash();
 }
 
+/* The same of a COOKIE ECHO, whose AUTH is verified by what its cookie says. */
+static void run_wrong_cookie(void)
+{
+    call();
+    RUN_UNTIL(answers((const char[]){PLAIN_INIT_ACK}, 1));
+    const struct responder before = responder;
+    run_for(5000);
+    REQUIRE(tally.kinds[PLAIN_COOKIE_ECHO] > 1 && answers("", 0) && !memcmp(&responder, &before, sizeof before));
+    crash();
+}
+
 /* Loses the COOKIE ECHO, so that an INIT alone arrives: INIT ACK has a new tag, and nothing changes (section 5.2.2). */
 static void call_anew(void)
 {
@@ -1331,6 +1370,72 @@ static void run_stale(void)
     end_association();
 }
 
+/* Section 5.2.2: a peer that begins anew adds no addresses. usrsctp names none here, so they are added to its INIT. */
+static uint8_t address_count;
+static uint32_t initiate_tag; /* of the last INIT */
+
+static size_t add_addresses(const struct side *to, uint8_t *bytes, size_t length)
+{
+    if (to != &sides[1] || !begins_with(bytes, length, PLAIN_INIT))
+        return length;
+    initiate_tag = plain_u32(bytes + PLAIN_HEADER + 4);
+    for (uint8_t i = 1; i <= address_count; i++) {
+        const uint8_t address[] = {10, 0, 0, i};
+        REQUIRE(!dcsctp_add_parameter(bytes, MOST, &length, PLAIN_HEADER, DCSCTP_PARAMETER_IPV4_ADDRESS, address, sizeof address));
+    }
+    seal(bytes, length);
+    return length;
+}
+
+static void run_addresses(void)
+{
+    const uint8_t cause[] = {0, 11, 0, 20, 0, 5, 0, 8, 10, 0, 0, 3, 0, 5, 0, 8, 10, 0, 0, 4};
+    meddle = add_addresses;
+    address_count = 2;
+    connect_sides();
+    exchange_messages(20);
+    crash();
+    const struct responder before = responder;
+    meddle = add_addresses;
+    address_count = 4;
+    call();
+    RUN_UNTIL(answers((const char[]){PLAIN_ABORT}, 1));
+    REQUIRE(answer_size == PLAIN_HEADER + 4 + sizeof cause && !memcmp(answer_given + PLAIN_HEADER + 4, cause, sizeof cause));
+    REQUIRE(answer_given[PLAIN_HEADER + 1] == 0 && plain_u32(answer_given + 4) == initiate_tag);
+    REQUIRE(!memcmp(&responder, &before, sizeof before));
+    RUN_UNTIL(state_of(&sides[0]) < 0);
+    usrsctp_close(sides[0].socket);
+    address_count = 1;
+    call();
+    RUN_UNTIL(state_of(&sides[0]) == SCTP_ESTABLISHED);
+    REQUIRE(responder.association.local_tag == before.own.initiate_tag && responder.addresses_size == 8);
+    exchange_messages(20);
+    end_association();
+}
+
+/* Both ends call at once (sections 5.2.1 and 5.2.4): either INIT, either COOKIE ECHO or none is lost. */
+static void run_collision(void)
+{
+    const uint8_t types[] = {0, PLAIN_INIT, PLAIN_COOKIE_ECHO, DCSCTP_CHUNK_AUTH};
+    for (size_t i = 0; i < 2 * sizeof types; i++) {
+        const uint32_t own = responder.own.initiate_tag;
+        lost_type = types[i / 2];
+        meddle = lose_type;
+        if (i % 2)
+            call_back();
+        call();
+        if (i % 2 == 0)
+            call_back();
+        RUN_UNTIL(responder.state == ESTABLISHED && state_of(&sides[0]) == SCTP_ESTABLISHED && !under_way);
+        REQUIRE(responder.association.local_tag == own && responder.cumulative_tsn == responder.association.peer_initial_tsn - 1);
+        meddle = NULL;
+        exchange_messages(20);
+        end_association();
+        usrsctp_close(sides[0].socket);
+    }
+    sides[0].socket = NULL;
+}
+
 /* Sections 3.2 and 3.2.1: what is done with an unknown type, by its two highest-order bits. */
 static const struct unknown {
     uint8_t chunk;
@@ -1345,14 +1450,14 @@ static const struct unknown {
 static bool is_added;
 static const uint8_t unknown_value[] = {'a', 'b', 'c', 'd', 'e'}, next_parameter[] = {0xff, 0xfd, 0, 5, 'f'};
 
-/* Adds an unknown parameter and another one to an INIT, or puts an unknown chunk before DATA. */
+/* Adds an unknown parameter and another one to an INIT or INIT ACK, or puts an unknown chunk before DATA. */
 static size_t add_unknown(const struct side *to, uint8_t *bytes, size_t length)
 {
     static uint8_t copy[MOST];
     size_t size = PLAIN_HEADER;
     if (to != &sides[1] || is_added)
         return length;
-    if (begins_with(bytes, length, PLAIN_INIT)) {
+    if (begins_with(bytes, length, PLAIN_INIT) || begins_with(bytes, length, PLAIN_INIT_ACK)) {
         memcpy(copy, bytes, size = length);
         REQUIRE(!dcsctp_add_parameter(TO_COPY, PLAIN_HEADER, added->parameter, unknown_value, sizeof unknown_value));
         REQUIRE(!dcsctp_add_parameter(TO_COPY, PLAIN_HEADER, 0xfffd, next_parameter + 4, 1));
@@ -1370,13 +1475,17 @@ static size_t add_unknown(const struct side *to, uint8_t *bytes, size_t length)
     return size;
 }
 
-/* The last item of a type in the last answer's first chunk, of those after `numbers` bytes: where it begins; 0 if there is none. */
-static size_t place_in_answer(size_t numbers, uint16_t type, const uint8_t *value, size_t value_size)
+/* The last item of a type in the last answer's first chunk of a type, of those after `numbers` bytes: where it begins; 0 if there
+   is none. */
+static size_t place_in_answer(uint8_t chunk_type, size_t numbers, uint16_t type, const uint8_t *value, size_t value_size)
 {
-    struct plain_item chunk, item;
-    size_t found = 0;
-    REQUIRE(plain_chunk_at(answer_given, PLAIN_HEADER, answer_size, &chunk));
-    for (size_t at = chunk.value + numbers; plain_item_at(answer_given, at, chunk.value + chunk.size, &item); at = item.next)
+    struct plain_item chunk = {0}, item;
+    size_t found = 0, at = PLAIN_HEADER;
+    while (plain_chunk_at(answer_given, at, answer_size, &chunk) && chunk.type != chunk_type)
+        at = chunk.next;
+    if (at == answer_size)
+        return 0;
+    for (at = chunk.value + numbers; plain_item_at(answer_given, at, chunk.value + chunk.size, &item); at = item.next)
         if (item.type == type && item.size == value_size && !memcmp(answer_given + item.value, value, value_size))
             found = at;
     return found;
@@ -1393,8 +1502,8 @@ static void run_unknown(void)
         call();
         RUN_UNTIL(is_added);
         REQUIRE(answers((const char[]){PLAIN_INIT_ACK}, 1));
-        REQUIRE((place_in_answer(16, 8, parameter, sizeof parameter) > 0) == added->is_reported);
-        REQUIRE((place_in_answer(16, 8, next_parameter, sizeof next_parameter) > 0) == added->is_skipped);
+        REQUIRE((place_in_answer(PLAIN_INIT_ACK, 16, 8, parameter, sizeof parameter) > 0) == added->is_reported);
+        REQUIRE((place_in_answer(PLAIN_INIT_ACK, 16, 8, next_parameter, sizeof next_parameter) > 0) == added->is_skipped);
         RUN_UNTIL(state_of(&sides[0]) == SCTP_ESTABLISHED && !under_way);
         const uint32_t tsn = responder.cumulative_tsn;
         is_added = false;
@@ -1403,12 +1512,42 @@ static void run_unknown(void)
         RUN_UNTIL(is_added);
         REQUIRE((responder.cumulative_tsn != tsn) == added->is_skipped);
         REQUIRE(answers((const char[]){PLAIN_ERROR, PLAIN_SACK} + !added->is_reported, added->is_reported + added->is_skipped));
-        REQUIRE(!added->is_reported || place_in_answer(0, 6, chunk, sizeof chunk) > 0);
+        REQUIRE(!added->is_reported || place_in_answer(PLAIN_ERROR, 0, 6, chunk, sizeof chunk) > 0);
         exchange_messages(20);
         end_association();
         usrsctp_close(sides[0].socket);
     }
     sides[0].socket = NULL;
+}
+
+/* The responder calls usrsctp, whose INIT ACK has an unknown parameter and another one: an ERROR behind COOKIE ECHO reports what is
+   to be reported (section 3.2.2). */
+static void run_calls(void)
+{
+    const struct unknown *end = unknown + sizeof unknown / sizeof *unknown;
+    sides[0].listener = open_socket(&sides[0]);
+    REQUIRE(!usrsctp_listen(sides[0].listener, 1));
+    for (added = unknown; added < end; added++) {
+        const uint8_t parameter[] = {(uint8_t)(added->parameter >> 8), 0xfe, 0, 9, 'a', 'b', 'c', 'd', 'e'};
+        const uint32_t own = responder.own.initiate_tag;
+        meddle = add_unknown;
+        is_added = false;
+        call_back();
+        RUN_UNTIL(is_added);
+        REQUIRE(answers((const char[]){PLAIN_COOKIE_ECHO, PLAIN_ERROR}, 1u + (added->is_reported || added->is_skipped)));
+        REQUIRE((place_in_answer(PLAIN_ERROR, 0, 8, parameter, sizeof parameter) > 0) == added->is_reported);
+        REQUIRE((place_in_answer(PLAIN_ERROR, 0, 8, next_parameter, sizeof next_parameter) > 0) == added->is_skipped);
+        meddle = NULL;
+        RUN_UNTIL((sides[0].socket = usrsctp_accept(sides[0].listener, NULL, NULL)));
+        REQUIRE(!usrsctp_set_non_blocking(sides[0].socket, 1));
+        RUN_UNTIL(responder.state == ESTABLISHED && state_of(&sides[0]) == SCTP_ESTABLISHED && !under_way);
+        REQUIRE(responder.association.local_tag == own);
+        exchange_messages(20);
+        end_association();
+        usrsctp_close(sides[0].socket);
+    }
+    usrsctp_close(sides[0].listener);
+    sides[0].socket = sides[0].listener = NULL;
 }
 
 /* Section 8.4: the responder forgets its association as a packet comes that begins with a chunk of some type. */

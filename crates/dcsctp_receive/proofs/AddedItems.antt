@@ -1,10 +1,10 @@
 -- Items that are added to a chunk one after the other: after each, the chunk still ends the packet,
 -- and what is left has room.
-use Rattle.std.proofs.{Common.{◌≡◌, ℕ, ◌+◌, ◌-◌, ◌<◌, ◌≤◌, ◌^◌, lit<, List, [], ◌∷◌, ◌++◌, length, take, drop, refl, sym, ap, subst, ◌∙◌, arith, append_assoc, take_at, drop_at, drop-drop, length-append, length-take, length-drop, take-take}, lemmas.List.{take-append-le}, Math.Seq.{take-append-add}, lemmas.Nat.{from_be_bytes-to_be_bytes_2}}
+use Rattle.std.proofs.{Common.{◌≡◌, ℕ, ◌+◌, ◌-◌, ◌<◌, ◌≤◌, ◌^◌, lit<, List, [], ◌∷◌, ◌++◌, length, take, drop, refl, sym, ap, subst, ◌∙◌, arith, append_assoc, drop_at, drop-drop, length-append, length-take, take-take}, lemmas.List.{take-append-le}, Math.Seq.{take-append-add}, lemmas.Nat.{from_be_bytes-to_be_bytes_2}}
 use Rattle.std.specs.Int.{w16, to_be_bytes}
 use Rattle.dcsctp_tlv.specs.{Frame.{round_up_to_4, frame_length}, Image.{put, image_of}, Number.{number16}}
 use Rattle.dcsctp_wire.specs.{Canonical.{padded_chunk}, Chunk.{ChunkTree}, Packet.{Meaning}}
-use Rattle.dcsctp_buffer.specs.{Buffer.{IsBegun, HasRoom, IsAdded, HoldsPacket, with_chunk}, Item.{IsLastChunk, HasItemRoom, IsItemAdded, extended, extended_length, padded_item}}
+use Rattle.dcsctp_buffer.specs.{Buffer.{HasRoom, IsAdded, HoldsPacket, with_chunk}, Item.{HasItemRoom, IsItemAdded, extended, extended_length, padded_item}}
 use Rattle.dcsctp_receive.specs.Unrecognized.{added_size, HasRoomForAll, AreAdded, extended_by, empty_error, HasSomeRoom, IsErrorAdded, with_error}
 
 pub first_has_room : (buffer : List ℕ) (size start : ℕ) (value : List ℕ) (values : List (List ℕ))

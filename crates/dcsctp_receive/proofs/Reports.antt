@@ -4,7 +4,7 @@ use Rattle.std.proofs.{Common.{◌≡◌, ℕ, ◌+◌, ◌-◌, ◌<◌, ◌≤
 use Rattle.std.specs.{Int.{w16, to_be_bytes}, List.{filter, list_any}, Option.{option_map}}
 use Rattle.dcsctp_tlv.specs.{Frame.{round_up_to_4}, Number.{AreBytes, number16}}
 use Rattle.dcsctp_borrowed.{specs.Part.{Part, Item, front, after, begins_with_item, first_item, after_item, length_field}, proofs.Rewritten.{half_again}, proofs.Widths.{half_at}, proofs.FrameItems.{bytes_after}}
-use Rattle.dcsctp_receive.specs.{Chunks.{items_of}, Action.{action_to_parameter}, Unrecognized.{type_of, parameter_action, is_reported, stops, stop_offset, looked_at, reported, padded_size, whole_item, wholes}, declared.action.Action.{Action}}
+use Rattle.dcsctp_receive.specs.{Chunks.{items_of}, Action.{action_to_parameter}, Unrecognized.{type_of, parameter_action, is_reported, stops, stop_offset, looked_at, padded_size, whole_item, wholes}, declared.action.Action.{Action}}
 use Rattle.dcsctp_receive.proofs.ItemLists.{items_next, items_end}
 
 -- ---- the item's bytes

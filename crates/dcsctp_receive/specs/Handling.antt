@@ -1,5 +1,5 @@
 -- What the one loop over a list that is reported is given.
-use Rattle.std.specs.Prelude.{ℕ, if◌then◌else◌, List, Option, Some, None}
+use Rattle.std.specs.Prelude.{if◌then◌else◌, List, Option, Some, None}
 use Rattle.dcsctp_borrowed.specs.Part.{Item, part_of}
 use Rattle.dcsctp_receive.specs.{Chunks.{items_of}, Unrecognized.{chunk_action, parameter_action}, Restart.{is_new}}
 use Rattle.dcsctp_receive.specs.declared.action.Action.{Action}

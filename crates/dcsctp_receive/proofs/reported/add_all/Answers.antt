@@ -1,4 +1,4 @@
-use Rattle.std.proofs.Common.{◌≡◌, ℕ, List, ◌∷◌, length, refl, sym, ap, subst, ◌∙◌, arith}
+use Rattle.std.proofs.Common.{ℕ, List, refl, sym, subst, arith}
 use Rattle.std.proofs.lemmas.Bool.{false≢true}
 use Rattle.dcsctp_borrowed.specs.Part.{part_of}
 use Rattle.dcsctp_receive.specs.{Chunks.{items_of}, Unrecognized.{wholes, AreAdded, HasRoomForAll}, Handling.{action_by}}

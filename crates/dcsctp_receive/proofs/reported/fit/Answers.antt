@@ -1,4 +1,4 @@
-use Rattle.std.proofs.Common.{◌≡◌, ◌+◌, ◌<◌, ◌≤◌, sym, ap, ◌∙◌, arith}
+use Rattle.std.proofs.Common.{◌<◌, ◌≤◌, sym, ap, arith}
 use Rattle.std.proofs.lemmas.Bool.{le-leb, lt-leb}
 use Rattle.dcsctp_borrowed.specs.Part.{part_of}
 use Rattle.dcsctp_receive.specs.{Chunks.{items_of}, Unrecognized.{wholes, added_size}, Handling.{action_by}}

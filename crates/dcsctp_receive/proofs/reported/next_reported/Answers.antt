@@ -1,5 +1,5 @@
-use Rattle.std.proofs.Common.{◌≡◌, ◌+◌, List, ℕ, ◌∷◌, sym, ap, ◌∙◌, arith}
-use Rattle.dcsctp_borrowed.specs.Part.{Item, part_of, item_of, first_item}
+use Rattle.std.proofs.Common.{List, ℕ, ◌∷◌, sym, ap, ◌∙◌, arith}
+use Rattle.dcsctp_borrowed.specs.Part.{part_of, item_of}
 use Rattle.dcsctp_receive.specs.{Chunks.{items_of}, Unrecognized.{wholes}, Handling.{action_by}}
 use Rattle.dcsctp_receive.proofs.Reports.{reported_first, reported_later, reported_none, whole_read, whole_fits, left_less}
 use Rattle.dcsctp_receive.proofs.reported.next_reported.Goals as goal

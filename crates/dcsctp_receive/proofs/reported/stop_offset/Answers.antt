@@ -1,5 +1,5 @@
-use Rattle.std.proofs.Common.{◌≡◌, ◌≤◌, ◌+◌, ◌-◌, ℕ, length, sym, ap, ◌∙◌, arith}
-use Rattle.dcsctp_borrowed.specs.Part.{Part, part_of, item_of}
+use Rattle.std.proofs.Common.{◌-◌, length, arith}
+use Rattle.dcsctp_borrowed.specs.Part.{part_of, item_of}
 use Rattle.dcsctp_receive.specs.{Chunks.{items_of}, Unrecognized.{stop_offset}, Handling.{action_by}}
 use Rattle.dcsctp_receive.proofs.Reports.{unshifted, stops_here, stops_later, stops_nowhere, after_less}
 use Rattle.dcsctp_receive.proofs.reported.stop_offset.Goals as goal
