@@ -796,7 +796,7 @@ static void give(struct side *side, const uint8_t *bytes, size_t length)
         draw_next();
         write_next();
     }
-    if (responder.state != CLOSED)
+    if (responder.state >= ESTABLISHED)
         take_parts(side);
     if (answer_size > 0)
         send_packet(name_of(side), answer_given, answer_size, 0, 0);

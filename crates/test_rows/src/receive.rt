@@ -171,10 +171,16 @@ impl Addition<'_> {
     /// Adds it.
     fn add(self, buffer: &mut [u8], size: &mut usize) -> Result<Option<usize>, WriteError> {
         match self {
-            Addition::Parameters(list, known) =>
-                add_unrecognized_parameters(buffer, size, COMMON_HEADER_SIZE, list, known),
-            Addition::ParametersError(list, known) =>
-                add_unrecognized_parameters_error(buffer, size, list, known),
+            Addition::Parameters(list, known) => add_unrecognized_parameters(
+                buffer,
+                size,
+                COMMON_HEADER_SIZE,
+                list,
+                known,
+            ),
+            Addition::ParametersError(list, known) => add_unrecognized_parameters_error(
+                buffer, size, list, known,
+            ),
             Addition::Chunks(packet, known) => add_unrecognized_chunks(buffer, size, packet, known),
             Addition::Addresses(list, known) => {
                 add_new_addresses(buffer, size, COMMON_HEADER_SIZE, list, known)?;
@@ -276,11 +282,7 @@ fn write_unrecognized_chunks(
 ) -> Result<(), AllocError> {
     let count = first(bytes) as usize;
     let known = front(from(bytes, 1), count);
-    write_addition(
-        alloc,
-        Addition::Chunks(from(bytes, 1 + count), known),
-        out,
-    )
+    write_addition(alloc, Addition::Chunks(from(bytes, 1 + count), known), out)
 }
 
 /// Writes whether an INIT adds addresses, and the cause that lists them. The bytes are how many the
