@@ -1,5 +1,5 @@
 -- The packets that a filter passes.
-use Rattle.std.specs.Prelude.{◌&&◌, ◌||◌, not, Bool, true, false, ℕ, nat_le, Option, Some, None, List, length, bytes_eq}
+use Rattle.std.specs.Prelude.{◌&&◌, ◌||◌, not, Bool, true, false, ℕ, nat_le, Option, Some, None, List, length, bytes_eq, is_some}
 use Rattle.std.specs.List.{list_any}
 use Rattle.dump_capture.specs.Frame.{Packet}
 use Rattle.dump_capture.specs.declared.frame.Addresses.{Addresses}
@@ -13,10 +13,14 @@ use Rattle.dump_analysis.specs.declared.filter.Host.TheVariants as host
 abbrev pub part_in : Packet → Part
 part_in p = record { bytes = p.bytes; size = p.length }
 
--- what isn't asked for is met
-abbrev pub meets : {A : Type 0} → Option A → (A → Bool) → Bool
-meets None test = true
-meets (Some a) test = test a
+-- the value is asked for, and meets the test
+abbrev pub is_met : {A : Type 0} → (A → Bool) → Option A → Bool
+is_met test None = false
+is_met test (Some a) = test a
+
+-- Of the values that are asked for one meets the test, or none is asked for.
+abbrev pub meets : {A : Type 0} → List (Option A) → (A → Bool) → Bool
+meets asked test = not (list_any is_some asked) || list_any (is_met test) asked
 
 -- It comes from the address or goes to it.
 abbrev pub has_host : Host → Option Addresses → Bool
@@ -36,15 +40,15 @@ has_wrong_checksum word p =
 -- what is asked of the headers
 abbrev pub passes_headers : Filter → Part → Option Addresses → Bool
 passes_headers f p addresses =
-    meets f.port (λ port. has_port port p) && meets f.tag (λ tag. has_tag tag p)
-    && meets f.host (λ host. has_host host addresses)
+    meets f.ports (λ port. has_port port p) && meets f.tags (λ tag. has_tag tag p)
+    && meets f.hosts (λ host. has_host host addresses)
 
 -- what is asked of the chunks
 abbrev pub passes_chunks : Filter → List Item → Bool
 passes_chunks f chunks =
-    meets f.chunk (λ typ. list_any (is_of_type typ) chunks)
-    && meets f.stream (λ stream. list_any (is_on_stream stream) chunks)
-    && meets f.ppid (λ ppid. list_any (has_ppid ppid) chunks)
+    meets f.chunks (λ typ. list_any (is_of_type typ) chunks)
+    && meets f.streams (λ stream. list_any (is_on_stream stream) chunks)
+    && meets f.ppids (λ ppid. list_any (has_ppid ppid) chunks)
 
 -- the packet of this number, its checksum word, and its chunks that are looked at
 abbrev pub passes : Filter → ℕ → Packet → ℕ → List Item → Bool

@@ -6,7 +6,7 @@ use crate::auth_key::auth_key_of;
 use crate::failure::Failure;
 use crate::name::Name;
 use crate::options::{FormatOption, Options, OutputForm, TimeOption};
-use dump_analysis::filter::Host;
+use dump_analysis::filter::{Host, VALUES};
 use dump_text::registry::chunk_name;
 use std::alloc::Global;
 use std::net::IpAddr;
@@ -43,7 +43,9 @@ What is printed:
   --check          the rules of the RFCs that accepted packets break
   --summary        counts alone
 
-Which packets are printed (all are counted); all that is asked for holds:
+Which packets are printed (all are counted): those for which each option holds.
+Of an option with several values, separated by commas or each with the option,
+one has to; a NAME may hold commas.
   --port PORT      of either end
   --tag TAG        with this verification tag, as 0x0da73798 or a number
   --host ADDRESS   to or from this IP address
@@ -218,61 +220,75 @@ impl Options {
         Ok(())
     }
 
-    /// Takes an option of the filter with its value.
-    fn take_filter(&mut self, name: &str, value: &str) -> Result<(), Failure> {
+    /// Takes an option of the filter with its values, which commas separate. A name may hold commas.
+    fn take_filter(&mut self, name: &str, values: &str) -> Result<(), Failure> {
         match name {
-            "--port" => {
-                let usage = "--port takes a number up to 65535";
-                set(
-                    &mut self.filter.port,
-                    number_of(value, 0, 65_535, usage)? as u16,
-                )?;
-            }
-            "--tag" => {
-                let usage = "--tag takes a number of four bytes, as 0x0da73798";
-                set(
-                    &mut self.filter.tag,
-                    number_of(value, 0, LARGEST, usage)? as u32,
-                )?;
-            }
-            "--stream" => {
-                let usage = "--stream takes a number up to 65535";
-                set(
-                    &mut self.filter.stream,
-                    number_of(value, 0, 65_535, usage)? as u16,
-                )?;
-            }
-            "--ppid" => {
-                let usage = "--ppid takes a number of four bytes";
-                set(
-                    &mut self.filter.ppid,
-                    number_of(value, 0, LARGEST, usage)? as u32,
-                )?;
-            }
             "--from" => {
                 let usage = "--from takes a packet's number, from 1";
-                self.filter.first = number_of(value, 1, u64::MAX, usage)?;
+                self.filter.first = number_of(values, 1, u64::MAX, usage)?;
             }
             "--to" => {
                 let usage = "--to takes a packet's number, from 1";
-                self.filter.last = number_of(value, 1, u64::MAX, usage)?;
+                self.filter.last = number_of(values, 1, u64::MAX, usage)?;
             }
-            "--transport" => set(&mut self.transport, name_of(value)?)?,
-            "--host" => set(&mut self.filter.host, host_of(value)?)?,
-            "--chunk" => set(&mut self.filter.chunk, type_of(value)?)?,
-            _ => return Err(Failure::Usage("unknown option (try --help)")),
+            "--transport" => add(&mut self.transports, name_of(values)?)?,
+            _ => {
+                for value in values.split(",") {
+                    self.take_value_of_filter(name, value)?;
+                }
+            }
         }
         Ok(())
     }
+
+    /// Takes a value of an option of the filter.
+    fn take_value_of_filter(&mut self, name: &str, value: &str) -> Result<(), Failure> {
+        let filter = &mut self.filter;
+        match name {
+            "--port" => {
+                let usage = "--port takes a number up to 65535";
+                add(
+                    &mut filter.ports,
+                    number_of(value, 0, 65_535, usage)? as u16,
+                )
+            }
+            "--tag" => {
+                let usage = "--tag takes a number of four bytes, as 0x0da73798";
+                add(
+                    &mut filter.tags,
+                    number_of(value, 0, LARGEST, usage)? as u32,
+                )
+            }
+            "--stream" => {
+                let usage = "--stream takes a number up to 65535";
+                add(
+                    &mut filter.streams,
+                    number_of(value, 0, 65_535, usage)? as u16,
+                )
+            }
+            "--ppid" => {
+                let usage = "--ppid takes a number of four bytes";
+                add(
+                    &mut filter.ppids,
+                    number_of(value, 0, LARGEST, usage)? as u32,
+                )
+            }
+            "--host" => add(&mut filter.hosts, host_of(value)?),
+            "--chunk" => add(&mut filter.chunks, type_of(value)?),
+            _ => Err(Failure::Usage("unknown option (try --help)")),
+        }
+    }
 }
 
-/// Asks for a value, if none was asked for.
-fn set<T: Copy>(wanted: &mut Option<T>, value: T) -> Result<(), Failure> {
-    if wanted.is_some() {
-        return Err(Failure::Usage("an option of a filter is given once"));
+/// Asks for a value beside those that are asked for, if there is room.
+fn add<T: Copy>(asked: &mut [Option<T>; VALUES], value: T) -> Result<(), Failure> {
+    for i in 0..VALUES {
+        if asked[i].is_none() {
+            asked[i] = Some(value);
+            return Ok(());
+        }
     }
-    *wanted = Some(value);
-    Ok(())
+    Err(Failure::Usage("an option of a filter takes up to 16 values"))
 }
 
 /// The largest number of four bytes.

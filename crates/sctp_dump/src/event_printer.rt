@@ -371,8 +371,9 @@ fn passes(
     word: u32,
     fault: Option<&FirstFault>,
 ) -> bool {
-    if let Some(name) = &options.transport
-        && !name.is(log_of(&seen.time).1)
+    let (_, transport) = log_of(&seen.time);
+    if !options.transports.iter().all(|name| name.is_none())
+        && !options.transports.iter().any(|name| name.is_some_and(|name| name.is(transport)))
     {
         return false;
     }

@@ -6,7 +6,7 @@ ghost use Rattle.sctp_dump.specs.Counts.{policy_of};
 use crate::name::Name;
 use dcsctp_wire::packet::sctp_packet::ChecksumPolicy;
 use dump_analysis::PairKey;
-use dump_analysis::filter::Filter;
+use dump_analysis::filter::{Filter, VALUES};
 use dump_capture::frame::UDP_PORT;
 
 /// The form of an input.
@@ -79,8 +79,8 @@ pub struct Options {
     pub auth_key: Option<PairKey>,
     /// Which packets are printed.
     pub filter: Filter,
-    /// The name of the transport, in a log, whose packets are printed.
-    pub transport: Option<Name>,
+    /// The names of the transports, in a log, whose packets are printed.
+    pub transports: [Option<Name>; VALUES],
     /// The filter was asked for: what has no packet isn't printed.
     pub is_filtered: bool,
     /// The UDP port that carries SCTP.
@@ -106,7 +106,7 @@ impl Options {
         keep: 10_000,
         auth_key: None,
         filter: Filter::ALL,
-        transport: None,
+        transports: [None; VALUES],
         is_filtered: false,
         udp_port: UDP_PORT,
         form: FormatOption::Detected,
