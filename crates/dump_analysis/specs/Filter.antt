@@ -1,5 +1,5 @@
 -- The packets that a filter passes.
-use Rattle.std.specs.Prelude.{◌&&◌, ◌||◌, not, Bool, true, false, ℕ, nat_le, Option, Some, None, List, length, bytes_eq, is_some}
+use Rattle.std.specs.Prelude.{◌&&◌, ◌||◌, not, Bool, true, false, ℕ, nat_le, Option, Some, None, List, length, bytes_eq, is_some, if◌then◌else◌}
 use Rattle.std.specs.List.{list_any}
 use Rattle.dump_capture.specs.Frame.{Packet}
 use Rattle.dump_capture.specs.declared.frame.Addresses.{Addresses}
@@ -50,8 +50,15 @@ passes_chunks f chunks =
     && meets f.streams (λ stream. list_any (is_on_stream stream) chunks)
     && meets f.ppids (λ ppid. list_any (has_ppid ppid) chunks)
 
--- the packet of this number, its checksum word, and its chunks that are looked at
-abbrev pub passes : Filter → ℕ → Packet → ℕ → List Item → Bool
-passes f number p word chunks =
-    nat_le f.first number && nat_le number f.last && passes_headers f (part_in p) p.addresses
-    && passes_chunks f chunks && (not f.wrong || has_wrong_checksum word (part_in p))
+-- all that is asked for, of a packet with this checksum word, and its chunks that are looked at
+abbrev pub has_all : Filter → Packet → ℕ → List Item → Bool
+has_all f p word chunks =
+    passes_headers f (part_in p) p.addresses && passes_chunks f chunks
+    && (not f.wrong || has_wrong_checksum word (part_in p))
+
+-- The packet of this number has all, and has what is asked for elsewhere; or doesn't, if that is
+-- wanted.
+abbrev pub passes : Filter → ℕ → Bool → Packet → ℕ → List Item → Bool
+passes f number others p word chunks =
+    nat_le f.first number && nat_le number f.last
+    && (if f.inverts then not (others && has_all f p word chunks) else others && has_all f p word chunks)

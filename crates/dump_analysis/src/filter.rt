@@ -1,11 +1,11 @@
 //! Filters: which packets are asked for.
 
-ghost use Rattle.std.specs.Prelude.{◌≡◌, ◌&&◌, ◌||◌, not, nat_le, length, List, is_some};
+ghost use Rattle.std.specs.Prelude.{◌≡◌, ◌&&◌, ◌||◌, not, nat_le, length, List, is_some, if◌then◌else◌};
 ghost use Rattle.std.specs.List.{list_any};
 ghost use Rattle.dump_capture.specs.Found.{packet_of};
 ghost use Rattle.dcsctp_borrowed.specs.Part.{Item as AnItem, part_of};
 ghost use Rattle.dump_analysis.specs.Seen.{AreSeen, chunks_seen};
-ghost use Rattle.dump_analysis.specs.Filter.{part_in, meets, passes, passes_headers, passes_chunks, has_host, has_wrong_checksum};
+ghost use Rattle.dump_analysis.specs.Filter.{part_in, meets, passes, has_all, passes_headers, passes_chunks, has_host, has_wrong_checksum};
 ghost use Rattle.dcsctp_receive.specs.Chunks.{is_of_type};
 ghost use Rattle.dcsctp_receive.specs.Fields.{has_port, has_tag, is_on_stream, has_ppid};
 
@@ -44,6 +44,8 @@ pub struct Filter {
     pub ppids: [Option<u32>; VALUES],
     /// Whether its checksum field is neither what is expected nor 0, and all of it was captured.
     pub wrong: bool,
+    /// Whether the packets are wanted that don't have all this.
+    pub inverts: bool,
     /// The least number of a packet that passes.
     pub first: u64,
     /// The greatest number of a packet that passes.
@@ -60,12 +62,14 @@ impl Filter {
         streams: [None; VALUES],
         ppids: [None; VALUES],
         wrong: false,
+        inverts: false,
         first: 0,
         last: u64::MAX,
     };
 
-    /// Returns whether the packet of this number has all that is asked for. `word` is what its
-    /// checksum field has to be, and `fault` the offset of the first fault of a refused packet: of
+    /// Returns whether the packet of this number has all that is asked for, or doesn't if that is
+    /// wanted. Its number has to be within the bounds in both cases. `others` says whether it has
+    /// what is asked for elsewhere, `word` is what its checksum field has to be, and `fault` the offset of the first fault of a refused packet: of
     /// this the chunks are looked at that begin there or before. The last may be the one at fault,
     /// of which all is looked at that can be read, even if its length is impossible. Of other
     /// packets, also of those that were cut off, all chunks are looked at whose headers can be
@@ -73,26 +77,55 @@ impl Filter {
     pub fn passes(
         &self,
         number: u64,
+        others: bool,
         found: &FoundPacket<'_>,
         word: u32,
         fault: Option<usize>,
     ) -> bool
         ensures { let p = packet_of found.now in
             (chunks : List AnItem) × AreSeen fault (part_in p) chunks
-            × (result ≡ passes self.now number p word chunks) }
+            × (result ≡ passes self.now number others p word chunks) }
     {
-        self.is_met(number, found, word, fault)
+        self.is_passed(number, others, found, word, fault)
     }
 
-    /// Returns whether the packet of this number has all that is asked for.
-    fn is_met(&self, number: u64, found: &FoundPacket<'_>, word: u32, fault: Option<usize>) -> bool
+    /// Returns whether it asks for nothing but for numbers.
+    pub fn is_free(&self) -> bool {
+        asks_nothing(&self.ports)
+            && asks_nothing(&self.tags)
+            && asks_nothing(&self.hosts)
+            && asks_nothing(&self.chunks)
+            && asks_nothing(&self.streams)
+            && asks_nothing(&self.ppids)
+            && !self.wrong
+    }
+
+    /// Returns the same, of the chunks that are looked at as a function.
+    fn is_passed(
+        &self,
+        number: u64,
+        others: bool,
+        found: &FoundPacket<'_>,
+        word: u32,
+        fault: Option<usize>,
+    ) -> bool
         ensures { let p = packet_of found.now in
-            result ≡ passes self.now number p word (chunks_seen fault (part_in p)) }
+            result ≡ passes self.now number others p word (chunks_seen fault (part_in p)) }
+    {
+        if number < self.first || self.last < number {
+            return false;
+        }
+        let is_met = others && self.is_met(found, word, fault);
+        if self.inverts { !is_met } else { is_met }
+    }
+
+    /// Returns whether the packet has all that is asked for, whatever its number.
+    fn is_met(&self, found: &FoundPacket<'_>, word: u32, fault: Option<usize>) -> bool
+        ensures { let p = packet_of found.now in
+            result ≡ has_all self.now p word (chunks_seen fault (part_in p)) }
     {
         let packet = Part::packet(found.packet, found.length);
-        self.first <= number
-            && number <= self.last
-            && self.is_met_by_headers(packet, found.addresses)
+        self.is_met_by_headers(packet, found.addresses)
             && self.is_met_by_chunks(packet, fault)
             && (!self.wrong || has_wrong_checksum(packet, word))
     }
@@ -184,7 +217,7 @@ impl Filter {
 }
 
 /// Returns whether no value is asked for.
-fn asks_nothing<T>(asked: &[Option<T>; VALUES]) -> bool
+pub fn asks_nothing<T>(asked: &[Option<T>; VALUES]) -> bool
     ensures { result ≡ not (list_any is_some asked.now) }
 {
     !asked.iter().any(|value| value.is_some())

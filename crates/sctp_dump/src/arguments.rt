@@ -54,6 +54,7 @@ one has to; a NAME may hold commas.
   --ppid NUMBER    with user data of this payload protocol
   --transport NAME of this transport of a log, as DcSctpTransport0
   --wrong          whose checksum is wrong
+  --not            which the options above leave out
   --from NUMBER    from this packet on
   --to NUMBER      up to this packet
   --faults         refused
@@ -177,6 +178,10 @@ impl<'a> Request<'a> {
             "--faults" => options.faults = true,
             "--wrong" => {
                 options.filter.wrong = true;
+                options.is_filtered = true;
+            }
+            "--not" => {
+                options.filter.inverts = true;
                 options.is_filtered = true;
             }
             "--strict" => options.strict = true,

@@ -371,15 +371,15 @@ fn passes(
     word: u32,
     fault: Option<&FirstFault>,
 ) -> bool {
-    let (_, transport) = log_of(&seen.time);
-    if !options.transports.iter().all(|name| name.is_none())
-        && !options.transports.iter().any(|name| name.is_some_and(|name| name.is(transport)))
-    {
-        return false;
+    if !options.is_filtered {
+        return true;
     }
+    let (_, transport) = log_of(&seen.time);
     let offset = match fault {
         Some(fault) => Some(fault.offset),
         None => None,
     };
-    options.filter.passes(seen.number, found, word, offset)
+    options
+        .filter
+        .passes(seen.number, options.has_transport(transport), found, word, offset)
 }

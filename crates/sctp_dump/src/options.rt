@@ -6,7 +6,7 @@ ghost use Rattle.sctp_dump.specs.Counts.{policy_of};
 use crate::name::Name;
 use dcsctp_wire::packet::sctp_packet::ChecksumPolicy;
 use dump_analysis::PairKey;
-use dump_analysis::filter::{Filter, VALUES};
+use dump_analysis::filter::{Filter, VALUES, asks_nothing};
 use dump_capture::frame::UDP_PORT;
 
 /// The form of an input.
@@ -134,6 +134,9 @@ impl Options {
         if self.filter.first > self.filter.last {
             return Some("no packet is from --from on and up to --to");
         }
+        if self.filter.inverts && self.filter.is_free() && asks_nothing(&self.transports) {
+            return Some("--not needs an option that says which packets it leaves out");
+        }
         if self.keep != Options::DEFAULT.keep && !self.tracks_associations() {
             return Some("--keep needs --associations, --messages, --check or --auth-key");
         }
@@ -169,5 +172,14 @@ impl Options {
     /// Returns whether what has no packet is printed.
     pub fn prints_skipped(&self) -> bool {
         self.prints_packets() && !self.faults && !self.is_filtered
+    }
+
+    /// Returns whether a transport is one of those that are asked for, if any are.
+    pub fn has_transport(&self, transport: &[u8]) -> bool {
+        asks_nothing(&self.transports)
+            || self.transports.iter().any(|asked| match asked {
+                Some(name) => name.is(transport),
+                None => false,
+            })
     }
 }
