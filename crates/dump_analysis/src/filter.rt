@@ -5,7 +5,7 @@ ghost use Rattle.std.specs.List.{list_any};
 ghost use Rattle.dump_capture.specs.Found.{packet_of};
 ghost use Rattle.dcsctp_borrowed.specs.Part.{Item as AnItem, part_of};
 ghost use Rattle.dump_analysis.specs.Seen.{AreSeen, chunks_seen};
-ghost use Rattle.dump_analysis.specs.Filter.{part_in, meets, passes, has_all, passes_headers, passes_chunks, has_host, has_wrong_checksum};
+ghost use Rattle.dump_analysis.specs.Filter.{part_in, meets, passes, has_all, is_before, is_after, passes_headers, passes_chunks, has_host, has_wrong_checksum};
 ghost use Rattle.dcsctp_receive.specs.Chunks.{is_of_type};
 ghost use Rattle.dcsctp_receive.specs.Fields.{has_port, has_tag, is_on_stream, has_ppid};
 
@@ -22,6 +22,31 @@ pub enum Host {
     V4([u8; 4]),
     /// Of IPv6 (RFC 8200).
     V6([u8; 16]),
+}
+
+/// From or up to which packets are asked for.
+#[derive(Clone, Copy, Debug, PartialEq, Eq)]
+pub enum Bound {
+    /// The number of a packet.
+    Number(u64),
+    /// A time: nanoseconds since 1970-01-01 00:00:00 UTC.
+    Time(u64),
+    /// Nanoseconds since the first packet whose time is known.
+    Since(u64),
+}
+
+/// When a packet was seen.
+#[derive(Clone, Copy, Debug, PartialEq, Eq)]
+pub struct Arrival {
+    /// Its number.
+    pub number: u64,
+    /// Its time: nanoseconds since 1970-01-01 00:00:00 UTC, if its date is known, or else since
+    /// some midnight.
+    pub time: Option<u64>,
+    /// The time of the first packet whose time is known, on the same clock.
+    pub first: Option<u64>,
+    /// Whether its date is known, with the year.
+    pub has_date: bool,
 }
 
 /// How many values may be asked for of each kind.
@@ -46,10 +71,10 @@ pub struct Filter {
     pub wrong: bool,
     /// Whether the packets are wanted that don't have all this.
     pub inverts: bool,
-    /// The least number of a packet that passes.
-    pub first: u64,
-    /// The greatest number of a packet that passes.
-    pub last: u64,
+    /// The bound from which on packets pass.
+    pub from: Bound,
+    /// The bound up to which packets pass.
+    pub to: Bound,
 }
 
 impl Filter {
@@ -63,12 +88,12 @@ impl Filter {
         ppids: [None; VALUES],
         wrong: false,
         inverts: false,
-        first: 0,
-        last: u64::MAX,
+        from: Bound::Number(0),
+        to: Bound::Number(u64::MAX),
     };
 
-    /// Returns whether the packet of this number has all that is asked for, or doesn't if that is
-    /// wanted. Its number has to be within the bounds in both cases. `others` says whether it has
+    /// Returns whether the packet that was seen then has all that is asked for, or doesn't if that
+    /// is wanted. It has to be within the bounds in both cases. `others` says whether it has
     /// what is asked for elsewhere, `word` is what its checksum field has to be, and `fault` the offset of the first fault of a refused packet: of
     /// this the chunks are looked at that begin there or before. The last may be the one at fault,
     /// of which all is looked at that can be read, even if its length is impossible. Of other
@@ -76,7 +101,7 @@ impl Filter {
     /// read.
     pub fn passes(
         &self,
-        number: u64,
+        arrival: Arrival,
         others: bool,
         found: &FoundPacket<'_>,
         word: u32,
@@ -84,12 +109,12 @@ impl Filter {
     ) -> bool
         ensures { let p = packet_of found.now in
             (chunks : List AnItem) × AreSeen fault (part_in p) chunks
-            × (result ≡ passes self.now number others p word chunks) }
+            × (result ≡ passes self.now arrival others p word chunks) }
     {
-        self.is_passed(number, others, found, word, fault)
+        self.is_passed(arrival, others, found, word, fault)
     }
 
-    /// Returns whether it asks for nothing but for numbers.
+    /// Returns whether it asks for nothing within its bounds.
     pub fn is_free(&self) -> bool {
         asks_nothing(&self.ports)
             && asks_nothing(&self.tags)
@@ -100,26 +125,36 @@ impl Filter {
             && !self.wrong
     }
 
+    /// Returns whether its bounds leave no packet, since the first one is after the last one.
+    pub fn is_empty(&self) -> bool {
+        match (self.from, self.to) {
+            (Bound::Number(from), Bound::Number(to)) => from > to,
+            (Bound::Time(from), Bound::Time(to)) => from > to,
+            (Bound::Since(from), Bound::Since(to)) => from > to,
+            _ => false,
+        }
+    }
+
     /// Returns the same, of the chunks that are looked at as a function.
     fn is_passed(
         &self,
-        number: u64,
+        arrival: Arrival,
         others: bool,
         found: &FoundPacket<'_>,
         word: u32,
         fault: Option<usize>,
     ) -> bool
         ensures { let p = packet_of found.now in
-            result ≡ passes self.now number others p word (chunks_seen fault (part_in p)) }
+            result ≡ passes self.now arrival others p word (chunks_seen fault (part_in p)) }
     {
-        if number < self.first || self.last < number {
+        if !(self.from.is_before(arrival) && self.to.is_after(arrival)) {
             return false;
         }
         let is_met = others && self.is_met(found, word, fault);
         if self.inverts { !is_met } else { is_met }
     }
 
-    /// Returns whether the packet has all that is asked for, whatever its number.
+    /// Returns whether the packet has all that is asked for, whenever it was seen.
     fn is_met(&self, found: &FoundPacket<'_>, word: u32, fault: Option<usize>) -> bool
         ensures { let p = packet_of found.now in
             result ≡ has_all self.now p word (chunks_seen fault (part_in p)) }
@@ -221,6 +256,36 @@ pub fn asks_nothing<T>(asked: &[Option<T>; VALUES]) -> bool
     ensures { result ≡ not (list_any is_some asked.now) }
 {
     !asked.iter().any(|value| value.is_some())
+}
+
+impl Bound {
+    /// Returns whether a packet is the one of the bound, or after it.
+    fn is_before(self, arrival: Arrival) -> bool
+        ensures { result ≡ is_before self arrival }
+    {
+        match (self, arrival.time, arrival.first) {
+            (Bound::Number(number), _, _) => number <= arrival.number,
+            (Bound::Time(bound), Some(time), _) => arrival.has_date && bound <= time,
+            (Bound::Since(span), Some(time), Some(first)) => {
+                first as u128 + span as u128 <= time as u128
+            }
+            _ => false,
+        }
+    }
+
+    /// Returns whether a packet is the one of the bound, or before it.
+    fn is_after(self, arrival: Arrival) -> bool
+        ensures { result ≡ is_after self arrival }
+    {
+        match (self, arrival.time, arrival.first) {
+            (Bound::Number(number), _, _) => arrival.number <= number,
+            (Bound::Time(bound), Some(time), _) => arrival.has_date && time <= bound,
+            (Bound::Since(span), Some(time), Some(first)) => {
+                time as u128 <= first as u128 + span as u128
+            }
+            _ => false,
+        }
+    }
 }
 
 impl Host {

@@ -80,7 +80,7 @@ pub use crate::report::AssociationReport;
 pub use crate::requests::Requests;
 pub use crate::round_trips::RoundTrips;
 pub use crate::stale_cookies::StaleCookies;
-pub use crate::time::{SecondsReport, TimeForm, TimeReport, TimeStyle};
+pub use crate::time::{SecondsReport, TimeForm, TimeReport, TimeStyle, days_before};
 pub use crate::transport::{Transport, TransportName};
 pub use crate::tsns::{Step, Tsns};
 pub use crate::unanswered::Unanswered;

@@ -3,10 +3,11 @@
 ghost use Rattle.std.specs.Prelude.{◌≤◌, IfOk};
 
 use crate::auth_key::auth_key_of;
+use crate::bound::time_bound_of;
 use crate::failure::Failure;
 use crate::name::Name;
 use crate::options::{FormatOption, Options, OutputForm, TimeOption};
-use dump_analysis::filter::{Host, VALUES};
+use dump_analysis::filter::{Bound, Host, VALUES};
 use dump_text::registry::chunk_name;
 use std::alloc::Global;
 use std::net::IpAddr;
@@ -55,8 +56,9 @@ one has to; a NAME may hold commas.
   --transport NAME of this transport of a log, as DcSctpTransport0
   --wrong          whose checksum is wrong
   --not            which the options above leave out
-  --from NUMBER    from this packet on
-  --to NUMBER      up to this packet
+  --from BOUND     from this packet on: its number, a time in UTC as
+                   2026-01-02T03:04:05.6Z, or seconds after the first as +1.5
+  --to BOUND       up to this packet
   --faults         refused
 
 How they are read:
@@ -228,14 +230,8 @@ impl Options {
     /// Takes an option of the filter with its values, which commas separate. A name may hold commas.
     fn take_filter(&mut self, name: &str, values: &str) -> Result<(), Failure> {
         match name {
-            "--from" => {
-                let usage = "--from takes a packet's number, from 1";
-                self.filter.first = number_of(values, 1, u64::MAX, usage)?;
-            }
-            "--to" => {
-                let usage = "--to takes a packet's number, from 1";
-                self.filter.last = number_of(values, 1, u64::MAX, usage)?;
-            }
+            "--from" => self.filter.from = bound_of(values, FROM_USAGE)?,
+            "--to" => self.filter.to = bound_of(values, TO_USAGE)?,
             "--transport" => add(&mut self.transports, name_of(values)?)?,
             _ => {
                 for value in values.split(",") {
@@ -296,6 +292,13 @@ fn add<T: Copy>(asked: &mut [Option<T>; VALUES], value: T) -> Result<(), Failure
     Err(Failure::Usage("an option of a filter takes up to 16 values"))
 }
 
+/// What is said of bounds that can't be read.
+const FROM_USAGE: &str =
+    "--from takes a packet's number, a time as 2026-01-02T03:04:05.6Z, or seconds as +1.5";
+
+const TO_USAGE: &str =
+    "--to takes a packet's number, a time as 2026-01-02T03:04:05.6Z, or seconds as +1.5";
+
 /// The largest number of four bytes.
 const LARGEST: u64 = 0xffff_ffff;
 
@@ -310,6 +313,15 @@ fn number_of(text: &str, least: u64, most: u64, usage: &'static str) -> Result<u
     match parsed {
         Ok(number) if least <= number && number <= most => Ok(number),
         _ => Err(Failure::Usage(usage)),
+    }
+}
+
+/// Returns the bound of a packet's number or a time.
+fn bound_of(text: &str, usage: &'static str) -> Result<Bound, Failure> {
+    match time_bound_of(text) {
+        Some(bound) => Ok(bound),
+        None if text.starts_with('+') => Err(Failure::Usage(usage)),
+        None => Ok(Bound::Number(number_of(text, 1, u64::MAX, usage)?)),
     }
 }
 

@@ -21,6 +21,7 @@ use crate::tracker::Tracker;
 use crate::when::Clock;
 use dcsctp_borrowed::checksum::Checksum;
 use dcsctp_wire::packet::sctp_packet::FirstFault;
+use dump_analysis::filter::Arrival;
 use dump_analysis::rule::RULES;
 use dump_analysis::warnings::Warnings;
 use dump_analysis::{Authentication, AuthenticationCounts, Noted, SeenPacket};
@@ -151,7 +152,8 @@ impl<W: Write> EventPrinter<W> {
         let (word, fault) = (judged.word, judged.fault.as_ref());
         let nanoseconds = self.clock.read(&seen.time);
         let (direction, transport) = log_of(&seen.time);
-        let passes = passes(&self.options, seen, found, word, fault);
+        let arrival = self.clock.arrival_of(seen, nanoseconds);
+        let passes = passes(&self.options, arrival, transport, found, word, fault);
         let packet = SeenPacket {
             number: self.files.number_of(seen.number),
             nanoseconds,
@@ -366,7 +368,8 @@ fn is_judged(options: &Options, verdict: Verdict) -> bool
 /// Returns whether a packet is asked for.
 fn passes(
     options: &Options,
-    seen: &Seen<'_>,
+    arrival: Arrival,
+    transport: &[u8],
     found: &FoundPacket<'_>,
     word: u32,
     fault: Option<&FirstFault>,
@@ -374,12 +377,10 @@ fn passes(
     if !options.is_filtered {
         return true;
     }
-    let (_, transport) = log_of(&seen.time);
     let offset = match fault {
         Some(fault) => Some(fault.offset),
         None => None,
     };
-    options
-        .filter
-        .passes(seen.number, options.has_transport(transport), found, word, offset)
+    let others = options.has_transport(transport);
+    options.filter.passes(arrival, others, found, word, offset)
 }

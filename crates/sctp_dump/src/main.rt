@@ -6,6 +6,7 @@
 
 mod arguments;
 mod auth_key;
+mod bound;
 mod counts;
 mod engine;
 mod event_printer;

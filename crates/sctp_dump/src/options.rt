@@ -131,7 +131,7 @@ impl Options {
         if self.payload && !(is_blocks && self.prints_packets()) {
             return Some("--payload needs blocks of packets, which aren't printed");
         }
-        if self.filter.first > self.filter.last {
+        if self.filter.is_empty() {
             return Some("no packet is from --from on and up to --to");
         }
         if self.filter.inverts && self.filter.is_free() && asks_nothing(&self.transports) {
