@@ -121,7 +121,7 @@ def sent_again(seen, places):
     for chunk in seen["chunks"]:
         if chunk["chunk"] in (0, 64) and "tsn" in chunk:
             sending = [seen.get(key) for key in ("tag", "source", "destination", "direction")] + [chunk["tsn"]]
-            place = (seen["tag"] + chunk["tsn"]) % 65536
+            place = (seen["tag"] + chunk["tsn"] + 32768 * (seen.get("direction") == "incoming")) % 65536
             if place not in places or places[place][0] != sending:
                 places[place] = sending, seen["packet"], seen.get("file")
                 continue

@@ -28,9 +28,14 @@ struct Sending {
 }
 
 impl Sending {
-    /// Returns its place: one end's TSNs that follow one another have places that do.
+    /// Returns its place: one end's TSNs that follow one another have places that do. What came has
+    /// another place than what was sent.
     fn place(self) -> usize {
-        self.tag.wrapping_add(self.tsn) as usize % PLACES
+        let start = match self.direction {
+            Some(Direction::Incoming) => self.tag.wrapping_add(PLACES as u32 / 2),
+            Some(Direction::Outgoing) | None => self.tag,
+        };
+        start.wrapping_add(self.tsn) as usize % PLACES
     }
 }
 
