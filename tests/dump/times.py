@@ -3,8 +3,8 @@
 """usage: tests/dump/times.py PROGRAM
 
 Writes pcapng captures, one with a packet on each day until 2554, when 2^64 nanoseconds end, and one with packets of each unit of
-time, with and without an offset, and compares each form of sctp_dump's times with Python's datetime, in integers. Prints what
-differs; status 0 if nothing does."""
+time, with and without an offset, and compares each form of sctp_dump's times with Python's datetime, in integers, and which packets
+of some days are from a time on and up to it. Prints what differs; status 0 if nothing does."""
 import datetime
 import itertools
 import json
@@ -103,6 +103,16 @@ def differences(program, packets, forms):
                 yield f"{form} of {packet}: {line} in a line, {value} in JSON, and not {wanted}"
 
 
+def bounds(program, days, file):
+    """Days whose packet is not the only one that is from its time on and up to it, as a date or as seconds."""
+    for day in days:
+        seen, first = Seen(*day), Seen(0, 0, 0)
+        for time in (seen.date("%Y-%m-%dT%H:%M:%S", ""), "+" + seen.since(first.nanoseconds)):
+            lines = printed(program, "iso", ["--brief", "--from", time, "--to", time], file)
+            if [line.split(" ")[1] for line in lines] != [seen.date("%Y-%m-%dT%H:%M:%S", "Z")]:
+                yield f"from {time} on and up to it: {lines[:3]}"
+
+
 def main():
     program = sys.argv[1]
     days = [(0, 0, 86400 * day + 7919 * day % 86400) for day in range(END // SECOND // 86400)]
@@ -111,6 +121,9 @@ def main():
              for offset in (0, 3600, -1700000001, 2 ** 35) for _ in range(8)]
     chance.shuffle(units)
     found = list(differences(program, days, ["iso"])) + list(differences(program, units, ["captured", "iso", "utc", "relative", "delta"]))
+    dates = ("1970-01-01", "1970-12-31", "1972-02-29", "2000-02-29", "2024-12-31", "2100-03-01")
+    some = [days[(datetime.date.fromisoformat(it) - datetime.date(1970, 1, 1)).days] for it in dates]
+    found += list(bounds(program, some + days[-1:], capture(days)))
     for text in found[:20]:
         print(f"times: {text}")
     print(f"times: {len(days)} days, {len(units)} times of units, {len(found)} wrong")

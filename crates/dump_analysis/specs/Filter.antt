@@ -1,5 +1,5 @@
 -- The packets that a filter passes.
-use Rattle.std.specs.Prelude.{◌&&◌, ◌||◌, not, Bool, true, false, ℕ, nat_le, Option, Some, None, List, length, bytes_eq}
+use Rattle.std.specs.Prelude.{◌+◌, ◌&&◌, ◌||◌, not, Bool, true, false, ℕ, nat_le, Option, Some, None, List, length, bytes_eq, is_some, if◌then◌else◌}
 use Rattle.std.specs.List.{list_any}
 use Rattle.dump_capture.specs.Frame.{Packet}
 use Rattle.dump_capture.specs.declared.frame.Addresses.{Addresses}
@@ -7,16 +7,23 @@ use Rattle.dump_capture.specs.declared.frame.Addresses.TheVariants as addresses
 use Rattle.dcsctp_borrowed.specs.Part.{Part, Item}
 use Rattle.dcsctp_receive.specs.{Chunks.{is_of_type}, Fields.{has_port, has_tag, has_checksum, is_whole, is_on_stream, has_ppid}}
 use Rattle.dump_analysis.specs.declared.filter.Filter.{Filter}
+use Rattle.dump_analysis.specs.declared.filter.Arrival.{Arrival}
+use Rattle.dump_analysis.specs.declared.filter.Bound.{Bound}
+use Rattle.dump_analysis.specs.declared.filter.Bound.TheVariants as bound
 use Rattle.dump_analysis.specs.declared.filter.Host.{Host}
 use Rattle.dump_analysis.specs.declared.filter.Host.TheVariants as host
 
 abbrev pub part_in : Packet → Part
 part_in p = record { bytes = p.bytes; size = p.length }
 
--- what isn't asked for is met
-abbrev pub meets : {A : Type 0} → Option A → (A → Bool) → Bool
-meets None test = true
-meets (Some a) test = test a
+-- there is a value, and it meets the test
+abbrev pub is_met : {A : Type 0} → (A → Bool) → Option A → Bool
+is_met test None = false
+is_met test (Some a) = test a
+
+-- Of the values that are asked for one meets the test, or none is asked for.
+abbrev pub meets : {A : Type 0} → List (Option A) → (A → Bool) → Bool
+meets asked test = not (list_any is_some asked) || list_any (is_met test) asked
 
 -- It comes from the address or goes to it.
 abbrev pub has_host : Host → Option Addresses → Bool
@@ -36,18 +43,39 @@ has_wrong_checksum word p =
 -- what is asked of the headers
 abbrev pub passes_headers : Filter → Part → Option Addresses → Bool
 passes_headers f p addresses =
-    meets f.port (λ port. has_port port p) && meets f.tag (λ tag. has_tag tag p)
-    && meets f.host (λ host. has_host host addresses)
+    meets f.ports (λ port. has_port port p) && meets f.tags (λ tag. has_tag tag p)
+    && meets f.hosts (λ host. has_host host addresses)
 
 -- what is asked of the chunks
 abbrev pub passes_chunks : Filter → List Item → Bool
 passes_chunks f chunks =
-    meets f.chunk (λ typ. list_any (is_of_type typ) chunks)
-    && meets f.stream (λ stream. list_any (is_on_stream stream) chunks)
-    && meets f.ppid (λ ppid. list_any (has_ppid ppid) chunks)
+    meets f.chunks (λ typ. list_any (is_of_type typ) chunks)
+    && meets f.streams (λ stream. list_any (is_on_stream stream) chunks)
+    && meets f.ppids (λ ppid. list_any (has_ppid ppid) chunks)
 
--- the packet of this number, its checksum word, and its chunks that are looked at
-abbrev pub passes : Filter → ℕ → Packet → ℕ → List Item → Bool
-passes f number p word chunks =
-    nat_le f.first number && nat_le number f.last && passes_headers f (part_in p) p.addresses
-    && passes_chunks f chunks && (not f.wrong || has_wrong_checksum word (part_in p))
+-- all that is asked for, of a packet with this checksum word, and its chunks that are looked at
+abbrev pub has_all : Filter → Packet → ℕ → List Item → Bool
+has_all f p word chunks =
+    passes_headers f (part_in p) p.addresses && passes_chunks f chunks
+    && (not f.wrong || has_wrong_checksum word (part_in p))
+
+-- The packet that was seen then is the one of the bound, or after it.
+abbrev pub is_before : Bound → Arrival → Bool
+is_before (bound.Number n) a = nat_le n a.number
+is_before (bound.Time t) a = is_met (λ time. a.has_date && nat_le t time) a.time
+is_before (bound.Since span) a =
+    is_met (λ time. is_met (λ first. nat_le (first + span) time) a.first) a.time
+
+-- It is the one of the bound, or before it.
+abbrev pub is_after : Bound → Arrival → Bool
+is_after (bound.Number n) a = nat_le a.number n
+is_after (bound.Time t) a = is_met (λ time. a.has_date && nat_le time t) a.time
+is_after (bound.Since span) a =
+    is_met (λ time. is_met (λ first. nat_le time (first + span)) a.first) a.time
+
+-- The packet that was seen then is within the bounds, and has all, and what is asked for elsewhere;
+-- or doesn't, if that is wanted.
+abbrev pub passes : Filter → Arrival → Bool → Packet → ℕ → List Item → Bool
+passes f a others p word chunks =
+    is_before f.from a && is_after f.to a
+    && (if f.inverts then not (others && has_all f p word chunks) else others && has_all f p word chunks)

@@ -1,10 +1,13 @@
 //! Filters: which packets are asked for.
 
-ghost use Rattle.std.specs.Prelude.{◌≡◌, ◌&&◌, ◌||◌, not, nat_le, length, List};
+ghost use Rattle.std.specs.Prelude.{◌≡◌, ◌&&◌, ◌||◌, not, nat_le, length, List, is_some, if◌then◌else◌};
+ghost use Rattle.std.specs.List.{list_any};
 ghost use Rattle.dump_capture.specs.Found.{packet_of};
 ghost use Rattle.dcsctp_borrowed.specs.Part.{Item as AnItem, part_of};
 ghost use Rattle.dump_analysis.specs.Seen.{AreSeen, chunks_seen};
-ghost use Rattle.dump_analysis.specs.Filter.{part_in, passes, passes_headers, passes_chunks, has_host, has_wrong_checksum};
+ghost use Rattle.dump_analysis.specs.Filter.{part_in, meets, passes, has_all, is_before, is_after, passes_headers, passes_chunks, has_host, has_wrong_checksum};
+ghost use Rattle.dcsctp_receive.specs.Chunks.{is_of_type};
+ghost use Rattle.dcsctp_receive.specs.Fields.{has_port, has_tag, is_on_stream, has_ppid};
 
 use crate::seen::some_seen;
 use dcsctp_borrowed::part::Part;
@@ -21,72 +24,143 @@ pub enum Host {
     V6([u8; 16]),
 }
 
-/// What a packet has to have, all of it.
+/// From or up to which packets are asked for.
+#[derive(Clone, Copy, Debug, PartialEq, Eq)]
+pub enum Bound {
+    /// The number of a packet.
+    Number(u64),
+    /// A time: nanoseconds since 1970-01-01 00:00:00 UTC.
+    Time(u64),
+    /// Nanoseconds since the first packet whose time is known.
+    Since(u64),
+}
+
+/// When a packet was seen.
+#[derive(Clone, Copy, Debug, PartialEq, Eq)]
+pub struct Arrival {
+    /// Its number.
+    pub number: u64,
+    /// Its time: nanoseconds since 1970-01-01 00:00:00 UTC, if its date is known, or else since
+    /// some midnight.
+    pub time: Option<u64>,
+    /// The time of the first packet whose time is known, on the same clock.
+    pub first: Option<u64>,
+    /// Whether its date is known, with the year.
+    pub has_date: bool,
+}
+
+/// How many values may be asked for of each kind.
+pub const VALUES: usize = 16;
+
+/// What a packet has to have: one of the values of each kind of which some are asked for.
 #[derive(Clone, Copy, Debug)]
 pub struct Filter {
     /// The source port or the destination port (RFC 9260 section 3.1).
-    pub port: Option<u16>,
+    pub ports: [Option<u16>; VALUES],
     /// The verification tag (RFC 9260 section 3.1).
-    pub tag: Option<u32>,
+    pub tags: [Option<u32>; VALUES],
     /// The source address or the destination address of the IP packet that carries it.
-    pub host: Option<Host>,
+    pub hosts: [Option<Host>; VALUES],
     /// The type of a chunk that is looked at (RFC 9260 section 3.2).
-    pub chunk: Option<u8>,
+    pub chunks: [Option<u8>; VALUES],
     /// The stream of a DATA (RFC 9260 section 3.3.1) or an I-DATA (RFC 8260 section 2.1).
-    pub stream: Option<u16>,
+    pub streams: [Option<u16>; VALUES],
     /// The payload protocol identifier of a DATA or of the first fragment of an I-DATA message.
-    pub ppid: Option<u32>,
+    pub ppids: [Option<u32>; VALUES],
     /// Whether its checksum field is neither what is expected nor 0, and all of it was captured.
     pub wrong: bool,
-    /// The least number of a packet that passes.
-    pub first: u64,
-    /// The greatest number of a packet that passes.
-    pub last: u64,
+    /// Whether the packets are wanted that don't have all this.
+    pub inverts: bool,
+    /// The bound from which on packets pass.
+    pub from: Bound,
+    /// The bound up to which packets pass.
+    pub to: Bound,
 }
 
 impl Filter {
     /// Passes all packets.
     pub const ALL: Filter = Filter {
-        port: None,
-        tag: None,
-        host: None,
-        chunk: None,
-        stream: None,
-        ppid: None,
+        ports: [None; VALUES],
+        tags: [None; VALUES],
+        hosts: [None; VALUES],
+        chunks: [None; VALUES],
+        streams: [None; VALUES],
+        ppids: [None; VALUES],
         wrong: false,
-        first: 0,
-        last: u64::MAX,
+        inverts: false,
+        from: Bound::Number(0),
+        to: Bound::Number(u64::MAX),
     };
 
-    /// Returns whether the packet of this number has all that is asked for. `word` is what its
-    /// checksum field has to be, and `fault` the offset of the first fault of a refused packet: of
+    /// Returns whether the packet that was seen then has all that is asked for, or doesn't if that
+    /// is wanted. It has to be within the bounds in both cases. `others` says whether it has
+    /// what is asked for elsewhere, `word` is what its checksum field has to be, and `fault` the offset of the first fault of a refused packet: of
     /// this the chunks are looked at that begin there or before. The last may be the one at fault,
     /// of which all is looked at that can be read, even if its length is impossible. Of other
     /// packets, also of those that were cut off, all chunks are looked at whose headers can be
     /// read.
     pub fn passes(
         &self,
-        number: u64,
+        arrival: Arrival,
+        others: bool,
         found: &FoundPacket<'_>,
         word: u32,
         fault: Option<usize>,
     ) -> bool
         ensures { let p = packet_of found.now in
             (chunks : List AnItem) × AreSeen fault (part_in p) chunks
-            × (result ≡ passes self.now number p word chunks) }
+            × (result ≡ passes self.now arrival others p word chunks) }
     {
-        self.is_met(number, found, word, fault)
+        self.is_passed(arrival, others, found, word, fault)
     }
 
-    /// Returns whether the packet of this number has all that is asked for.
-    fn is_met(&self, number: u64, found: &FoundPacket<'_>, word: u32, fault: Option<usize>) -> bool
+    /// Returns whether it asks for nothing within its bounds.
+    pub fn is_free(&self) -> bool {
+        asks_nothing(&self.ports)
+            && asks_nothing(&self.tags)
+            && asks_nothing(&self.hosts)
+            && asks_nothing(&self.chunks)
+            && asks_nothing(&self.streams)
+            && asks_nothing(&self.ppids)
+            && !self.wrong
+    }
+
+    /// Returns whether its bounds leave no packet, since the first one is after the last one.
+    pub fn is_empty(&self) -> bool {
+        match (self.from, self.to) {
+            (Bound::Number(from), Bound::Number(to)) => from > to,
+            (Bound::Time(from), Bound::Time(to)) => from > to,
+            (Bound::Since(from), Bound::Since(to)) => from > to,
+            _ => false,
+        }
+    }
+
+    /// Returns the same, of the chunks that are looked at as a function.
+    fn is_passed(
+        &self,
+        arrival: Arrival,
+        others: bool,
+        found: &FoundPacket<'_>,
+        word: u32,
+        fault: Option<usize>,
+    ) -> bool
         ensures { let p = packet_of found.now in
-            result ≡ passes self.now number p word (chunks_seen fault (part_in p)) }
+            result ≡ passes self.now arrival others p word (chunks_seen fault (part_in p)) }
+    {
+        if !(self.from.is_before(arrival) && self.to.is_after(arrival)) {
+            return false;
+        }
+        let is_met = others && self.is_met(found, word, fault);
+        if self.inverts { !is_met } else { is_met }
+    }
+
+    /// Returns whether the packet has all that is asked for, whenever it was seen.
+    fn is_met(&self, found: &FoundPacket<'_>, word: u32, fault: Option<usize>) -> bool
+        ensures { let p = packet_of found.now in
+            result ≡ has_all self.now p word (chunks_seen fault (part_in p)) }
     {
         let packet = Part::packet(found.packet, found.length);
-        self.first <= number
-            && number <= self.last
-            && self.is_met_by_headers(packet, found.addresses)
+        self.is_met_by_headers(packet, found.addresses)
             && self.is_met_by_chunks(packet, fault)
             && (!self.wrong || has_wrong_checksum(packet, word))
     }
@@ -95,39 +169,121 @@ impl Filter {
     fn is_met_by_headers(&self, packet: Part<'_>, addresses: Option<Addresses>) -> bool
         ensures { result ≡ passes_headers self.now (part_of packet.entry) addresses }
     {
-        if let Some(port) = self.port
-            && !has_port(packet, port)
-        {
-            return false;
-        }
-        if let Some(tag) = self.tag
-            && !is_u32(packet.after(4), tag)
-        {
-            return false;
-        }
-        match self.host {
-            Some(host) => host.is_of(addresses),
-            None => true,
-        }
+        self.meets_ports(packet) && self.meets_tags(packet) && self.meets_hosts(addresses)
+    }
+
+    /// Returns whether one of the ports is the source or the destination, if any are asked for.
+    fn meets_ports(&self, packet: Part<'_>) -> bool
+        ensures { result ≡ meets self.now.ports (λ port. has_port port (part_of packet.entry)) }
+    {
+        asks_nothing(&self.ports)
+            || self.ports.iter().any(|asked| match asked {
+                Some(port) => has_port(packet, *port),
+                None => false,
+            })
+    }
+
+    /// Returns whether one of the tags is the packet's, if any are asked for.
+    fn meets_tags(&self, packet: Part<'_>) -> bool
+        ensures { result ≡ meets self.now.tags (λ tag. has_tag tag (part_of packet.entry)) }
+    {
+        asks_nothing(&self.tags)
+            || self.tags.iter().any(|asked| match asked {
+                Some(tag) => is_u32(packet.after(4), *tag),
+                None => false,
+            })
+    }
+
+    /// Returns whether one of the hosts has one of the addresses, if any are asked for.
+    fn meets_hosts(&self, addresses: Option<Addresses>) -> bool
+        ensures { result ≡ meets self.now.hosts (λ host. has_host host addresses) }
+    {
+        asks_nothing(&self.hosts)
+            || self.hosts.iter().any(|asked| match asked {
+                Some(host) => host.is_of(addresses),
+                None => false,
+            })
     }
 
     /// Returns whether there are chunks that are asked for.
     fn is_met_by_chunks(&self, packet: Part<'_>, fault: Option<usize>) -> bool
         ensures { result ≡ passes_chunks self.now (chunks_seen fault (part_of packet.entry)) }
     {
-        if let Some(typ) = self.chunk
-            && !some_seen(packet, fault, ChunkTest::Type(typ))
-        {
-            return false;
+        self.meets_types(packet, fault)
+            && self.meets_streams(packet, fault)
+            && self.meets_ppids(packet, fault)
+    }
+
+    /// Returns whether a chunk is of one of the types, if any are asked for.
+    fn meets_types(&self, packet: Part<'_>, fault: Option<usize>) -> bool
+        ensures { result ≡ meets self.now.chunks (λ typ. list_any (is_of_type typ)
+            (chunks_seen fault (part_of packet.entry))) }
+    {
+        asks_nothing(&self.chunks)
+            || self.chunks.iter().any(|asked| match asked {
+                Some(typ) => some_seen(packet, fault, ChunkTest::Type(*typ)),
+                None => false,
+            })
+    }
+
+    /// Returns whether user data is of one of the streams, if any are asked for.
+    fn meets_streams(&self, packet: Part<'_>, fault: Option<usize>) -> bool
+        ensures { result ≡ meets self.now.streams (λ stream. list_any (is_on_stream stream)
+            (chunks_seen fault (part_of packet.entry))) }
+    {
+        asks_nothing(&self.streams)
+            || self.streams.iter().any(|asked| match asked {
+                Some(stream) => some_seen(packet, fault, ChunkTest::Stream(*stream)),
+                None => false,
+            })
+    }
+
+    /// Returns whether user data is of one of the payload protocols, if any are asked for.
+    fn meets_ppids(&self, packet: Part<'_>, fault: Option<usize>) -> bool
+        ensures { result ≡ meets self.now.ppids (λ ppid. list_any (has_ppid ppid)
+            (chunks_seen fault (part_of packet.entry))) }
+    {
+        asks_nothing(&self.ppids)
+            || self.ppids.iter().any(|asked| match asked {
+                Some(ppid) => some_seen(packet, fault, ChunkTest::Ppid(*ppid)),
+                None => false,
+            })
+    }
+}
+
+/// Returns whether no value is asked for.
+pub fn asks_nothing<T>(asked: &[Option<T>; VALUES]) -> bool
+    ensures { result ≡ not (list_any is_some asked.now) }
+{
+    !asked.iter().any(|value| value.is_some())
+}
+
+impl Bound {
+    /// Returns whether a packet is the one of the bound, or after it.
+    fn is_before(self, arrival: Arrival) -> bool
+        ensures { result ≡ is_before self arrival }
+    {
+        match (self, arrival.time, arrival.first) {
+            (Bound::Number(number), _, _) => number <= arrival.number,
+            (Bound::Time(bound), Some(time), _) => arrival.has_date && bound <= time,
+            (Bound::Since(span), Some(time), Some(first)) => {
+                first as u128 + span as u128 <= time as u128
+            }
+            _ => false,
         }
-        if let Some(stream) = self.stream
-            && !some_seen(packet, fault, ChunkTest::Stream(stream))
-        {
-            return false;
-        }
-        match self.ppid {
-            Some(ppid) => some_seen(packet, fault, ChunkTest::Ppid(ppid)),
-            None => true,
+    }
+
+    /// Returns whether a packet is the one of the bound, or before it.
+    fn is_after(self, arrival: Arrival) -> bool
+        ensures { result ≡ is_after self arrival }
+    {
+        match (self, arrival.time, arrival.first) {
+            (Bound::Number(number), _, _) => arrival.number <= number,
+            (Bound::Time(bound), Some(time), _) => arrival.has_date && time <= bound,
+            (Bound::Since(span), Some(time), Some(first)) => {
+                time as u128 <= first as u128 + span as u128
+            }
+            _ => false,
         }
     }
 }

@@ -186,6 +186,25 @@ fn month_of(year: u64, days: u64) -> (u64, u64)
     (month, rest)
 }
 
+/// Returns how many days there are from 1970-01-01 to a date of the Gregorian calendar; `None` if
+/// there is no such date from then on up to 9999-12-31.
+pub fn days_before(year: u64, month: u64, day: u64) -> Option<u64> {
+    if !(1970..=9999).contains(&year) || !(1..=12).contains(&month) {
+        return None;
+    }
+    if day < 1 || length_of_month(year, month) < day {
+        return None;
+    }
+    let mut days = day - 1;
+    for earlier in 1970..year {
+        days = days.saturating_add(length_of_year(earlier));
+    }
+    for earlier in 1..month {
+        days = days.saturating_add(length_of_month(year, earlier));
+    }
+    Some(days)
+}
+
 /// Returns whether a year has a 29 February.
 fn has_leap_day(year: u64) -> bool
     ensures { result ≡ is_leap_year year }

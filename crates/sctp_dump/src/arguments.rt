@@ -3,10 +3,11 @@
 ghost use Rattle.std.specs.Prelude.{◌≤◌, IfOk};
 
 use crate::auth_key::auth_key_of;
+use crate::bound::time_bound_of;
 use crate::failure::Failure;
 use crate::name::Name;
 use crate::options::{FormatOption, Options, OutputForm, TimeOption};
-use dump_analysis::filter::Host;
+use dump_analysis::filter::{Bound, Host, VALUES};
 use dump_text::registry::chunk_name;
 use std::alloc::Global;
 use std::net::IpAddr;
@@ -38,22 +39,27 @@ What is printed:
                    --json after the packet
   --auth-key KEY   whether AUTH is right under this endpoint pair shared key: as
                    0badc0de, 7:0badc0de of Shared Key Identifier 7, or ''
-  --keep NUMBER    of --associations, --messages, --check and --auth-key: the most
-                   associations that are kept at a time; 10000 if not given
+  --keep NUMBER    of --associations, --messages, --check, --auth-key and --label:
+                   the most associations kept at a time; 10000 if not given
   --check          the rules of the RFCs that accepted packets break
   --summary        counts alone
 
-Which packets are printed (all are counted); all that is asked for holds:
+Which packets are printed (all are counted): those for which each option holds.
+Of an option with several values, separated by commas or each with the option,
+one has to; a NAME may hold commas.
   --port PORT      of either end
   --tag TAG        with this verification tag, as 0x0da73798 or a number
   --host ADDRESS   to or from this IP address
   --chunk TYPE     with a chunk of this type, as SACK, HEARTBEAT_ACK or 3
   --stream NUMBER  with user data of this stream
   --ppid NUMBER    with user data of this payload protocol
+  --label NAME     with user data of the stream of a channel with this label
   --transport NAME of this transport of a log, as DcSctpTransport0
   --wrong          whose checksum is wrong
-  --from NUMBER    from this packet on
-  --to NUMBER      up to this packet
+  --not            which the options above leave out
+  --from BOUND     from this packet on: its number, a time in UTC as
+                   2026-01-02T03:04:05.6Z, or seconds after the first as +1.5
+  --to BOUND       up to this packet
   --faults         refused
 
 How they are read:
@@ -177,6 +183,10 @@ impl<'a> Request<'a> {
                 options.filter.wrong = true;
                 options.is_filtered = true;
             }
+            "--not" => {
+                options.filter.inverts = true;
+                options.is_filtered = true;
+            }
             "--strict" => options.strict = true,
             "--help" | "-h" => self.action = Action::Help,
             "--version" | "-V" => self.action = Action::Version,
@@ -218,62 +228,84 @@ impl Options {
         Ok(())
     }
 
-    /// Takes an option of the filter with its value.
-    fn take_filter(&mut self, name: &str, value: &str) -> Result<(), Failure> {
+    /// Takes an option of the filter with its values, which commas separate. A name may hold commas.
+    fn take_filter(&mut self, name: &str, values: &str) -> Result<(), Failure> {
         match name {
-            "--port" => {
-                let usage = "--port takes a number up to 65535";
-                set(
-                    &mut self.filter.port,
-                    number_of(value, 0, 65_535, usage)? as u16,
-                )?;
+            "--from" => self.filter.from = bound_of(values, FROM_USAGE)?,
+            "--to" => self.filter.to = bound_of(values, TO_USAGE)?,
+            "--label" => {
+                let usage = "--label takes a text of up to 64 bytes";
+                add(&mut self.labels, name_of(values, usage)?)?;
             }
-            "--tag" => {
-                let usage = "--tag takes a number of four bytes, as 0x0da73798";
-                set(
-                    &mut self.filter.tag,
-                    number_of(value, 0, LARGEST, usage)? as u32,
-                )?;
+            "--transport" => {
+                let usage = "--transport takes a name of up to 64 bytes";
+                add(&mut self.transports, name_of(values, usage)?)?;
             }
-            "--stream" => {
-                let usage = "--stream takes a number up to 65535";
-                set(
-                    &mut self.filter.stream,
-                    number_of(value, 0, 65_535, usage)? as u16,
-                )?;
+            _ => {
+                for value in values.split(",") {
+                    self.take_value_of_filter(name, value)?;
+                }
             }
-            "--ppid" => {
-                let usage = "--ppid takes a number of four bytes";
-                set(
-                    &mut self.filter.ppid,
-                    number_of(value, 0, LARGEST, usage)? as u32,
-                )?;
-            }
-            "--from" => {
-                let usage = "--from takes a packet's number, from 1";
-                self.filter.first = number_of(value, 1, u64::MAX, usage)?;
-            }
-            "--to" => {
-                let usage = "--to takes a packet's number, from 1";
-                self.filter.last = number_of(value, 1, u64::MAX, usage)?;
-            }
-            "--transport" => set(&mut self.transport, name_of(value)?)?,
-            "--host" => set(&mut self.filter.host, host_of(value)?)?,
-            "--chunk" => set(&mut self.filter.chunk, type_of(value)?)?,
-            _ => return Err(Failure::Usage("unknown option (try --help)")),
         }
         Ok(())
     }
+
+    /// Takes a value of an option of the filter.
+    fn take_value_of_filter(&mut self, name: &str, value: &str) -> Result<(), Failure> {
+        let filter = &mut self.filter;
+        match name {
+            "--port" => {
+                let usage = "--port takes a number up to 65535";
+                add(
+                    &mut filter.ports,
+                    number_of(value, 0, 65_535, usage)? as u16,
+                )
+            }
+            "--tag" => {
+                let usage = "--tag takes a number of four bytes, as 0x0da73798";
+                add(
+                    &mut filter.tags,
+                    number_of(value, 0, LARGEST, usage)? as u32,
+                )
+            }
+            "--stream" => {
+                let usage = "--stream takes a number up to 65535";
+                add(
+                    &mut filter.streams,
+                    number_of(value, 0, 65_535, usage)? as u16,
+                )
+            }
+            "--ppid" => {
+                let usage = "--ppid takes a number of four bytes";
+                add(
+                    &mut filter.ppids,
+                    number_of(value, 0, LARGEST, usage)? as u32,
+                )
+            }
+            "--host" => add(&mut filter.hosts, host_of(value)?),
+            "--chunk" => add(&mut filter.chunks, type_of(value)?),
+            _ => Err(Failure::Usage("unknown option (try --help)")),
+        }
+    }
 }
 
-/// Asks for a value, if none was asked for.
-fn set<T: Copy>(wanted: &mut Option<T>, value: T) -> Result<(), Failure> {
-    if wanted.is_some() {
-        return Err(Failure::Usage("an option of a filter is given once"));
+/// Asks for a value beside those that are asked for, if there is room.
+fn add<T: Copy>(asked: &mut [Option<T>; VALUES], value: T) -> Result<(), Failure> {
+    for i in 0..VALUES {
+        if asked[i].is_none() {
+            asked[i] = Some(value);
+            return Ok(());
+        }
     }
-    *wanted = Some(value);
-    Ok(())
+    Err(Failure::Usage("an option of a filter takes up to 16 values"))
 }
+
+/// What is said of bounds that can't be read.
+const FROM_USAGE: &str =
+    "--from takes a packet's number, a time as 2026-01-02T03:04:05.6Z, or seconds as +1.5";
+
+const TO_USAGE: &str =
+    "--to takes a packet's number, a time as 2026-01-02T03:04:05.6Z, or seconds as +1.5";
 
 /// The largest number of four bytes.
 const LARGEST: u64 = 0xffff_ffff;
@@ -289,6 +321,15 @@ fn number_of(text: &str, least: u64, most: u64, usage: &'static str) -> Result<u
     match parsed {
         Ok(number) if least <= number && number <= most => Ok(number),
         _ => Err(Failure::Usage(usage)),
+    }
+}
+
+/// Returns the bound of a packet's number or a time.
+fn bound_of(text: &str, usage: &'static str) -> Result<Bound, Failure> {
+    match time_bound_of(text) {
+        Some(bound) => Ok(bound),
+        None if text.starts_with('+') => Err(Failure::Usage(usage)),
+        None => Ok(Bound::Number(number_of(text, 1, u64::MAX, usage)?)),
     }
 }
 
@@ -313,11 +354,11 @@ fn time_of(name: &str) -> Result<TimeOption, Failure> {
     }
 }
 
-/// Returns a transport's name.
-fn name_of(text: &str) -> Result<Name, Failure> {
+/// Returns a short name.
+fn name_of(text: &str, usage: &'static str) -> Result<Name, Failure> {
     match Name::new(text.as_bytes()) {
         Some(name) => Ok(name),
-        None => Err(Failure::Usage("--transport takes a name of up to 64 bytes")),
+        None => Err(Failure::Usage(usage)),
     }
 }
 

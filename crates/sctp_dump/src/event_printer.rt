@@ -23,7 +23,7 @@ use dcsctp_borrowed::checksum::Checksum;
 use dcsctp_wire::packet::sctp_packet::FirstFault;
 use dump_analysis::rule::RULES;
 use dump_analysis::warnings::Warnings;
-use dump_analysis::{Authentication, AuthenticationCounts, Noted, SeenPacket};
+use dump_analysis::{Authentication, AuthenticationCounts, Noted, ResentBrief, SeenPacket};
 use dump_capture::event::{Part, Seen, Sink, Skipped, Time};
 use dump_capture::frame::{FoundPacket, packet_in};
 use dump_capture::line::Direction;
@@ -150,20 +150,13 @@ impl<W: Write> EventPrinter<W> {
     {
         let (word, fault) = (judged.word, judged.fault.as_ref());
         let nanoseconds = self.clock.read(&seen.time);
-        let (direction, transport) = log_of(&seen.time);
-        let passes = passes(&self.options, seen, found, word, fault);
-        let packet = SeenPacket {
-            number: self.files.number_of(seen.number),
-            nanoseconds,
-            found: *found,
-            direction,
-            transport,
-            checksum: Checksum::of_packet(found.packet, found.length, word),
-            is_refused: judged.verdict == Verdict::Refused,
-            passes,
-            key: self.options.auth_key,
-        };
+        let offset = offset_of(fault);
+        let packet = self.packet_of(seen, found, judged, nanoseconds)?;
+        let passes = packet.passes;
+        let resent = self.tracker.resent(&self.options, &packet, offset)?;
         let Noted { of: member, left } = self.tracker.see(&self.options, &packet)?;
+        self.tracker
+            .note_labels(&self.options, member, &packet, offset)?;
         match left {
             Some(association) => {
                 let paths = self.tracker.take_paths(association.number);
@@ -209,9 +202,50 @@ impl<W: Write> EventPrinter<W> {
             broken,
             member,
             authentication,
+            resent: ResentBrief {
+                resent: resent.as_slice(),
+                file: packet.number.file,
+                files: self.files.named(),
+            },
         };
         push_packet(&self.options, shown, &mut self.output.text)?;
         self.print_messages()
+    }
+
+    /// Returns a packet with what is known of it, and whether it is asked for.
+    fn packet_of<'a>(
+        &mut self,
+        seen: &Seen<'a>,
+        found: &FoundPacket<'a>,
+        judged: &Judged,
+        nanoseconds: Option<u64>,
+    ) -> Result<SeenPacket<'a>, AllocError>
+        ensures options { self.new.options ≡ self.old.options }
+        ensures counts { self.new.counts ≡ self.old.counts }
+        ensures failure { self.new.failure ≡ self.old.failure }
+        ensures warnings { self.new.warnings ≡ self.old.warnings }
+    {
+        let (word, fault) = (judged.word, offset_of(judged.fault.as_ref()));
+        let (direction, transport) = log_of(&seen.time);
+        let mut packet = SeenPacket {
+            number: self.files.number_of(seen.number),
+            nanoseconds,
+            found: *found,
+            direction,
+            transport,
+            checksum: Checksum::of_packet(found.packet, found.length, word),
+            is_refused: judged.verdict == Verdict::Refused,
+            passes: true,
+            key: self.options.auth_key,
+        };
+        let arrival = self.clock.arrival_of(seen, nanoseconds);
+        if self.options.is_filtered {
+            let others = self.tracker.has_label(&self.options, &packet, fault)?
+                && self.options.has_transport(transport);
+            let filter = &self.options.filter;
+            packet.passes = filter.passes(arrival, others, found, word, fault);
+        }
+        Ok(packet)
     }
 
     /// Prints the messages that are over by the last packet.
@@ -363,22 +397,10 @@ fn is_judged(options: &Options, verdict: Verdict) -> bool
     }
 }
 
-/// Returns whether a packet is asked for.
-fn passes(
-    options: &Options,
-    seen: &Seen<'_>,
-    found: &FoundPacket<'_>,
-    word: u32,
-    fault: Option<&FirstFault>,
-) -> bool {
-    if let Some(name) = &options.transport
-        && !name.is(log_of(&seen.time).1)
-    {
-        return false;
-    }
-    let offset = match fault {
+/// Returns where the first fault of a refused packet lies.
+fn offset_of(fault: Option<&FirstFault>) -> Option<usize> {
+    match fault {
         Some(fault) => Some(fault.offset),
         None => None,
-    };
-    options.filter.passes(seen.number, found, word, offset)
+    }
 }

@@ -6,6 +6,7 @@
 
 mod arguments;
 mod auth_key;
+mod bound;
 mod counts;
 mod engine;
 mod event_printer;
@@ -13,6 +14,7 @@ mod failure;
 mod files;
 mod host;
 mod input;
+mod labels;
 mod log_clock;
 mod name;
 mod options;

@@ -6,7 +6,7 @@ ghost use Rattle.sctp_dump.specs.Counts.{policy_of};
 use crate::name::Name;
 use dcsctp_wire::packet::sctp_packet::ChecksumPolicy;
 use dump_analysis::PairKey;
-use dump_analysis::filter::Filter;
+use dump_analysis::filter::{Filter, VALUES, asks_nothing};
 use dump_capture::frame::UDP_PORT;
 
 /// The form of an input.
@@ -79,8 +79,10 @@ pub struct Options {
     pub auth_key: Option<PairKey>,
     /// Which packets are printed.
     pub filter: Filter,
-    /// The name of the transport, in a log, whose packets are printed.
-    pub transport: Option<Name>,
+    /// The labels of the channels whose packets are printed.
+    pub labels: [Option<Name>; VALUES],
+    /// The names of the transports, in a log, whose packets are printed.
+    pub transports: [Option<Name>; VALUES],
     /// The filter was asked for: what has no packet isn't printed.
     pub is_filtered: bool,
     /// The UDP port that carries SCTP.
@@ -106,7 +108,8 @@ impl Options {
         keep: 10_000,
         auth_key: None,
         filter: Filter::ALL,
-        transport: None,
+        labels: [None; VALUES],
+        transports: [None; VALUES],
         is_filtered: false,
         udp_port: UDP_PORT,
         form: FormatOption::Detected,
@@ -131,11 +134,18 @@ impl Options {
         if self.payload && !(is_blocks && self.prints_packets()) {
             return Some("--payload needs blocks of packets, which aren't printed");
         }
-        if self.filter.first > self.filter.last {
+        if self.filter.is_empty() {
             return Some("no packet is from --from on and up to --to");
         }
+        if self.filter.inverts
+            && self.filter.is_free()
+            && asks_nothing(&self.labels)
+            && asks_nothing(&self.transports)
+        {
+            return Some("--not needs an option that says which packets it leaves out");
+        }
         if self.keep != Options::DEFAULT.keep && !self.tracks_associations() {
-            return Some("--keep needs --associations, --messages, --check or --auth-key");
+            return Some("--keep needs --associations, --messages, --check, --auth-key or --label");
         }
         if self.summary && self.output == OutputForm::Brief {
             return Some("--brief has no effect beside --summary");
@@ -157,7 +167,11 @@ impl Options {
 
     /// Returns whether it has to be known of which association a packet is.
     pub fn tracks_associations(&self) -> bool {
-        self.associations || self.messages || self.check || self.auth_key.is_some()
+        self.associations
+            || self.messages
+            || self.check
+            || self.auth_key.is_some()
+            || !asks_nothing(&self.labels)
     }
 
     /// Returns whether packets are printed: not where associations, messages or counts alone are.
@@ -170,4 +184,22 @@ impl Options {
     pub fn prints_skipped(&self) -> bool {
         self.prints_packets() && !self.faults && !self.is_filtered
     }
+
+    /// Returns whether a transport is one of those that are asked for, if any are.
+    pub fn has_transport(&self, transport: &[u8]) -> bool {
+        asks_nothing(&self.transports) || is_one_of(&self.transports, transport)
+    }
+
+    /// Returns whether a label is one of those that are asked for.
+    pub fn has_label(&self, label: &[u8]) -> bool {
+        is_one_of(&self.labels, label)
+    }
+}
+
+/// Returns whether a text is one of the names.
+fn is_one_of(names: &[Option<Name>; VALUES], text: &[u8]) -> bool {
+    names.iter().any(|asked| match asked {
+        Some(name) => name.is(text),
+        None => false,
+    })
 }

@@ -1,9 +1,14 @@
 //! The associations of the packets so far, if associations, messages or rules are asked for, and what
 //! is kept beside them: their paths and their messages.
 
-use crate::options::Options;
+use crate::labels::LabelledStreams;
+use crate::options::{Options, OutputForm};
+use dump_analysis::filter::asks_nothing;
 use dump_analysis::rule::Known;
-use dump_analysis::{Associations, Message, Messages, Noted, PathTable, Paths, SeenPacket};
+use dump_analysis::{
+    Associations, Membership, Message, Messages, Noted, PathTable, Paths, Resent, SeenPacket,
+    Sendings,
+};
 use std::alloc::{AllocError, Global};
 
 /// The associations of the packets so far, if they are asked for.
@@ -13,6 +18,8 @@ pub struct Tracker {
     associations: Option<Associations>,
     paths: Option<PathTable>,
     messages: Option<Messages>,
+    sendings: Sendings,
+    labelled: LabelledStreams,
 }
 
 impl Tracker {
@@ -23,6 +30,8 @@ impl Tracker {
             associations: None,
             paths: None,
             messages: None,
+            sendings: Sendings::new(alloc),
+            labelled: LabelledStreams::new(alloc),
         }
     }
 
@@ -49,6 +58,57 @@ impl Tracker {
             }
         }
         Ok(noted)
+    }
+
+    /// Returns whether a packet that wasn't counted yet has user data of a channel whose label is
+    /// asked for, or none is.
+    pub fn has_label(
+        &mut self,
+        options: &Options,
+        packet: &SeenPacket<'_>,
+        fault: Option<usize>,
+    ) -> Result<bool, AllocError> {
+        if asks_nothing(&options.labels) {
+            return Ok(true);
+        }
+        let number = match &self.associations {
+            Some(associations) => associations.number_of(packet),
+            None => None,
+        };
+        self.labelled.see(options, number, packet, fault)
+    }
+
+    /// Notes the channels that a packet opens which was counted: the association of one that began
+    /// it had no number before.
+    pub fn note_labels(
+        &mut self,
+        options: &Options,
+        member: Option<Membership>,
+        packet: &SeenPacket<'_>,
+        fault: Option<usize>,
+    ) -> Result<(), AllocError> {
+        let Some(member) = member else {
+            return Ok(());
+        };
+        if !asks_nothing(&options.labels) {
+            let _ = self
+                .labelled
+                .see(options, Some(member.association), packet, fault)?;
+        }
+        Ok(())
+    }
+
+    /// Returns which TSNs of a packet were sent before, if lines are asked for, which say it.
+    pub fn resent(
+        &mut self,
+        options: &Options,
+        packet: &SeenPacket<'_>,
+        fault: Option<usize>,
+    ) -> Result<Vec<Resent>, AllocError> {
+        match options.output {
+            OutputForm::Brief => self.sendings.see(packet, fault),
+            OutputForm::Blocks | OutputForm::Json => Ok(Vec::new(self.alloc)),
+        }
     }
 
     /// Counts a packet among those of its association, if these are asked for.

@@ -5,8 +5,9 @@ ghost use Rattle.sctp_dump.specs.Times.{units, fitting, later, IsRead};
 
 use crate::log_clock::{LogClock, clock_text_of};
 use crate::options::TimeOption;
+use dump_analysis::filter::Arrival;
 use dump_analysis::{SecondsReport, TimeForm, TimeReport, TimeStyle};
-use dump_capture::event::Time;
+use dump_capture::event::{Seen, Time};
 use dump_capture::line::Direction;
 use dump_capture::pcap::Resolution;
 use std::fmt;
@@ -23,6 +24,8 @@ pub struct Clock {
     form: TimeOption,
     // Of the first packet, or of the one that was printed before.
     since: Option<u64>,
+    // Of the first packet whose time is known.
+    first: Option<u64>,
     log: LogClock,
     // A log's times of day were seen: those of associations are printed so.
     is_log: bool,
@@ -34,6 +37,7 @@ impl Clock {
         Clock {
             form,
             since: None,
+            first: None,
             log: LogClock::new(),
             is_log: false,
         }
@@ -67,6 +71,17 @@ impl Clock {
                 self.is_log = true;
                 self.log.read(time.as_bytes(), *stamp)
             }
+        }
+    }
+
+    /// Returns when a packet was seen, whose time was read as these nanoseconds.
+    pub fn arrival_of(&mut self, seen: &Seen<'_>, nanoseconds: Option<u64>) -> Arrival {
+        self.first = self.first.or(nanoseconds);
+        Arrival {
+            number: seen.number,
+            time: nanoseconds,
+            first: self.first,
+            has_date: !matches!(seen.time, Time::OfDay { .. }),
         }
     }
 
