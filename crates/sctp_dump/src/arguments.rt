@@ -36,10 +36,14 @@ What is printed:
   --messages       a line a user message, as it is acknowledged or abandoned, and
                    why it took that long, in place of packets; with --brief or
                    --json after the packet
+  --channels       a line a channel, or a stream and payload protocol, with what
+                   became of its messages, in place of packets; with --brief or
+                   --json after them
   --auth-key KEY   whether AUTH is right under this endpoint pair shared key: as
                    0badc0de, 7:0badc0de of Shared Key Identifier 7, or ''
-  --keep NUMBER    of --associations, --messages, --check and --auth-key: the most
-                   associations that are kept at a time; 10000 if not given
+  --keep NUMBER    of --associations, --messages, --channels, --check and
+                   --auth-key: the most associations that are kept at a time; 10000
+                   if not given
   --check          the rules of the RFCs that accepted packets break
   --summary        counts alone
 
@@ -170,6 +174,7 @@ impl<'a> Request<'a> {
                 options.paths = true;
             }
             "--messages" => options.messages = true,
+            "--channels" => options.channels = true,
             "--check" => options.check = true,
             "--summary" => options.summary = true,
             "--faults" => options.faults = true,

@@ -71,6 +71,8 @@ pub struct Options {
     pub paths: bool,
     /// The user messages.
     pub messages: bool,
+    /// The channels.
+    pub channels: bool,
     /// The form of times.
     pub time: TimeOption,
     /// How many associations are kept.
@@ -102,6 +104,7 @@ impl Options {
         associations: false,
         paths: false,
         messages: false,
+        channels: false,
         time: TimeOption::Captured,
         keep: 10_000,
         auth_key: None,
@@ -135,7 +138,9 @@ impl Options {
             return Some("no packet is from --from on and up to --to");
         }
         if self.keep != Options::DEFAULT.keep && !self.tracks_associations() {
-            return Some("--keep needs --associations, --messages, --check or --auth-key");
+            return Some(
+                "--keep needs --associations, --messages, --channels, --check or --auth-key",
+            );
         }
         if self.summary && self.output == OutputForm::Brief {
             return Some("--brief has no effect beside --summary");
@@ -143,7 +148,7 @@ impl Options {
         if self.faults && !self.prints_packets() {
             return Some("--faults needs packets, which aren't printed");
         }
-        if self.prints_packets() || self.associations || self.messages {
+        if self.prints_packets() || self.associations || self.follows_messages() {
             return None;
         }
         if self.is_filtered {
@@ -157,13 +162,20 @@ impl Options {
 
     /// Returns whether it has to be known of which association a packet is.
     pub fn tracks_associations(&self) -> bool {
-        self.associations || self.messages || self.check || self.auth_key.is_some()
+        let follows = self.associations || self.follows_messages();
+        follows || self.check || self.auth_key.is_some()
     }
 
-    /// Returns whether packets are printed: not where associations, messages or counts alone are.
+    /// Returns whether it has to be known what becomes of user messages.
+    pub fn follows_messages(&self) -> bool {
+        self.messages || self.channels
+    }
+
+    /// Returns whether packets are printed: not where associations, messages, channels or counts
+    /// alone are.
     pub fn prints_packets(&self) -> bool {
-        let replaced = (self.associations || self.messages) && self.output == OutputForm::Blocks;
-        !(self.summary || replaced)
+        let replaces = self.associations || self.follows_messages();
+        !(self.summary || replaces && self.output == OutputForm::Blocks)
     }
 
     /// Returns whether what has no packet is printed.
