@@ -10,7 +10,7 @@ of its manual page, docs/sctp_dump.1, at which mandoc, if it is there, finds not
 ask the rules of the packets of rules.txt in examples/, it has the chunks of refused.txt and the captures in data/, reports.py compares
 what it prints of the packets of reports.txt, faults.py looks at lengths that are refused, objects.py at its JSON, forms.py
 at its three forms, logs.py at associations of logs, auth.py at AUTH, times.py at times; where tshark is, associations.py at
-associations of captures, messages.py at their messages, and tshark.py at packets; where scapy is, scapy.py at the same; fields.py
+associations of captures, messages.py at their messages, channels.py at their channels, and tshark.py at packets; where scapy is, scapy.py at the same; fields.py
 compares the JSON and the Python package, of each field of a real stack'\''s packets, with tshark and scapy; and it has a table that is full, and inputs and
 outputs that fail. The last line is: dump: N passed, M failed. --quick leaves out the scripts, a word that isn'\''t UTF-8, and
 an output that is limited, for a program that runs in an emulator or under Wine.
@@ -199,6 +199,7 @@ look "$root/tests/dump/logs.py" "$program"
 look "$root/tests/dump/auth.py" "$program"
 look_with tshark "$root/tests/dump/associations.py" "$program"
 look_with tshark "$root/tests/dump/messages.py" "$program"
+look_with tshark "$root/tests/dump/channels.py" "$program"
 
 # ---- blocks
 
@@ -306,6 +307,26 @@ message of 1 > stream 1, ssn 0, ppid 51 (WebRTC String), size 1, tsn 1027: sent 
 messages: DATA not followed 2, for which there was no room, or whose header isn't whole
 WANTED
 judge 'more fragments than are followed' "$ended" 0
+
+# ---- more channels than are kept
+
+# A message of each stream, and SACKs: the first 1,024 channels are kept, and what the others have is counted.
+for ((stream = 0; stream < 65536; stream += 512)); do
+    for ((i = stream; i < stream + 512; i++)); do
+        printf '138813890000000100000000 00030011 %08x %04x0000 00000033 61000000\n' "$i" "$i"
+    done
+    printf '138913880000000200000000 03000010 %08x 00010000 0000 0000\n' $((stream + 511))
+done | timeout 60 "$program" --channels 2>"$work/errors" >"$work/all"
+ended=${PIPESTATUS[1]}
+{
+    grep -c '^channel of 1: stream [0-9]*, ppid 51 (WebRTC String); > messages 1, bytes 1,' "$work/all"
+    grep '^other' "$work/all"
+} >"$work/printed"
+cat >"$work/wanted" <<'WANTED'
+1024
+other channels of 1; > messages 64512, bytes 64512, repeated 0, abandoned 0, not acknowledged 0; < messages 0, bytes 0, repeated 0, abandoned 0, not acknowledged 0
+WANTED
+judge 'more channels than are kept' "$ended" 0
 
 # ---- more addresses than are kept
 

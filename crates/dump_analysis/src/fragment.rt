@@ -39,19 +39,22 @@ pub struct MessageKey {
 
 /// The numbers of a DATA or an I-DATA.
 #[derive(Clone, Copy)]
-struct Numbers {
-    tsn: u32,
-    stream: u16,
+pub struct Numbers {
+    /// The TSN.
+    pub tsn: u32,
+    /// The stream.
+    pub stream: u16,
     number: u32,
     place: u32,
-    ppid: Option<u32>,
-    // how many bytes they are
-    header: usize,
+    /// The payload protocol identifier; `None` in I-DATA that is no beginning.
+    pub ppid: Option<u32>,
+    /// How many bytes they are.
+    pub header: usize,
 }
 
 impl Numbers {
     /// Returns those of a chunk; `None` where it has none, or they weren't captured.
-    fn of(chunk: Item<'_>) -> Option<Numbers> {
+    pub fn of(chunk: Item<'_>) -> Option<Numbers> {
         let value = chunk.value.bytes;
         match chunk.first {
             DATA if value.len() >= DataNumbers::SIZE => {

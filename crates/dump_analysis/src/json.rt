@@ -422,7 +422,7 @@ impl<'a> AssociationJson<'a> {
 }
 
 /// Returns the place of an end in the list of both.
-fn index_of(side: Side) -> u8 {
+pub fn index_of(side: Side) -> u8 {
     match side {
         Side::First => 0,
         Side::Second => 1,

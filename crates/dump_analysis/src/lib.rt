@@ -1,8 +1,8 @@
 //! What is found of a capture's packets beyond their grammar: which a filter passes (`filter`), how
 //! many break each rule of the RFCs (`warnings`), and which associations there were, in bounded
 //! memory (`associations`): how each began and ended, and what each of its ends sent; what went on
-//! each of its paths (`details`), and what became of each user message (`messages`), where that is
-//! asked for.
+//! each of its paths (`details`), and what became of each user message (`messages`) and of all
+//! messages of a channel (`channels`), where that is asked for.
 //!
 //! Every function reads a packet where it lies, as far as it can be read: refused and cut packets
 //! too. What a filter asks and what a rule says is defined by what is in a packet's header and
@@ -19,7 +19,11 @@ mod association;
 mod associations;
 mod authentication;
 mod authentication_text;
+mod channel;
+mod channel_report;
+mod channels;
 mod counts;
+mod data_channel;
 mod details;
 mod end;
 pub mod filter;
@@ -62,7 +66,11 @@ pub use crate::authentication::{AuthVerdict, Authentication, AuthenticationCount
 pub use crate::authentication_text::{
     AuthenticationBrief, AuthenticationCountsJson, AuthenticationJson, AuthenticationLines,
 };
+pub use crate::channel::{Channel, Reset, Tally, Traffic};
+pub use crate::channel_report::{ChannelJson, ChannelReport};
+pub use crate::channels::{ChannelTable, Channels};
 pub use crate::counts::{Counts, LeastWindow, SeenPacket};
+pub use crate::data_channel::{Opened, PeerText};
 pub use crate::details::PathTable;
 pub use crate::end::{Acknowledged, Closed, End, Skipped};
 pub use crate::fragment::{MessageKey, label_of, stream_of};

@@ -188,7 +188,7 @@ impl Message {
 }
 
 /// Returns whether a packet comes before another.
-fn comes_before(packet: PacketNumber, other: PacketNumber) -> bool {
+pub fn comes_before(packet: PacketNumber, other: PacketNumber) -> bool {
     packet.file < other.file || packet.file == other.file && packet.number < other.number
 }
 

@@ -127,8 +127,8 @@ impl RoundTrips {
         }
     }
 
-    /// Counts the round trip of a TSN.
-    fn count(&mut self, nanoseconds: u64, tsn: u32, packet: PacketNumber)
+    /// Counts the round trip of a TSN, or the delay of the message that begins with it.
+    pub fn count(&mut self, nanoseconds: u64, tsn: u32, packet: PacketNumber)
         ensures count { self.new.count ≡ one_more self.old.count }
         ensures least { self.new.least ≡ least_with self.old nanoseconds }
         ensures greatest { IsGreatest self.old nanoseconds tsn packet self.new }

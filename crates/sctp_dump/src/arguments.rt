@@ -37,10 +37,14 @@ What is printed:
   --messages       a line a user message, as it is acknowledged or abandoned, and
                    why it took that long, in place of packets; with --brief or
                    --json after the packet
+  --channels       a line a channel, or a stream and payload protocol, with what
+                   became of its messages, in place of packets; with --brief or
+                   --json after them
   --auth-key KEY   whether AUTH is right under this endpoint pair shared key: as
                    0badc0de, 7:0badc0de of Shared Key Identifier 7, or ''
-  --keep NUMBER    of --associations, --messages, --check, --auth-key and --label:
-                   the most associations kept at a time; 10000 if not given
+  --keep NUMBER    of --associations, --messages, --channels, --check, --auth-key
+                   and --label: the most associations kept at a time; 10000 if not
+                   given
   --check          the rules of the RFCs that accepted packets break
   --summary        counts alone
 
@@ -176,6 +180,7 @@ impl<'a> Request<'a> {
                 options.paths = true;
             }
             "--messages" => options.messages = true,
+            "--channels" => options.channels = true,
             "--check" => options.check = true,
             "--summary" => options.summary = true,
             "--faults" => options.faults = true,

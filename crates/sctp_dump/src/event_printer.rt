@@ -13,8 +13,8 @@ use crate::options::Options;
 use crate::printer::Printer;
 use crate::seen::SeenLines;
 use crate::sheet::{
-    Shown, push_association, push_associations, push_counts, push_file, push_left_out,
-    push_messages, push_packet, push_skipped,
+    Shown, push_association, push_associations, push_channels, push_counts, push_file,
+    push_left_out, push_messages, push_packet, push_skipped,
 };
 use crate::skipped::{Said, SkippedLine, frame_reason_of};
 use crate::tracker::Tracker;
@@ -23,7 +23,9 @@ use dcsctp_borrowed::checksum::Checksum;
 use dcsctp_wire::packet::sctp_packet::FirstFault;
 use dump_analysis::rule::RULES;
 use dump_analysis::warnings::Warnings;
-use dump_analysis::{Authentication, AuthenticationCounts, Noted, ResentBrief, SeenPacket};
+use dump_analysis::{
+    Authentication, AuthenticationCounts, Message, Noted, ResentBrief, SeenPacket,
+};
 use dump_capture::event::{Part, Seen, Sink, Skipped, Time};
 use dump_capture::frame::{FoundPacket, packet_in};
 use dump_capture::line::Direction;
@@ -107,6 +109,9 @@ impl<W: Write> EventPrinter<W> {
         let style = self.clock.style();
         let text = &mut self.output.text;
         push_messages(&self.options, style, &self.files, messages.as_slice(), text)?;
+        for channels in &self.tracker.finish_channels()? {
+            push_channels(&self.options, style, &self.files, channels, text)?;
+        }
         push_left_out(&self.options, left_out, text)?;
         match self.tracker.take() {
             Some(associations) => {
@@ -157,8 +162,18 @@ impl<W: Write> EventPrinter<W> {
         let Noted { of: member, left } = self.tracker.see(&self.options, &packet)?;
         self.tracker
             .note_labels(&self.options, member, &packet, offset)?;
+        let ended = self.tracker.take_messages()?;
         match left {
             Some(association) => {
+                if let Some(channels) = self.tracker.take_channels(association.number) {
+                    push_channels(
+                        &self.options,
+                        self.clock.style(),
+                        &self.files,
+                        &channels,
+                        &mut self.output.text,
+                    )?;
+                }
                 let paths = self.tracker.take_paths(association.number);
                 push_association(
                     &self.options,
@@ -188,7 +203,7 @@ impl<W: Write> EventPrinter<W> {
             && (is_faulty || !self.options.faults);
         let since = self.clock.see(nanoseconds, is_printed);
         if !is_printed {
-            return self.print_messages();
+            return self.print_messages(ended.as_slice());
         }
         let shown = Shown {
             seen: SeenLines {
@@ -209,7 +224,7 @@ impl<W: Write> EventPrinter<W> {
             },
         };
         push_packet(&self.options, shown, &mut self.output.text)?;
-        self.print_messages()
+        self.print_messages(ended.as_slice())
     }
 
     /// Returns a packet with what is known of it, and whether it is asked for.
@@ -249,21 +264,17 @@ impl<W: Write> EventPrinter<W> {
     }
 
     /// Prints the messages that are over by the last packet.
-    fn print_messages(&mut self) -> Result<(), AllocError>
+    fn print_messages(&mut self, messages: &[Message]) -> Result<(), AllocError>
         ensures options { self.new.options ≡ self.old.options }
         ensures counts { self.new.counts ≡ self.old.counts }
         ensures failure { self.new.failure ≡ self.old.failure }
         ensures warnings { self.new.warnings ≡ self.old.warnings }
     {
-        if !self.options.messages {
-            return Ok(());
-        }
-        let messages = self.tracker.take_messages();
         push_messages(
             &self.options,
             self.clock.style(),
             &self.files,
-            messages.as_slice(),
+            messages,
             &mut self.output.text,
         )
     }

@@ -71,6 +71,8 @@ pub struct Options {
     pub paths: bool,
     /// The user messages.
     pub messages: bool,
+    /// The channels.
+    pub channels: bool,
     /// The form of times.
     pub time: TimeOption,
     /// How many associations are kept.
@@ -104,6 +106,7 @@ impl Options {
         associations: false,
         paths: false,
         messages: false,
+        channels: false,
         time: TimeOption::Captured,
         keep: 10_000,
         auth_key: None,
@@ -145,7 +148,9 @@ impl Options {
             return Some("--not needs an option that says which packets it leaves out");
         }
         if self.keep != Options::DEFAULT.keep && !self.tracks_associations() {
-            return Some("--keep needs --associations, --messages, --check, --auth-key or --label");
+            return Some(
+                "--keep needs --associations, --messages, --channels, --check, --auth-key or --label",
+            );
         }
         if self.summary && self.output == OutputForm::Brief {
             return Some("--brief has no effect beside --summary");
@@ -153,7 +158,7 @@ impl Options {
         if self.faults && !self.prints_packets() {
             return Some("--faults needs packets, which aren't printed");
         }
-        if self.prints_packets() || self.associations || self.messages {
+        if self.prints_packets() || self.associations || self.follows_messages() {
             return None;
         }
         if self.is_filtered {
@@ -167,17 +172,20 @@ impl Options {
 
     /// Returns whether it has to be known of which association a packet is.
     pub fn tracks_associations(&self) -> bool {
-        self.associations
-            || self.messages
-            || self.check
-            || self.auth_key.is_some()
-            || !asks_nothing(&self.labels)
+        let follows = self.associations || self.follows_messages();
+        follows || self.check || self.auth_key.is_some() || !asks_nothing(&self.labels)
     }
 
-    /// Returns whether packets are printed: not where associations, messages or counts alone are.
+    /// Returns whether it has to be known what becomes of user messages.
+    pub fn follows_messages(&self) -> bool {
+        self.messages || self.channels
+    }
+
+    /// Returns whether packets are printed: not where associations, messages, channels or counts
+    /// alone are.
     pub fn prints_packets(&self) -> bool {
-        let replaced = (self.associations || self.messages) && self.output == OutputForm::Blocks;
-        !(self.summary || replaced)
+        let replaces = self.associations || self.follows_messages();
+        !(self.summary || replaces && self.output == OutputForm::Blocks)
     }
 
     /// Returns whether what has no packet is printed.

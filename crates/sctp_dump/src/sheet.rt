@@ -12,8 +12,9 @@ use dump_analysis::rule::BrokenRules;
 use dump_analysis::warnings::{WarningCounts, WarningLines, Warnings, WarningsBrief, WarningsJson};
 use dump_analysis::{
     Association, AssociationJson, AssociationReport, Associations, Authentication,
-    AuthenticationBrief, AuthenticationCounts, AuthenticationJson, AuthenticationLines, Membership,
-    MembershipJson, Message, MessageJson, MessageReport, Paths, ResentBrief, TimeStyle,
+    AuthenticationBrief, AuthenticationCounts, AuthenticationJson, AuthenticationLines,
+    ChannelJson, ChannelReport, Channels, Membership, MembershipJson, Message, MessageJson,
+    MessageReport, Paths, ResentBrief, TimeStyle,
 };
 use dump_report::{PacketBrief, PacketJson, PacketReport};
 use dump_text::json_text::JsonText;
@@ -181,7 +182,52 @@ pub fn push_association(
     writeln!(text, "{report}")
 }
 
-/// Adds the messages of which a packet passed.
+/// Adds the channels of an association of which a packet passed, and those that found no room as
+/// one.
+pub fn push_channels(
+    options: &Options,
+    style: TimeStyle,
+    files: &Files,
+    channels: &Channels,
+    text: &mut String,
+) -> Result<(), AllocError> {
+    let mut report = ChannelReport {
+        association: channels.association,
+        channel: None,
+        tally: &channels.others,
+        style,
+        files: files.named(),
+    };
+    for channel in &channels.list {
+        if channel.passes {
+            report.channel = Some(channel);
+            report.tally = &channel.tally;
+            push_channel(options, report, text)?;
+        }
+    }
+    if channels.others_pass {
+        report.channel = None;
+        report.tally = &channels.others;
+        push_channel(options, report, text)?;
+    }
+    Ok(())
+}
+
+/// Adds a channel.
+fn push_channel(
+    options: &Options,
+    report: ChannelReport<'_>,
+    text: &mut String,
+) -> Result<(), AllocError> {
+    if options.output == OutputForm::Json {
+        let object = ChannelJson(report);
+        writeln!(text, "{object}")
+    } else {
+        writeln!(text, "{report}")
+    }
+}
+
+/// Adds the messages of which a packet passed, if they are asked for.
 pub fn push_messages(
     options: &Options,
     style: TimeStyle,
@@ -191,7 +237,7 @@ pub fn push_messages(
 ) -> Result<(), AllocError> {
     let files = files.named();
     for message in messages {
-        if message.passes {
+        if options.messages && message.passes {
             let report = MessageReport {
                 message,
                 style,

@@ -1,13 +1,13 @@
 //! The associations of the packets so far, if associations, messages or rules are asked for, and what
-//! is kept beside them: their paths and their messages.
+//! is kept beside them: their paths, their messages and their channels.
 
 use crate::labels::LabelledStreams;
 use crate::options::{Options, OutputForm};
 use dump_analysis::filter::asks_nothing;
 use dump_analysis::rule::Known;
 use dump_analysis::{
-    Associations, Membership, Message, Messages, Noted, PathTable, Paths, Resent, SeenPacket,
-    Sendings,
+    Associations, ChannelTable, Channels, Membership, Message, Messages, Noted, PathTable, Paths,
+    Resent, SeenPacket, Sendings,
 };
 use std::alloc::{AllocError, Global};
 
@@ -18,6 +18,7 @@ pub struct Tracker {
     associations: Option<Associations>,
     paths: Option<PathTable>,
     messages: Option<Messages>,
+    channels: Option<ChannelTable>,
     sendings: Sendings,
     labelled: LabelledStreams,
 }
@@ -30,6 +31,7 @@ impl Tracker {
             associations: None,
             paths: None,
             messages: None,
+            channels: None,
             sendings: Sendings::new(alloc),
             labelled: LabelledStreams::new(alloc),
         }
@@ -46,7 +48,14 @@ impl Tracker {
             (Some(paths), Some(member)) => paths.see(member, packet)?,
             _ => {}
         }
-        if self.messages.is_none() && options.messages {
+        if self.channels.is_none() && options.channels {
+            self.channels = Some(ChannelTable::new(self.alloc));
+        }
+        match (&mut self.channels, noted.of) {
+            (Some(channels), Some(member)) => channels.see(member, packet)?,
+            _ => {}
+        }
+        if self.messages.is_none() && options.follows_messages() {
             self.messages = Some(Messages::new(self.alloc));
         }
         if let Some(messages) = &mut self.messages {
@@ -125,23 +134,46 @@ impl Tracker {
         }
     }
 
-    /// Returns the messages that are over since this was asked last.
-    pub fn take_messages(&mut self) -> Vec<Message> {
-        match &mut self.messages {
-            Some(messages) => messages.take(),
-            None => Vec::new(self.alloc),
+    /// Returns the messages that are over since this was asked last, each counted of its channel.
+    pub fn take_messages(&mut self) -> Result<Vec<Message>, AllocError> {
+        let Some(messages) = &mut self.messages else {
+            return Ok(Vec::new(self.alloc));
+        };
+        let ended = messages.take();
+        if let Some(channels) = &mut self.channels {
+            for message in &ended {
+                channels.add(message)?;
+            }
         }
+        Ok(ended)
     }
 
     /// Returns the messages that are outstanding at the end of the capture, and how many DATA
     /// weren't followed.
     pub fn finish_messages(&mut self) -> Result<(Vec<Message>, u64), AllocError> {
-        match &mut self.messages {
+        let left_out = match &mut self.messages {
             Some(messages) => {
                 messages.finish()?;
-                Ok((messages.take(), messages.left_out()))
+                messages.left_out()
             }
-            None => Ok((Vec::new(self.alloc), 0)),
+            None => 0,
+        };
+        Ok((self.take_messages()?, left_out))
+    }
+
+    /// Takes the channels of an association that left the table, if they are asked for.
+    pub fn take_channels(&mut self, association: u64) -> Option<Box<Channels>> {
+        match &mut self.channels {
+            Some(channels) => channels.take(association),
+            None => None,
+        }
+    }
+
+    /// Returns the channels that are left, in the order of their associations, and keeps none.
+    pub fn finish_channels(&mut self) -> Result<Vec<Box<Channels>>, AllocError> {
+        match self.channels.take() {
+            Some(channels) => channels.into_vec(),
+            None => Ok(Vec::new(self.alloc)),
         }
     }
 

@@ -1,0 +1,256 @@
+//! A channel: the messages of a stream from when it was opened until it was reset.
+
+ghost use Rattle.std.specs.Prelude.{◌≡◌};
+ghost use Rattle.dump_analysis.specs.Channels.{nothing_sent, CountsMessage, Adds};
+
+use crate::association::Side;
+use crate::counts::increase;
+use crate::data_channel::Opened;
+use crate::message::{Fate, Message, comes_before};
+use crate::packet_number::PacketNumber;
+use crate::round_trips::RoundTrips;
+
+/// What is counted of the messages that one end sent, up to 2^64 - 1 each.
+#[derive(Clone, Debug, Drop)]
+pub struct Traffic {
+    /// Messages.
+    pub messages: u64,
+    /// Bytes of user data in them, those of repeats not counted.
+    pub bytes: u64,
+    /// How often fragments of them were sent again.
+    pub repeated: u64,
+    /// Messages that were abandoned.
+    pub abandoned: u64,
+    /// Messages that were neither acknowledged nor abandoned.
+    pub unacknowledged: u64,
+    /// The delays of those that were acknowledged.
+    pub delays: RoundTrips,
+}
+
+impl Traffic {
+    /// Returns that of an end that sent no message.
+    pub fn new() -> Traffic
+        ensures { nothing_sent result }
+    {
+        Traffic {
+            messages: 0,
+            bytes: 0,
+            repeated: 0,
+            abandoned: 0,
+            unacknowledged: 0,
+            delays: RoundTrips::new(),
+        }
+    }
+
+    /// Counts a message.
+    fn add(&mut self, message: &Message)
+        ensures { CountsMessage self.old message.now self.new }
+    {
+        increase(&mut self.messages);
+        self.bytes = self.bytes.saturating_add(message.size);
+        self.repeated = self.repeated.saturating_add(message.repeated);
+        match message.fate {
+            Fate::Acknowledged(moment) => {
+                if let Some(delay) = message.delay() {
+                    self.delays.count(delay, message.first_tsn, moment.packet);
+                }
+            }
+            Fate::Abandoned { .. } => increase(&mut self.abandoned),
+            Fate::Unacknowledged => increase(&mut self.unacknowledged),
+        }
+    }
+}
+
+/// What is counted of the messages of both ends.
+#[derive(Clone, Debug, Drop)]
+pub struct Tally {
+    /// Those that the first end sent.
+    pub first: Traffic,
+    /// Those that the second end sent.
+    pub second: Traffic,
+}
+
+impl Tally {
+    /// Returns that of no message.
+    pub fn new() -> Tally
+        ensures first { nothing_sent result.first }
+        ensures second { nothing_sent result.second }
+    {
+        Tally {
+            first: Traffic::new(),
+            second: Traffic::new(),
+        }
+    }
+
+    /// Counts a message of the end that sent it.
+    pub fn add(&mut self, message: &Message)
+        ensures { Adds self.old message.now self.new }
+    {
+        match message.sender {
+            Side::First => self.first.add(message),
+            Side::Second => self.second.add(message),
+        }
+    }
+}
+
+/// The last request of one end to reset a stream (RFC 6525 section 4.1), and its response.
+#[derive(Clone, Copy, Debug)]
+pub struct Reset {
+    /// The Re-configuration Request Sequence Number.
+    pub number: u32,
+    /// The first packet that had it.
+    pub packet: PacketNumber,
+    /// The result in the response to it (section 4.4), and the response's packet.
+    pub result: Option<(u32, PacketNumber)>,
+}
+
+impl Reset {
+    /// Returns the packet from which on the stream is reset: that of a response of success.
+    pub fn performed(&self) -> Option<PacketNumber> {
+        match self.result {
+            Some((0 | 1, packet)) => Some(packet),
+            _ => None,
+        }
+    }
+}
+
+/// A channel: a stream, both ways, from its DATA_CHANNEL_OPEN (RFC 8832) on; or where none was
+/// seen, what a stream has of one payload protocol. It ends by a reset of the stream, each way by
+/// itself, or by the next DATA_CHANNEL_OPEN.
+#[derive(Clone, Debug, Drop)]
+pub struct Channel {
+    /// The stream.
+    pub stream: u16,
+    /// The payload protocol identifier, of a channel without a DATA_CHANNEL_OPEN, if it is known.
+    pub ppid: Option<u32>,
+    /// How it was opened, if that was seen.
+    pub opened: Option<Opened>,
+    /// The reset of what the first end sends.
+    pub first_reset: Option<Reset>,
+    /// The reset of what the second end sends.
+    pub second_reset: Option<Reset>,
+    /// The packet that opened the stream anew without a reset before.
+    pub replaced: Option<PacketNumber>,
+    /// Whether a filter passes a packet with a fragment of one of its messages.
+    pub passes: bool,
+    /// Its messages.
+    pub tally: Tally,
+}
+
+impl Channel {
+    /// Returns a channel without messages.
+    pub fn new(stream: u16, ppid: Option<u32>, opened: Option<Opened>) -> Channel
+        ensures first { nothing_sent result.tally.first }
+        ensures second { nothing_sent result.tally.second }
+    {
+        Channel {
+            stream,
+            ppid,
+            opened,
+            first_reset: None,
+            second_reset: None,
+            replaced: None,
+            passes: false,
+            tally: Tally::new(),
+        }
+    }
+
+    /// Returns the reset of what an end sends.
+    pub fn reset(&self, side: Side) -> &Option<Reset> {
+        match side {
+            Side::First => &self.first_reset,
+            Side::Second => &self.second_reset,
+        }
+    }
+
+    /// Returns whether a message is of this channel, if it is of none before it.
+    pub fn has(&self, message: &Message) -> bool {
+        self.stream == message.key.stream
+            && (self.opened.is_some() || self.ppid == message.ppid)
+            && !self.is_over(message.sender, message.sent.packet)
+    }
+
+    /// Returns whether what an end sends in a packet is no longer of this channel.
+    pub fn is_over(&self, side: Side, packet: PacketNumber) -> bool {
+        let reset = match self.reset(side) {
+            Some(reset) => reset.performed(),
+            None => None,
+        };
+        is_from(packet, reset) || is_from(packet, self.replaced)
+    }
+
+    /// Returns whether a DATA_CHANNEL_OPEN on the stream is one of this channel: that which opened
+    /// it, or one of the other end while it lives, which is noted.
+    pub fn knows(&mut self, other: &Opened) -> bool
+        ensures { self.new.tally ≡ self.old.tally }
+    {
+        let is_over = self.is_over(other.by, other.sent.packet);
+        let Some(opened) = &mut self.opened else {
+            return false;
+        };
+        if opened.by == other.by {
+            return opened.tsn == other.tsn;
+        }
+        if opened.crossed.is_none() && !is_over {
+            opened.crossed = Some(other.tsn);
+        }
+        opened.crossed == Some(other.tsn)
+    }
+
+    /// Notes that the stream is opened anew in a packet.
+    pub fn replace(&mut self, packet: PacketNumber)
+        ensures { self.new.tally ≡ self.old.tally }
+    {
+        if self.replaced.is_none() {
+            self.replaced = Some(packet);
+        }
+    }
+
+    /// Notes a request of an end to reset the stream.
+    pub fn ask(&mut self, side: Side, number: u32, packet: PacketNumber)
+        ensures { self.new.tally ≡ self.old.tally }
+    {
+        if self.is_over(side, packet) {
+            return;
+        }
+        let reset = match side {
+            Side::First => &mut self.first_reset,
+            Side::Second => &mut self.second_reset,
+        };
+        if reset.is_some_and(|reset| reset.number == number) {
+            return;
+        }
+        *reset = Some(Reset {
+            number,
+            packet,
+            result: None,
+        });
+    }
+
+    /// Notes the response to a request of an end, with the code of its result.
+    pub fn answer(&mut self, side: Side, number: u32, code: u32, packet: PacketNumber)
+        ensures { self.new.tally ≡ self.old.tally }
+    {
+        let slot = match side {
+            Side::First => &mut self.first_reset,
+            Side::Second => &mut self.second_reset,
+        };
+        let Some(reset) = *slot else {
+            return;
+        };
+        if reset.number == number && reset.performed().is_none() {
+            *slot = Some(Reset {
+                result: Some((code, packet)),
+                ..reset
+            });
+        }
+    }
+}
+
+/// Returns whether a packet is another one, if there is one, or comes after it.
+fn is_from(packet: PacketNumber, other: Option<PacketNumber>) -> bool {
+    match other {
+        Some(other) => !comes_before(packet, other),
+        None => false,
+    }
+}
