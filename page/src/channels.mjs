@@ -1,5 +1,6 @@
 // SPDX-License-Identifier: Apache-2.0
 // The data channels as a table.
+import { durationText } from './scale.mjs';
 import { addresses, bytes, column, packetLink, place, Table } from './table.mjs';
 import { byId, counted, targetOf } from './text.mjs';
 import { CHANNEL_MEANINGS } from './words.mjs';
@@ -41,6 +42,9 @@ const COLUMNS_OF_CHANNELS = [
   column('Messages', it => it.messages),
   column('Bytes', it => it.bytes, bytes),
   column('Sent again', it => it.repeated),
+  column('Abandoned', it => it.abandoned),
+  ['Longest', 'amount', ({ ends }) => linesOf(ends.map(({ longest }) => longest && packetLink(longest, durationText(Math.round(longest.delay * 1e9))))),
+    ({ ends }) => ends.map(it => it.longest?.delay).filter(it => it !== undefined).sort((a, b) => b - a)[0]],
   ['Closed', '', ({ ends }) => linesOf(ends.map(resetLine).filter(it => it)), ({ ends }) => place(ends.find(it => it.reset)?.reset)],
 ];
 

@@ -13,9 +13,9 @@ const fields = new Fields();
 /** What was chosen last, and what is drawn, with times by which clock. */
 let wanted = {}, drawn = {};
 
-/** Reads the line of what is chosen, and shows it: in the views of associations and channels one of these, or else a packet. */
-async function read({ store, view, row, association, channel }) {
-  const chosen = view === 'associations' ? association : view === 'channels' ? channel : row, own = { store, chosen };
+/** Reads the line of what is chosen, and shows it: in the views of associations, channels and messages one of these, or else a packet. */
+async function read({ store, view, row, association, channel, message }) {
+  const chosen = view === 'associations' ? association : view === 'channels' ? channel : view === 'messages' ? message : row, own = { store, chosen };
   const isRow = chosen !== undefined && chosen === row;
   if (wanted.store === store && wanted.chosen === chosen)
     return;
@@ -31,7 +31,7 @@ watch(it => { read(it); });
 /** What an object is called: by its kind and number.
     @param {Record<string, any>} object */
 function titleOf(object) {
-  const kind = ['packet', 'record', 'line', 'file', 'channel', 'association'].find(it => object[it] !== undefined);
+  const kind = ['packet', 'record', 'line', 'file', 'channel', 'message', 'association'].find(it => object[it] !== undefined);
   return kind ? `${kind[0].toUpperCase()}${kind.slice(1)} ${textOf(object[kind], 60)}` : '';
 }
 

@@ -3,6 +3,7 @@
 // near those in view are in the document.
 import { isNumber, KINDS } from './keys.mjs';
 import { chunksLabel, doubtsOf, fitted, groupOfRow } from './labels.mjs';
+import { Graph } from './graph.mjs';
 import { endText, marksOf } from './list.mjs';
 import { Overview } from './overview.mjs';
 import { BAND, common, durationText, lastAt, LEAST, longOf, placesOf, rateOf, ROW, stepWithin } from './scale.mjs';
@@ -89,6 +90,7 @@ class Diagram {
     this.box = byId('drawing');
     this.select = select;
     this.clear = clear;
+    this.graph = new Graph(select);
     this.overview = new Overview(part => this.selectAt(lastAt(this.places, part * this.height - TOP)));
     for (const [id, to] of Object.entries({
       first: () => this.scrollTo(0), earlier: () => this.scrollTo(this.offset - this.view),
@@ -163,6 +165,7 @@ class Diagram {
     this.long = longOf(this.gaps);
     const hidden = this.all.length - this.rows.length, all = counted(this.all.length, 'packet');
     byId('part').textContent = hidden ? `${this.rows.length.toLocaleString('en')} of ${all}: the filter hides ${hidden.toLocaleString('en')}` : all;
+    this.graph.show({ store: this.store, all: this.all, rows: this.rows, senderOf: this.senderOf, repeats: row => this.repeats(row) });
     this.arrange();
   }
 
@@ -171,6 +174,7 @@ class Diagram {
     this.current = this.at(this.row) < 0 ? undefined : this.row;
     this.reveal();
     this.mark();
+    this.graph.mark(this.current);
     this.tie();
   }
 

@@ -3,11 +3,11 @@
 // fields knows none: it shows each key as it comes, and `KEY@` as its place.
 import { CHUNK_GROUPS } from './registry.mjs';
 
-export { WORDS, KINDS, FLAGS, MOST_TEXT, COLUMNS, OF_DAY, groupOf, isData, isText, isNumber, isObject, parsed, isAssociation, isSummary };
+export { WORDS, KINDS, FLAGS, MOST_TEXT, COLUMNS, OF_DAY, groupOf, isData, isText, isNumber, isObject, parsed, isAssociation, isSummary, isNotFollowed };
 export { Rows, pairsOf, associationOf, skippedText };
 
-/** The program's words: a line of JSON for each packet, with places, broken rules and associations. */
-const WORDS = ['--json', '--places', '--check', '--associations'];
+/** The program's words: a line of JSON for each packet, with places, broken rules, associations and messages. */
+const WORDS = ['--json', '--places', '--check', '--associations', '--messages'];
 
 /** The kinds of lines that become rows. */
 const KINDS = ['accepted', 'refused', 'cut', 'skipped', 'file'];
@@ -82,13 +82,17 @@ const isAssociation = it => isObject(it) && isNumber(it.association) && it.assoc
     @type {(it: any) => it is Summary} */
 const isSummary = it => isObject(it) && isNumber(it.packets) && mayBeNumber(it.skipped);
 
-const TIME = /"time":(-?[\d.]+)/, TIMES = new RegExp(TIME, 'g');
+/** Whether an object says how many DATA chunks are followed in no message.
+    @type {(it: any) => it is { data_not_followed: number }} */
+const isNotFollowed = it => isObject(it) && isNumber(it.data_not_followed);
+
+const TIME = /"time":(-?[\d.]+)/, TIMES = new RegExp(TIME, 'g'), TIMES_OF_MESSAGE = /"(sent|acknowledged)":(-?[\d.]+)/g;
 
 /** The object of a line, in which a time stays the text of its digits: a double hasn't enough for nanoseconds.
     @param {string} line */
 function parsed(line) {
   if (!line.startsWith('{"packet"'))
-    return JSON.parse(line.replace(TIMES, '"time":"$1"'));
+    return JSON.parse(line.startsWith('{"message_of"') ? line.replace(TIMES_OF_MESSAGE, '"$1":"$2"') : line.replace(TIMES, '"time":"$1"'));
   // (a packet has one time: its line, which can be long, isn't copied)
   const packet = JSON.parse(line);
   if (typeof packet.time === 'number')

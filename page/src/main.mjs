@@ -3,6 +3,7 @@
 import { openLink } from './opening.mjs';
 import { change } from './state.mjs';
 import './details.mjs';
+import './carried.mjs';
 import './filtering.mjs';
 import './missing.mjs';
 import './packets.mjs';

@@ -28,7 +28,7 @@ async function open(files) {
   change({
     isOffered: false, problem: '', worker, seconds: undefined, store: new Store(), name: shown(files.map(it => it.name).join(', '), 100),
     size: files.reduce((sum, it) => sum + it.size, 0), view: 'packets', filterText: '', saved: '', row: undefined, association: undefined,
-    channel: undefined, shown: NOTHING,
+    channel: undefined, message: undefined, shown: NOTHING,
   });
   const isCurrent = () => worker === state.worker;
   /** @type {(result: Result) => void} */
@@ -61,7 +61,8 @@ function finish(result, seconds) {
   const { worker, store, view } = state;
   worker?.terminate();
   store.finish(result, result === undefined);
-  change({ worker: undefined, seconds, association: store.associations[0], channel: store.channels[0], view: store.packets ? view : 'packets' });
+  change({ worker: undefined, seconds, association: store.associations[0], channel: store.channels[0],
+    message: store.messages[0], view: store.packets ? view : 'packets' });
   if (!store.packets)
     byId('answer').focus();
   document.body.dataset.done = String(performance.now());

@@ -36,7 +36,8 @@ const state = {
   row: undefined,
   association: undefined,
   channel: undefined,
-  /** Whose fields are shown: the object of a row's line, or an association or a channel, which has no row. */
+  message: undefined,
+  /** Whose fields are shown: the object of a row's line, or an association, a channel or a message, which has no row. */
   shown: NOTHING,
   /** What was saved, in words. */
   saved: '',

@@ -1,6 +1,6 @@
 // SPDX-License-Identifier: Apache-2.0
 // What was read: a row of numbers for each line, and the lines themselves, packed, in Blobs, which the browser may keep on disk.
-import { associationOf, COLUMNS, FLAGS, isAssociation, isSummary, KINDS, OF_DAY, pairsOf, parsed } from './keys.mjs';
+import { associationOf, COLUMNS, FLAGS, isAssociation, isNotFollowed, isSummary, KINDS, OF_DAY, pairsOf, parsed } from './keys.mjs';
 import { lineIn, uncompressed } from './packed.mjs';
 
 export { Store };
@@ -50,6 +50,11 @@ class Store {
       @type {Channel[]} */
   channels = [];
   unlisted = 0;
+  /** User messages, how many there are and what became of them, and how many DATA chunks are of none.
+      @type {Message[]} */
+  messages = [];
+  fates = { all: 0, kept: 0, acknowledged: 0, abandoned: 0, repeated: 0 };
+  unfollowed = 0;
   /** The first row that has a time.
       @type {number | undefined} */
   first;
@@ -69,7 +74,7 @@ class Store {
 
   /** Adds what the Worker posted.
       @param {Batch} batch */
-  add({ lines, columns, objects, read, flows, summaries, notes, texts, channels, unlisted }) {
+  add({ lines, columns, objects, read, flows, summaries, notes, texts, channels, unlisted, messages, fates }) {
     const more = columns.kind.length;
     for (const [name, column] of Object.entries(this.columns)) {
       if (column.length < this.count + more) {
@@ -90,11 +95,15 @@ class Store {
     for (const it of channels)
       this.channels[it.channel - 1] = it;
     this.unlisted = unlisted;
+    messages.forEach(it => this.messages.push(it));
+    this.fates = fates;
     for (const it of objects) {
       if (isAssociation(it))
         this.associations.push(it);
       else if (isSummary(it))
         this.summary = it;
+      else if (isNotFollowed(it))
+        this.unfollowed = it.data_not_followed;
     }
     columns.kind.forEach((it, i) => {
       this.kinds[it]++;
@@ -261,7 +270,18 @@ class Store {
       @param {string | undefined} file */
   rowOf(packet, file) {
     const { number, file: files } = this.columns, wanted = this.files.get(file) ?? 0;
-    return number.findIndex((it, row) => it === packet && row < this.count && this.isPacket(row) && files[row] === wanted);
+    const isIt = row => number[row] === packet && row < this.count && this.isPacket(row) && files[row] === wanted;
+    const isBefore = row => files[row] < wanted || files[row] === wanted && number[row] < packet;
+    let [least, most] = [0, this.count];
+    while (least < most) {
+      const middle = least + most >> 1;
+      if (isBefore(middle))
+        least = middle + 1;
+      else
+        most = middle;
+    }
+    // (lines of a text that were skipped have other numbers than packets)
+    return isIt(least) ? least : number.findIndex((it, row) => isIt(row));
   }
 
   /** Nanoseconds since the first row that has a time, or undefined.

@@ -82,10 +82,22 @@ class Streams {
     if (!this.associations.has(association))
       this.associations.set(association, { channels: new Map(), requests: [[], []] });
     const sides = direction === undefined ? [] : (direction === 'outgoing') === (end === 0) ? ['local', 'remote'] : ['remote', 'local'];
-    const ends = [0, 1].map(it => ({ ...sides[it] && { side: sides[it] }, messages: 0, bytes: 0, repeated: 0 }));
+    const ends = [0, 1].map(it => ({ ...sides[it] && { side: sides[it] }, messages: 0, bytes: 0, repeated: 0, abandoned: 0 }));
     const channel = { channel: ++this.count, association, stream, payload: [], ends };
     this.associations.get(association).channels.set(stream, channel);
     return channel;
+  }
+
+  /** Takes what became of a message: how many were abandoned, and which took longest until it was acknowledged.
+      @param {Message} message */
+  addMessage({ message_of, end, stream, ppid, delay, abandoned_packet, sent_packet, sent_file }) {
+    const channel = this.associations.get(message_of)?.channels.get(stream), own = channel?.ends[end];
+    if (!own || ppid === DCEP)
+      return;
+    own.abandoned += abandoned_packet === undefined ? 0 : 1;
+    if (typeof delay === 'number' && !(own.longest?.delay >= delay))
+      own.longest = { delay, packet: sent_packet, ...sent_file !== undefined && { file: sent_file } };
+    this.changed.add(channel);
   }
 
   /** A parameter of RE-CONFIG: a request to reset the streams that its end sends on, or the response to one. */

@@ -116,6 +116,44 @@ interface ChannelEnd {
   messages: number;
   bytes: number;
   repeated: number;
+  abandoned: number;
+  longest?: AssociationEvent & { delay: number };
+  [key: string]: unknown;
+}
+
+/** A user message, as the program says what became of it; `message` is its number. */
+interface Message {
+  message: number;
+  message_of: number;
+  end: 0 | 1;
+  stream: number;
+  ssn?: number;
+  mid?: number;
+  unordered?: boolean;
+  ppid?: number;
+  ppid_name?: string;
+  size: number;
+  fragments: number;
+  first_tsn: number;
+  last_tsn: number;
+  sent_packet: number;
+  sent_file?: string;
+  acknowledged_packet?: number;
+  acknowledged_file?: string;
+  abandoned_by?: string;
+  abandoned_packet?: number;
+  abandoned_file?: string;
+  delay?: number;
+  repeated?: number;
+  first_repeated_tsn?: number;
+  repeated_after?: number;
+  changed_tsn?: number;
+  missing?: number;
+  first_missing_tsn?: number;
+  first_missing_fsn?: number;
+  waited_for_tsn?: number;
+  closed_first?: number;
+  closed_last?: number;
   [key: string]: unknown;
 }
 
@@ -188,6 +226,8 @@ interface Batch {
   texts: string[];
   channels: Channel[];
   unlisted: number;
+  messages: Message[];
+  fates: import('./store.mjs').Store['fates'];
 }
 
 /** The size of what it unpacked. */
@@ -203,7 +243,7 @@ interface Result {
 
 // ---- the state
 
-type View = 'packets' | 'associations' | 'channels' | 'diagram';
+type View = 'packets' | 'associations' | 'channels' | 'messages' | 'diagram';
 
 interface State {
   isOffered: boolean;
@@ -221,7 +261,8 @@ interface State {
   row: number | undefined;
   association: Association | undefined;
   channel: Channel | undefined;
-  shown: { object: Line | Association | Channel | Record<string, never>; row?: number };
+  message: Message | undefined;
+  shown: { object: Line | Association | Channel | Message | Record<string, never>; row?: number };
   saved: string;
 }
 
@@ -264,6 +305,7 @@ interface Parts {
   'filter': HTMLInputElement;
   'first': HTMLButtonElement;
   'go-to': HTMLInputElement;
+  'graph': HTMLElement & SVGElement;
   'last': HTMLButtonElement;
   'later': HTMLButtonElement;
   'options': HTMLDetailsElement;

@@ -1,9 +1,11 @@
 // SPDX-License-Identifier: Apache-2.0
 // The start, or else one of the views of what is open, each with its tab.
 import { Associations } from './associations.mjs';
+import { openMessage } from './carried.mjs';
 import { channelFilter, Channels } from './channels.mjs';
 import { Diagram } from './diagram.mjs';
 import { filterBy } from './filtering.mjs';
+import { Messages } from './messages.mjs';
 import { common } from './scale.mjs';
 import { addSplit } from './split.mjs';
 import { change, state, watch } from './state.mjs';
@@ -13,7 +15,7 @@ import { byId } from './text.mjs';
 export { select };
 
 /** @type {View[]} */
-const VIEWS = ['packets', 'associations', 'channels', 'diagram'];
+const VIEWS = ['packets', 'associations', 'channels', 'messages', 'diagram'];
 
 /** Shows a view; the diagram is that of the chosen packet.
     @param {View} view */
@@ -41,9 +43,11 @@ function goTo({ packet, file }) {
 
 const associations = new Associations({ select: association => change({ association }), open: draw, go: goTo });
 const channels = new Channels({ select: channel => change({ channel }), open: it => filterBy(channelFilter(it)), go: goTo });
+const messages = new Messages({ select: message => change({ message }), open: openMessage, go: goTo });
 const diagram = new Diagram({ select: row => change({ row }), open: draw, clear: () => filterBy('') });
 watch(it => associations.render(it));
 watch(it => channels.render(it));
+watch(it => messages.render(it));
 // (there the packet before is the arrow above)
 watch(it => diagram.render(it.clock === 'previous' ? { ...it, clock: 'since' } : it));
 
@@ -62,7 +66,7 @@ watch(({ isOffered, store, view, passed, filterText }) => {
     byId(`tab-${it}`).setAttribute('aria-selected', it === view);
     byId(`tab-${it}`).tabIndex = it === view ? 0 : -1;
   }
-  for (const it of ['associations', 'channels', 'diagram'])
+  for (const it of ['associations', 'channels', 'messages', 'diagram'])
     byId(`tab-${it}`).hidden = isNone;
   byId('filters').hidden = !['packets', 'diagram'].includes(view);
   byId('saves').hidden = view === 'diagram';

@@ -3,7 +3,7 @@
 import { line, shape } from './shapes.mjs';
 import { element } from './text.mjs';
 
-export { MEANINGS, COLUMN_MEANINGS, CHANNEL_MEANINGS, fieldName, legend };
+export { MEANINGS, COLUMN_MEANINGS, CHANNEL_MEANINGS, MESSAGE_MEANINGS, fieldName, legend };
 
 /** What a packet can have, by the word of the filter. */
 const MEANINGS = {
@@ -48,7 +48,24 @@ const CHANNEL_MEANINGS = {
   'Messages': 'Messages whose last fragment each end sent, without those of DCEP; what was sent again counts once.',
   'Bytes': 'Bytes of user data in them.',
   'Sent again': 'DATA whose TSN the end had sent before.',
+  'Abandoned': 'Messages that a FORWARD-TSN skipped.',
+  'Longest': 'The longest time from the first sending of a message until it was acknowledged; a click goes to that packet.',
   'Closed': 'The packet in which each end resets its stream by RE-CONFIG, and the other end’s response.',
+};
+
+/** What a column of the table of messages says. */
+const MESSAGE_MEANINGS = {
+  'No.': 'Messages are numbered as they are acknowledged or abandoned.',
+  'Association': 'The association’s number.',
+  'From': 'The end that sent it, with its first address and port.',
+  'Stream': 'The stream; the Stream Sequence Number of DATA, the Message Identifier of I-DATA.',
+  'Payload': 'Its payload protocol.',
+  'Size': 'Bytes of user data, of the fragments that were seen.',
+  'TSN': 'The TSNs of its first and its last fragment.',
+  'Sent': 'The packet with its first fragment, and seconds since the first packet.',
+  'Fate': 'The packet that acknowledged all of its fragments, or the FORWARD-TSN by which it was abandoned.',
+  'Delay': 'From the first sending of its first fragment until it was acknowledged.',
+  'Remarks': 'Why it took that long, or what of it wasn’t seen.',
 };
 
 /** Fields by the lists that they are in and by their keys: what the RFCs call them. What is called so by its key has no name here. */

@@ -1,6 +1,7 @@
 // SPDX-License-Identifier: Apache-2.0
 // The Worker: runs the program over the inputs, and posts what it prints, in batches: a Blob of whole lines, packed, and a row
 // for each. A Worker that is stopped loses nothing that it posted.
+import { Fates, isMessage } from './fates.mjs';
 import { COLUMNS, parsed, Rows } from './keys.mjs';
 import { compressed, packInto } from './packed.mjs';
 import { run } from './program.mjs';
@@ -64,6 +65,7 @@ class Output {
   texts = [];
   rows = new Rows();
   streams = new Streams();
+  fates = new Fates();
   batch = 0;
   read = 0;
   last = performance.now();
@@ -116,8 +118,12 @@ class Output {
     }
     const row = this.rows.row(object);
     if (!row) {
-      if (object)
+      if (isMessage(object)) {
+        this.fates.add(object);
+        this.streams.addMessage(object);
+      } else if (object) {
         this.objects.push(object);
+      }
       return;
     }
     if (row.association)
@@ -134,11 +140,11 @@ class Output {
     this.last = performance.now();
     /** @type {Columns} */
     const columns = /** @type {any} */ (Object.fromEntries(Object.entries(COLUMNS).map(([name, type]) => [name, type.from(this.columns[name])])));
-    const { flows, summaries, notes } = this.rows, { streams } = this;
+    const { flows, summaries, notes } = this.rows, { streams, fates } = this;
     postMessage({
       lines: new Blob([compressed(this.packed.subarray(0, this.done))]), columns, objects: this.objects, read: this.read,
       flows: flows.take(), summaries: summaries.take(), notes: notes.take(),
-      texts: this.texts, channels: streams.take(), unlisted: streams.unlisted,
+      texts: this.texts, channels: streams.take(), unlisted: streams.unlisted, messages: fates.take(), fates: fates.counts,
     }, Object.values(columns).map(it => it.buffer));
     this.batch++;
     this.clear();

@@ -357,7 +357,7 @@ export async function tryFace({ browser, check, url, file, html }) {
     assert.ok(tops.length > 6 && Math.max(...tops) - Math.min(...tops) < 12, `${tops}`);
     assert.deepEqual(await ask(`(${small})(24)`), []);
     await browser.press('Tab');
-    for (const tab of ['diagram', 'channels', 'associations', 'packets']) {
+    for (const tab of ['diagram', 'messages', 'channels', 'associations', 'packets']) {
       await ask(`document.getElementById('tab-${tab}').click()`);
       assert.deepEqual(await ask(`(${lostRings})()`), [], tab);
     }
@@ -381,7 +381,7 @@ export async function tryFace({ browser, check, url, file, html }) {
     assert.equal(await by('.pointed', 'checkVisibility()'), false);
     assert.deepEqual(await ask(`(${small})(44)`), []);
     await showExample();
-    for (const tab of ['diagram', 'channels', 'associations', 'packets']) {
+    for (const tab of ['diagram', 'messages', 'channels', 'associations', 'packets']) {
       await browser.click(`#tab-${tab}`);
       await wait(100);
       assert.deepEqual(await ask(`(${small})(44)`), [], tab);

@@ -219,8 +219,8 @@ async function inBrowser(browser) {
     for (const [name, [content, said]] of Object.entries(answers)) {
       await show(file(name, content));
       assert.match(await answer(), said, name);
-      const seen = await browser.ask(all('#list, #heads, #details, #tools, #tab-diagram', 'it.checkVisibility()'));
-      assert.deepEqual(seen, Array(5).fill(false), name);
+      const seen = await browser.ask(all('#list, #heads, #details, #tools, #tab-messages, #tab-diagram', 'it.checkVisibility()'));
+      assert.deepEqual(seen, Array(6).fill(false), name);
       assert.match(await browser.ask(by('#status')), /^0 packets, read in/, name);
       assert.equal(await browser.ask('document.activeElement.id'), 'answer');
     }
@@ -832,8 +832,8 @@ async function inBrowser(browser) {
     await browser.click('#tab-channels');
     const ends = '192.0.2.10:49152 / 198.51.100.7:5000';
     const channels = [
-      ['1', '0', 'chat / ', 'WebRTC String', 'reliable ordered', ends, 'OPEN 5 / ACK 6', '6 / 1', '60 B / 3 B', '1 / 1', '–'],
-      ['1', '1', '– / ', 'WebRTC Binary', '–', ends, '–', '1 / 0', '200 B / 0 B', '0 / 0', 'first end: reset 25, 26: Performed'],
+      ['1', '0', 'chat / ', 'WebRTC String', 'reliable ordered', ends, 'OPEN 5 / ACK 6', '6 / 1', '60 B / 3 B', '1 / 1', '0 / 0', '222 ms / 683 ms', '–'],
+      ['1', '1', '– / ', 'WebRTC Binary', '–', ends, '–', '1 / 0', '200 B / 0 B', '0 / 0', '0 / 0', '21 ms / –', 'first end: reset 25, 26: Performed'],
     ];
     assert.deepEqual(await cells(), channels);
     await browser.click('#channel-heads span:nth-child(9) button');
@@ -850,9 +850,121 @@ async function inBrowser(browser) {
     await filtered('association:1 stream:1');
     assert.equal(await browser.ask(by('#found')), '2 of 29 rows');
     await browser.click('#tab-channels');
-    await browser.click('#channel-rows [data-index="1"]');
+    await browser.click('#channel-rows [data-index="1"] > :nth-child(2)');
     await filtered('association:1 stream:0');
     assert.equal(await browser.ask(by('#found')), '10 of 29 rows');
+    quiet();
+  });
+
+  await check('messages, and their packets', async () => {
+    const cells = () => browser.ask(`${all('#message-rows .row', 'it')}.sort((a, b) => a.dataset.index - b.dataset.index)
+      .map(row => Array.from(row.children, it => Array.from(it.children, line => line.textContent).join(' / ')))`);
+    const said = () => browser.ask(by('#messages-said')), focused = () => browser.ask('document.activeElement.id');
+    const filtered = async text => assert.equal(await browser.ask(by('#filter', 'value')), text);
+    // (tests/dump/runs.txt has what of each became, as tests/dump/messages.py finds it by tshark)
+    const [, sent] = /# ---- messages\n[^$]*\$ sctp_dump --messages\n((?:< .*\n)+)/.exec(readFileSync(new URL('../../tests/dump/runs.txt', import.meta.url), 'utf8'));
+    await show(file('messages.txt', sent.replace(/^< /gm, '')));
+    await browser.click('#tab-messages');
+    assert.equal(await said(), '4 messages: 3 acknowledged, 1 abandoned, 1 sent again.');
+    const [string, end] = ['WebRTC String', 'first end / 5000'];
+    assert.deepEqual(await cells(), [
+      ['1', '1', end, '1 / ssn 1', string, '1 B', '103 / 1 fragment', 'in 4', 'acknowledged / in 5', '–', 'waited for TSN 101 of its stream'],
+      ['2', '1', end, '1 / ssn 0', string, '3 B', '100–102 / 3 fragments', 'in 1', 'acknowledged / in 7', '–',
+        'TSN 101 sent again; TSN 101 sent again with other bytes / peer’s window was 0 in 5'],
+      ['3', '1', end, '2 / ssn 0', string, '1 B', '104 / 1 fragment', 'in 8', 'acknowledged / in 10', '–', 'end not seen'],
+      ['4', '1', end, '2 / ssn 1', string, '1 B', '106 / 1 fragment', 'in 9', 'abandoned / in 11', '–', ''],
+    ]);
+    // By keys: to the tab, into the table, to a message's packets, and by what is said of one of these back.
+    await browser.ask("document.getElementById('tab-channels').focus()");
+    await browser.press('ArrowRight');
+    assert.equal(await focused(), 'tab-messages');
+    assert.deepEqual(await browser.ask(all('[role=tab]', "it.getAttribute('aria-selected') + ' ' + it.tabIndex")), [...Array(3).fill('false -1'), 'true 0', 'false -1']);
+    await browser.ask("document.getElementById('message-rows').focus()");
+    await browser.press('ArrowDown');
+    await titled('Message 2');
+    assert.equal(await browser.ask("document.getElementById(document.getElementById('message-rows').getAttribute('aria-activedescendant')).getAttribute('aria-selected')"), 'true');
+    await browser.press('Enter');
+    await titled('Packet 1');
+    await filtered('association:1 packet:1-3,6-7');
+    assert.equal(await browser.ask(by('#found')), '5 of 11 rows');
+    assert.equal(await focused(), 'list');
+    await browser.press('End');
+    await titled('Packet 7');
+    assert.equal(await browser.ask(by('#messages-of')), 'of message 2');
+    assert.equal(await browser.ask(by('#messages-of .link', 'ariaLabel')), 'message 2: stream 1, ssn 0, 3 bytes');
+    await browser.ask(by('#messages-of .link', 'focus()'));
+    await browser.press('Enter');
+    await titled('Message 2');
+    assert.equal(await focused(), 'message-rows');
+    await browser.click('#message-rows [data-index="3"]');
+    await titled('Message 4');
+    await browser.click('#show-message');
+    await titled('Packet 9');
+    await filtered('association:1 packet:9,11');
+    await browser.click('#back');
+    await titled('Message 4');
+    await browser.click('#message-rows [data-index="3"] .link');
+    await titled('Packet 9');
+    await filtered('association:1 packet:9,11');
+    await filter('');
+    assert.equal(await browser.ask(by('#back', 'checkVisibility()')), false);
+    // No message: without user data, and where the lines don't say what became of it.
+    await show(file('none.txt', '138813880102030400000000 0b000004'));
+    await browser.click('#tab-messages');
+    assert.deepEqual([await said(), await cells()], ['No packet with user data was read.', []]);
+    await show(file('untold.json', lines(example).filter(it => !it.message_of).map(it => `${JSON.stringify(it)}\n`).join('')));
+    await browser.click('#tab-messages');
+    assert.deepEqual([await said(), await cells()], ['These lines hold no messages. sctp_dump prints what became of each with --messages.', []]);
+    // Of thousands some rows are in the document, and of very many some messages are kept; what is said is text.
+    const of = (i, its) => JSON.stringify({ message_of: 1, end: 0, stream: i, ssn: 0, unordered: false, ppid: 51, ppid_name: '<img src=x onerror=hacked=1>\u202e\0', size: 1,
+      fragments: 1, first_tsn: i, last_tsn: i, sent_packet: i + 1, acknowledged_packet: i + 2, ...its });
+    const rows = Array.from({ length: 12000 }, (_, i) => of(i)), [first] = lines(example).filter(it => it.packet);
+    await show(file('many.json', [JSON.stringify(first), ...rows, of(5, { repeated: 1, first_repeated_tsn: 5 })].join('\n')));
+    await browser.click('#tab-messages');
+    assert.equal(await said(), '12,001 messages: 12,001 acknowledged, 1 sent again. 10,001 of them are listed: the first of those ' +
+      'that were acknowledged without more to say, and the first of the others.');
+    await browser.ask("document.getElementById('message-rows').focus()");
+    await browser.press('End');
+    await wait(100);
+    const drawn = await cells();
+    assert.ok(drawn.length < 60 && drawn.at(-1)[0] === '12001', `${drawn.length} ${drawn.at(-1)}`);
+    assert.equal(drawn.at(-1)[4], '<img src=x onerror=hacked=1>\\u202e\\u0000');
+    assert.equal(await browser.ask('typeof hacked + document.querySelectorAll("#messages img").length'), 'undefined0');
+    quiet();
+  });
+
+  await check('the graph of TSNs', async () => {
+    await show(fileURLToPath(new URL('../sample.pcap', import.meta.url)));
+    await browser.click('#tab-diagram');
+    const label = () => browser.ask(by('#graph', "getAttribute('aria-label')"));
+    await browser.until("document.querySelector('#graph .sent')");
+    // (as sample.mjs made it)
+    assert.equal(await label(), 'TSN over time. First end: 8 TSNs sent, 1000 to 1007, 1 sent again, acknowledged to 1007, 2 gap blocks. ' +
+      'Second end: 2 TSNs sent, 7000 to 7001, 1 sent again, acknowledged to 7001. Over 3.08 s.');
+    const marks = await browser.ask(all('#graph path', "it.getAttribute('class') + ' ' + (it.getAttribute('d').split('M').length - 1)"));
+    assert.deepEqual(marks.slice(-4), ['acked 2', 'gaps 2', 'sent 10', 'again 2']);
+    // The chosen packet is a line; a click chooses the nearest packet.
+    const cursor = () => browser.ask(by('#graph .cursor', "getAttribute('x1')")).then(Number);
+    await browser.ask("document.getElementById('drawing').focus()");
+    await browser.press('Home');
+    await titled('Packet 1');
+    const first = await cursor();
+    await browser.press('End');
+    await titled('Packet 29');
+    assert.ok(await cursor() > first + 300, `${first} ${await cursor()}`);
+    const at = await browser.ask(`(it => ({ x: it.left + ${first} + 2, y: it.bottom - 24 }))(document.getElementById('graph').getBoundingClientRect())`);
+    for (const type of ['mousePressed', 'mouseReleased'])
+      await browser.send('Input.dispatchMouseEvent', { type, ...at, button: 'left', clickCount: 1 });
+    await titled('Packet 6');
+    // It shows what the filter passes, and is put away.
+    await filter('chunk:DATA -repeated');
+    await wait(100);
+    assert.match(await label(), /: 8 TSNs sent, 1000 to 1007, acknowledged to 1000\. Second end: 2 TSNs sent, 7000 to 7001, acknowledged to 7000\. /);
+    await filter('');
+    await browser.click('#show-graph');
+    assert.deepEqual([await browser.ask(by('#show-graph', "getAttribute('aria-pressed')")), await browser.ask(by('#graph', 'checkVisibility()'))], ['false', false]);
+    await browser.click('#show-graph');
+    await browser.until("document.querySelector('#graph .sent')");
     quiet();
   });
 
@@ -885,7 +997,7 @@ async function inBrowser(browser) {
       await show(long);
       // From another view, whose list was never shown at that place.
       await browser.click('#tab-channels');
-      await browser.click('#channel-rows .link');
+      await browser.click('#channel-rows .row > :last-child .link');
       await titled(`Packet ${records.length - 2}`);
       await isIn(`${width}: from a table`);
       await chosen('up after');
@@ -894,7 +1006,7 @@ async function inBrowser(browser) {
       await chosen('shut down');
       await isIn(`${width}: the last`);
       await browser.click('#tab-channels');
-      await browser.click('#channel-rows .row:nth-child(2)');
+      await browser.click('#channel-rows .row:nth-child(2) > :nth-child(2)');
       await isIn(`${width}: of a channel`);
       await chosen('up after');
       // From an empty list, beside which no details are shown: once it was drawn, and before that.
@@ -1069,7 +1181,7 @@ async function inBrowser(browser) {
     await browser.ask("document.getElementById('list').focus()");
     for (let i = 0; i < 150; i++)
       await browser.press('ArrowDown');
-    for (const view of ['associations', 'channels', 'diagram', 'packets'])
+    for (const view of ['associations', 'channels', 'messages', 'diagram', 'packets'])
       await browser.click(`#tab-${view}`);
     await wait(100);
     quiet();
@@ -1201,7 +1313,7 @@ async function inBrowser(browser) {
     await show(file('colours.pcap', pcap(records)));
     for (const scheme of ['light', 'dark']) {
       await browser.look(scheme);
-      const views = [['packets', ''], ['packets', '-accepted'], ['packets', 'packet:20-60'], ['associations'], ['channels'], ['diagram']];
+      const views = [['packets', ''], ['packets', '-accepted'], ['packets', 'packet:20-60'], ['associations'], ['channels'], ['messages'], ['diagram']];
       for (const [view, text] of views) {
         if (text !== undefined)
           await filter(text);
@@ -1244,7 +1356,7 @@ async function inBrowser(browser) {
   await check('a phone', async () => {
     await browser.open(url, { width: 390, height: 800, isPhone: true });
     await show(withRefused);
-    for (const view of ['diagram', 'channels', 'associations', 'packets']) {
+    for (const view of ['diagram', 'messages', 'channels', 'associations', 'packets']) {
       await browser.click(`#tab-${view}`);
       await wait(150);
       assert.equal(await browser.ask('document.documentElement.scrollWidth'), 390, view);
@@ -1287,7 +1399,7 @@ async function inBrowser(browser) {
     await browser.tap('#more');
     // What is tapped has at least 24 px each way (WCAG 2.2, 2.5.8).
     const TAPPED = 'button:not(.link), select, #bytes .row > .byte, .node, .twist:not(:empty), #list .row';
-    for (const view of ['diagram', 'channels', 'associations', 'packets']) {
+    for (const view of ['diagram', 'messages', 'channels', 'associations', 'packets']) {
       await browser.click(`#tab-${view}`);
       await wait(100);
       const small = `it.checkVisibility() && (({ width, height }) => Math.min(width, height) < 24)(it.getBoundingClientRect())

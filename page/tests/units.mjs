@@ -10,15 +10,18 @@ import { Associations } from '../src/associations.mjs';
 import { channelFilter, Channels } from '../src/channels.mjs';
 import { Diagram, wantedRow } from '../src/diagram.mjs';
 import { cArray, hexadecimal, linkOf, packetsIn, pcapOf, testRow } from '../src/copies.mjs';
+import { isMessage, isOf, messageFilter, packetsOf } from '../src/fates.mjs';
 import { bytesOf, Fields, nodesOf, ownersOf, valueOf } from '../src/fields.mjs';
 import { namedApart } from '../src/files.mjs';
 import { filterOf, FOUND, strangeWords } from '../src/filter.mjs';
 import {
   associationOf, groupOf, isAssociation, isSummary, KINDS, MOST_TEXT, pairsOf, parsed, Rows, skippedText, WORDS,
 } from '../src/keys.mjs';
+import { basesOf, rowsToRead, trackOver, trackText } from '../src/graph.mjs';
 import { infoOf } from '../src/info.mjs';
 import { chunkLabel, chunksLabel, fitted, groupOfRow } from '../src/labels.mjs';
 import { drawPacket, endText } from '../src/list.mjs';
+import { countsText, Messages } from '../src/messages.mjs';
 import { compressed, lineIn, packInto, uncompressed } from '../src/packed.mjs';
 import { run } from '../src/program.mjs';
 import {
@@ -353,7 +356,7 @@ each('the association of a row', row => capture.associationOf(row)?.association,
 async function drawnOf(store, passes = () => true) {
   const [association] = store.associations, nothing = () => {};
   const unseen = { clientWidth: 0, scrollTop: 0, replaceChildren: nothing, removeAttribute: nothing, setAttribute: nothing, querySelectorAll: () => [] };
-  const held = { rows: [], box: unseen, overview: { svg: unseen }, levels: { even: 0, time: 0 }, width: 800 };
+  const held = { rows: [], box: unseen, overview: { svg: unseen }, graph: { show: nothing, mark: nothing }, levels: { even: 0, time: 0 }, width: 800 };
   const diagram = Object.assign(Object.create(Diagram.prototype), held);
   diagram.render({ store, association, passed: rowsOf(store).filter(passes), clock: 'since' });
   const svg = diagram.arrows([0, diagram.rows.length], await store.objects(diagram.rows), 1000);
@@ -645,6 +648,9 @@ each('the order of associations', (...by) => sorted(Associations.prototype.colum
 ]);
 // ---- data channels: RFC 8832 section 5 and RFC 6525 section 4
 
+const fate = others => ({ message_of: 1, end: 0, stream: 1, ssn: 0, unordered: false, ppid: 51, ppid_name: 'WebRTC String', size: 5, fragments: 1,
+  first_tsn: 2, last_tsn: 2, sent_packet: 1, ...others });
+const isAcked = { acknowledged_packet: 2, delay: 0.0015 };
 const dcepOpen = (stream, others) => data(1, { stream, ppid: 50, message: 3, label: 'chat', protocol: 'p', channel_type_name: 'reliable ordered', reliability: 0, priority: 256, ...others });
 const message = (stream, others) => data(2, { stream, ppid: 51, ppid_name: 'WebRTC String', payload_size: 5, beginning: true, end: true, ...others });
 const dcepAck = data(3, { stream: 1, ppid: 50, message: 2, end: true, payload_size: 1 });
@@ -710,17 +716,23 @@ const ofLog = direction => ({ direction, from: undefined, to: undefined, source:
 each('the table of channels', (...packets) => channelRow(storeOf(...ofEnds(packets))), [
   [[0, [dcepOpen(1)]], [1, [dcepAck]], [0, [message(1)]], [0, [resets(7, 1)]], [1, [answers(7, 1, 'Success - Performed')]], [1, [resets(7, 1)]], {
     'Association': '1', 'Stream': '1', 'Label': 'chat / p', 'Payload': 'WebRTC String', 'Reliability': 'reliable ordered',
-    'Ends': '10.0.0.1:40000 / [2001:db8::2]:9900', 'Opened': 'OPEN 1 / ACK 2', 'Messages': '1 / 0', 'Bytes': '5 B / 0 B', 'Sent again': '0 / 0',
+    'Ends': '10.0.0.1:40000 / [2001:db8::2]:9900', 'Opened': 'OPEN 1 / ACK 2', 'Messages': '1 / 0', 'Bytes': '5 B / 0 B', 'Sent again': '0 / 0', 'Abandoned': '0 / 0', 'Longest': '–',
     'Closed': 'first end: reset 4, 5: Performed / second end: reset 6, no response',
   }],
   [[1, [data(1, { stream: 2, ppid: 99, payload_size: 2000 })], ofLog('incoming')], {
     'Association': '1', 'Stream': '2', 'Label': '– / ', 'Payload': 'ppid 99', 'Reliability': '–', 'Ends': 'local 5000 / remote 5000', 'Opened': '–',
-    'Messages': '0 / 0', 'Bytes': '0 B / 2.0 kB', 'Sent again': '0 / 0', 'Closed': '–',
+    'Messages': '0 / 0', 'Bytes': '0 B / 2.0 kB', 'Sent again': '0 / 0', 'Abandoned': '0 / 0', 'Longest': '–', 'Closed': '–',
   }],
 ]);
 // (a line for each end, so that it is seen which one opened it)
 each('who opened a channel', (...packets) => ['Opened', 'Closed'].map(it => channelRow(storeOf(...ofEnds(packets)))[it]).join('; '), [
   [[1, [dcepOpen(1)]], '– / OPEN 1; –'], [[0, [dcepOpen(1)]], [1, [dcepAck]], [1, [resets(7, 1)]], 'OPEN 1 / ACK 2; second end: reset 3, no response'],
+]);
+// What became of its messages, without those of DCEP; of an unknown stream nothing is kept.
+each('what became of a channel’s messages', (...fates) => ['Abandoned', 'Longest'].map(it => channelRow(storeOf(...ofEnds([[0, [message(1)]]]), ...fates.map(fate)))[it]).join('; '), [
+  [{ ...isAcked, delay: 0.5 }, { ...isAcked, delay: 1.25, sent_packet: 3 }, { ...isAcked, delay: 9, ppid: 50 }, { ...isAcked, delay: 9, stream: 7 }, '0 / 0; 1.25 s / –'],
+  [{ end: 1, abandoned_packet: 5 }, { abandoned_packet: 5 }, { end: 1, abandoned_packet: 6 }, { ...isAcked, message_of: 2 }, '1 / 2; –'],
+  [{ ...isAcked, delay: 'x' }, '0 / 0; –'],
 ]);
 const protocolData = [3, 1, 2, 1, 4, 5].map(ppid => data(ppid, { stream: 1, ppid }));
 each('payload protocols', (...chunks) => channelRow(storeOf(...ofEnds([[0, chunks]]))).Payload, [
@@ -742,7 +754,102 @@ each('packets of a stream', stream => rowsOf(onStream).filter(filterOf(`stream:$
   [1, '1 2 5'], [2, '2 4'], [3, ''],
 ]);
 each('a channel’s fields', () => nodesOf(storeOf(...ofEnds([[0, [message(3)]]])).channels[0]).map(it => it.label).join(' '), [
-  ['channel association stream payload first end messages bytes repeated addresses port second end messages bytes repeated addresses port'],
+  ['channel association stream payload first end messages bytes repeated abandoned addresses port second end messages bytes repeated abandoned addresses port'],
+]);
+
+// ---- messages, by the keys of docs/DUMP.md
+
+each('a message', it => isMessage({ ...fate(), ...it }), [
+  [{}, true], [{ ...isAcked, waited_for_tsn: 0 }, true], [{ end: 2 }, false], [{ message_of: 'x' }, false], [{ first_tsn: undefined }, false],
+  [{ size: 1.5 }, false], [{ ppid_name: 5 }, false], [{ changed_tsn: {} }, false], [{ closed_first: null }, false], [{ abandoned_by: ['x'] }, false],
+]);
+/** A row of the table of messages, its lines by their heads, and what is said above it. */
+function messageRow(store, at = 0) {
+  const table = Object.assign(tableOf(Messages, []), { store });
+  table.arrange = list => Object.assign(table, { list });
+  table.show(store);
+  return Object.fromEntries(table.draw(at).parts.map(it => [it.dataset.title, it.parts.map(line => line.textContent).join(' / ')]));
+}
+const sentRows = [packet(1, A, [data(2, { stream: 1, ssn: 0 })], { association: 1, end: 0, time: '1700000000.5' }),
+  packet(2, B, [{ chunk: 3, cumulative_tsn: 2 }], { association: 1, end: 1, time: '1700000000.501500' })];
+const ROW_OF_MESSAGE = {
+  'No.': '1', 'Association': '1', 'From': 'first end / 10.0.0.1:40000', 'Stream': '1 / ssn 0', 'Payload': 'WebRTC String', 'Size': '5 B', 'TSN': '2 / 1 fragment',
+  'Sent': 'in 1 / 0.0 s', 'Fate': 'acknowledged / in 2', 'Delay': '1.5 ms', 'Remarks': '',
+};
+each('the table of messages', it => messageRow(storeOf(...sentRows, fate(it))), [
+  [isAcked, ROW_OF_MESSAGE],
+  [{ abandoned_by: 'FORWARD-TSN', abandoned_packet: 2 }, { ...ROW_OF_MESSAGE, 'Fate': 'abandoned / in 2', 'Delay': '–' }],
+  [{ ssn: undefined, mid: 7, unordered: true, ppid: 99, ppid_name: undefined, size: 2000, fragments: 3, first_tsn: LAST, last_tsn: 1, end: 1, sent_packet: 9, missing: 2, first_missing_fsn: 1 }, {
+    ...ROW_OF_MESSAGE, 'From': 'second end / [2001:db8::2]:9900', 'Stream': '1 / mid 7, unordered', 'Payload': 'ppid 99', 'Size': '2.0 kB', 'TSN': '4294967295–1 / 3 fragments',
+    'Sent': 'in 9', 'Fate': 'not acknowledged', 'Delay': '–', 'Remarks': 'FSN 1 and 1 more never seen' }],
+  [{ ...isAcked, repeated: 3, first_repeated_tsn: 2, repeated_after: 1.422, changed_tsn: 2, contradictory: true, no_beginning: true, no_end: true, waited_for_tsn: 1, closed_first: 1, closed_last: 2 }, {
+    ...ROW_OF_MESSAGE, 'Remarks': 'TSN 2 sent again after 1.42 s, 3 repeats in all; TSN 2 sent again with other bytes; fragments contradict one another; ' +
+      'beginning not seen; end not seen / waited for TSN 1 of its stream; peer’s window was 0 from 1 to 2' }],
+  [{ ...isAcked, repeated: 1, first_repeated_tsn: 2, missing: 1, first_missing_tsn: 3, closed_first: 1, closed_last: 1 }, {
+    ...ROW_OF_MESSAGE, 'Remarks': 'TSN 2 sent again; TSN 3 never seen / peer’s window was 0 in 1' }],
+  // What the program didn't print is text, whatever it is.
+  [{ ...isAcked, ppid_name: '<b>\u202e\0', delay: {}, repeated_after: 'x', repeated: 1, first_repeated_tsn: 2 },
+    { ...ROW_OF_MESSAGE, 'Payload': '<b>\\u202e\\u0000', 'Delay': '–', 'Remarks': 'TSN 2 sent again' }],
+]);
+each('a time of a message', line => parsed(line).sent, [['{"message_of":1,"sent":1700000000.123456789}', '1700000000.123456789']]);
+// At most 10,000 of those of which there is no more to say, and 10,000 of the others; all are counted.
+const ofMany = storeOf(...Array.from({ length: 10001 }, () => fate(isAcked)), ...Array.from({ length: 10002 }, (_, i) => fate({ abandoned_packet: i })), fate({ ...isAcked, repeated: 1 }), { data_not_followed: 12 });
+each('too many messages', () => [ofMany.messages.length, ofMany.messages.at(-1).message, countsText(ofMany.fates, ofMany.unfollowed)], [[[20000, 20001,
+  '20,004 messages: 10,002 acknowledged, 10,002 abandoned, 1 sent again. 20,000 of them are listed: the first of those that were acknowledged without more to say, ' +
+  'and the first of the others. 12 DATA found no room, and are of none.']]]);
+each('messages, counted', (...fates) => countsText(storeOf(...fates.map(fate)).fates), [
+  [isAcked, '1 message: 1 acknowledged.'], [isAcked, {}, '2 messages: 1 acknowledged, 1 not acknowledged.'],
+]);
+each('a fragment', (chunk, it) => isOf({ ...data(2, { stream: 1, ssn: 0, unordered: false }), ...chunk }, fate(it)), [
+  [{}, {}, true], [{ tsn: 3 }, {}, false], [{ tsn: 3 }, { last_tsn: 3 }, true], [{ tsn: 1 }, { last_tsn: 3 }, false], [{ stream: 2 }, {}, false], [{ ssn: 1 }, {}, false],
+  [{ unordered: true }, {}, false], [{ tsn: 0 }, { first_tsn: LAST, last_tsn: 1 }, true], [{ chunk: 64, ssn: undefined, mid: 4 }, { ssn: undefined, mid: 4 }, true],
+  [{ chunk: 64, ssn: undefined, mid: 4 }, { ssn: undefined, mid: 5 }, false],
+]);
+// A message's packets are those of its fragments, with repeats, and the one that acknowledged or abandoned it.
+const spread = storeOf(...ofEnds([[0, [data(LAST, { stream: 1, ssn: 0 })]], [0, [data(0, { stream: 1, ssn: 0 }), data(1, { stream: 1, ssn: 1 })]], [1, [data(0, { stream: 1, ssn: 0 })]],
+  [0, [data(0, { stream: 1, ssn: 1 })]], [1, [{ chunk: 3, cumulative_tsn: 0 }]], [0, [data(LAST, { stream: 1, ssn: 0 })], { repeated: 1 }]]));
+const over0 = fate({ first_tsn: LAST, last_tsn: 0, acknowledged_packet: 5 });
+const [rowsOfIt, rowsOfOne] = [await packetsOf(spread, over0), await packetsOf(spread, fate({ first_tsn: 1, last_tsn: 1, ssn: 1, abandoned_packet: 6 }))];
+each('packets of a message', rows => rows.map(row => row + 1).join(' '), [[rowsOfIt, '1 2 5 6'], [rowsOfOne, '2 6']]);
+const many100 = storeOf(...ofEnds(Array.from({ length: 100 }, () => [0, []])));
+each('a message’s filter', (store, it, rows) => messageFilter(store, it, rows), [
+  [spread, over0, rowsOfIt, 'association:1 packet:1-2,5-6'], [spread, over0, rowsOfOne, 'association:1 packet:2,6'],
+  [many100, over0, Array.from({ length: 50 }, (_, i) => 2 * i), 'association:1 stream:1 tsn:4294967295-,0-0'],
+  [many100, fate({ last_tsn: 9 }), Array.from({ length: 50 }, (_, i) => 2 * i), 'association:1 stream:1 tsn:2-9'],
+]);
+each('what it passes', text => rowsOf(spread).filter(filterOf(text).test(spread)).map(row => row + 1).join(' '), [['association:1 packet:1-2,5-6', '1 2 5 6']]);
+// A packet is found by its number, also where lines were skipped, and in each of several files.
+const withSkipped = storeOf({ file: 'a' }, packet(1, A, []), { line: 7, skipped: 'x' }, packet(2, A, []), { file: 'b' }, packet(1, A, []), { record: 2, skipped: 'x' }, packet(3, A, []));
+each('the row of a packet', (number, name) => withSkipped.rowOf(number, name), [[1, 'a', 1], [2, 'a', 3], [1, 'b', 5], [3, 'b', 7], [2, 'b', -1], [9, 'a', -1]]);
+
+// ---- the graph of TSNs
+
+/** All marks of the graph of a store's packets: kind, end, milliseconds, TSNs from the base, and the packet. */
+async function marksOf(store) {
+  const { rows, senderOf } = store.rowsOf({ association: 1 }), bases = basesOf(store, rows, senderOf), read = rowsToRead(store, rows), objects = await store.objects(read);
+  const first = firstSendings(store, rows, senderOf), marks = [];
+  const put = (kind, end, x, y, row, last) => marks.push(`${kind} ${end} ${x / 1e6} ${y}${last === undefined ? '' : `-${last}`} ${row + 1}`);
+  trackOver({ store, rows, senderOf, repeats: row => repeatsOf(store, first, senderOf, row) }, bases, new Map(read.map((row, i) => [row, objects[i]])), put);
+  return [bases.join(' '), ...marks];
+}
+const block = (first_tsn, last_tsn) => ({ first_tsn, last_tsn });
+const graphed = await marksOf(storeOf(...ofEnds([
+  [0, [data(LAST), data(0)], { time: '1.0' }], [0, [data(2)], { time: '1.5' }], [1, [{ chunk: 3, cumulative_tsn: 0, blocks: [block(2, 2)] }, data(70)], { time: '1.75' }],
+  [0, [data(1), data(0)], { time: '2.0', repeated: 1 }], [1, [{ chunk: 3, cumulative_tsn: 2 }], { time: '2.5' }], [0, [{ chunk: 16, cumulative_tsn: 70, nr_blocks: [block(72, 73)] }], { time: '3.0' }],
+  [1, [{ chunk: 7, cumulative_tsn: 2 }], { time: '3.25' }],
+])));
+each('the graph', () => graphed, [[['4294967295 70', 'sent 0 0 0 1', 'sent 0 0 1 1', 'sent 0 500 3 2', 'sent 1 750 0 3', 'acked 0 750 1 3', 'gaps 0 750 3-3 3', 'sent 0 1000 2 4',
+  'again 0 1000 1 4', 'acked 0 1500 3 5', 'acked 1 2000 0 6', 'gaps 1 2000 2-3 6', 'acked 0 2250 3 7']]]);
+// Without times packets are counted; without DATA the first TSN that is acknowledged is the base.
+const untimed = await marksOf(storeOf(...ofEnds([[1, [{ chunk: 3, cumulative_tsn: 9 }]], [1, [{ chunk: 3, cumulative_tsn: 12 }]]])));
+each('a graph without times and DATA', () => untimed, [[['9 0', 'acked 0 0 0 1', 'acked 0 0.000001 3 2']]]);
+const withGaps = storeOf(...Array.from({ length: 5000 }, (_, i) => packet(i + 1, B, [{ chunk: 3, cumulative_tsn: 1, blocks: [block(3, 3)] }], { association: 1, end: 1 })));
+each('too many gaps', () => rowsToRead(withGaps, rowsOf(withGaps)).length, [[1667]]);
+const drawnTrack = { sent: 1500, again: 2, acked: 3, gaps: 1, least: 0, most: 1499, last: 1498 };
+each('what a panel says', (...by) => trackText(...by), [
+  [0, LAST, drawnTrack, 'First end: 1,500 TSNs sent, 4294967295 to 1498, 2 sent again, acknowledged to 1497, 1 gap block'],
+  [1, 5, { ...drawnTrack, again: 0, acked: 0, gaps: 0 }, 'Second end: 1,500 TSNs sent, 5 to 1504, not acknowledged'],
+  [1, 5, { ...drawnTrack, sent: 0, again: 0, gaps: 0, last: 0 }, 'Second end: no DATA, acknowledged to 5'],
 ]);
 
 // ---- what happened, in a line
