@@ -1054,8 +1054,9 @@ static void try_reports(const uint8_t *bytes, size_t length)
         known_chunks[i] = (uint8_t)(below(2) ? below(256) : length > 12 + 4 * i ? bytes[12 + 4 * i] : 0);
         known[i] = length > 1 + 8 * i ? (uint16_t)(bytes[8 * i] << 8 | bytes[1 + 8 * i]) : (uint16_t)below(65536);
     }
-    for (int is_chunks = 0; is_chunks < 2; is_chunks++) {
-        const size_t count = below(5), start = DCSCTP_FIRST_CHUNK, bare = begin_with(wanted, most, is_chunks ? 9 : 2);
+    for (int kind = 0; kind < 3; kind++) { /* parameters into an INIT ACK, and in an ERROR; chunks in an ERROR */
+        const bool is_error = kind > 0, is_chunks = kind > 1;
+        const size_t count = below(5), start = DCSCTP_FIRST_CHUNK, bare = begin_with(wanted, most, is_error ? 9 : 2);
         size_t size = bare, stop = length, at = is_chunks ? DCSCTP_FIRST_CHUNK : 0, end = 7;
         bool has_room = true;
         for (size_t next; is_chunks ? dcsctp_chunk_at(bytes, length, at, &chunk) : dcsctp_item_at(bytes, length, at, &item); at = next) {
@@ -1073,10 +1074,10 @@ static void try_reports(const uint8_t *bytes, size_t length)
                 break;
             }
         }
-        if (is_chunks && size == bare)
+        if (is_error && size == bare)
             size = DCSCTP_FIRST_CHUNK; /* no ERROR */
         memset(before, 0xa5, most);
-        const size_t begun = begin_with(before, most, 2), old = is_chunks ? DCSCTP_FIRST_CHUNK : begun;
+        const size_t begun = begin_with(before, most, 2), old = is_error ? DCSCTP_FIRST_CHUNK : begun;
         memcpy(packet, before, most);
         for (size_t tried = 0; tried < 2; tried++) {
             const size_t room = tried ? most : has_room && size > old ? old + below(size - old) : old - 1 - below(old);
@@ -1084,12 +1085,43 @@ static void try_reports(const uint8_t *bytes, size_t length)
             size_t now = old;
             const uint32_t code = is_chunks
                 ? dcsctp_add_unrecognized_chunks(packet, room, &now, bytes, length, known_chunks, count, &end)
+                : is_error ? dcsctp_add_unrecognized_parameters_error(packet, room, &now, bytes, length, known, count, &end)
                 : dcsctp_add_unrecognized_parameters(packet, room, &now, start, bytes, length, known, count, &end);
             REQUIRE(code == (fits ? DCSCTP_OK : room < old ? DCSCTP_BAD_PLACE : DCSCTP_NO_ROOM));
             REQUIRE(now == (fits ? size : old) && end == (fits ? stop : 7));
             REQUIRE(!memcmp(packet, fits ? wanted : before, fits ? size : most));
         }
     }
+}
+
+/* The addresses of a list that aren't in another one are those whose bytes are nowhere in it. The bytes are taken as both. */
+static void try_addresses(const uint8_t *bytes, size_t length)
+{
+    static uint8_t wanted[65532], packet[sizeof wanted], before[sizeof wanted], value[65536];
+    const size_t most = 100 + (length < 60000 ? length : 0), cut = below(length + 1);
+    struct dcsctp_parameter item, other;
+    size_t value_size = 0, size, now;
+    for (size_t at = cut; dcsctp_item_at(bytes, length, at, &item); at = item.next) {
+        bool is_new = (item.type == 5 && item.value_size == 4) || (item.type == 6 && item.value_size == 16);
+        for (size_t i = 0; is_new && dcsctp_item_at(bytes, cut, i, &other); i = other.next)
+            is_new = other.type != item.type || other.value_size != item.value_size
+                || memcmp(bytes + other.value_offset, bytes + item.value_offset, item.value_size);
+        if (is_new) {
+            memcpy(value + value_size, bytes + at, 4 + item.value_size);
+            value_size += 4 + item.value_size;
+        }
+    }
+    REQUIRE(dcsctp_adds_addresses(bytes + cut, length - cut, bytes, cut) == (value_size > 0));
+    memset(before, 0xa5, most);
+    const size_t begun = size = now = begin_with(before, most, 6);
+    memcpy(wanted, before, most);
+    memcpy(packet, before, most);
+    const uint32_t code = dcsctp_add_parameter(wanted, most, &size, DCSCTP_FIRST_CHUNK, 11, value, value_size);
+    REQUIRE(dcsctp_add_new_addresses(packet, begun + 3, &now, DCSCTP_FIRST_CHUNK, bytes + cut, length - cut, bytes, cut)
+            == (code == DCSCTP_BAD_VALUE ? DCSCTP_BAD_VALUE : DCSCTP_NO_ROOM));
+    REQUIRE(now == begun && !memcmp(packet, before, most));
+    REQUIRE(dcsctp_add_new_addresses(packet, most, &now, DCSCTP_FIRST_CHUNK, bytes + cut, length - cut, bytes, cut) == code);
+    REQUIRE(now == size && !memcmp(packet, wanted, most));
 }
 
 static void try_bytes(const uint8_t *bytes, size_t length, enum placing placing)
@@ -1106,6 +1138,7 @@ static void try_bytes(const uint8_t *bytes, size_t length, enum placing placing)
     try_outputs(input.bytes, length, below(4) ? word : (uint32_t)draw(), placing);
     try_in_place(input.bytes, length, placing);
     try_reports(input.bytes, length);
+    try_addresses(input.bytes, length);
     REQUIRE(length == 0 || !memcmp(input.bytes, bytes, length)); /* no function writes to what it reads */
     release(input);
 }

@@ -90,6 +90,7 @@ static void tags(void)
         {PACKET(PEER, {DCSCTP_CHUNK_SHUTDOWN_COMPLETE, 0}), DCSCTP_TAG_DISCARD},
         /* D: COOKIE ECHO, by section 5 */
         {PACKET(OTHER, {DCSCTP_CHUNK_COOKIE_ECHO, 0}, {DCSCTP_CHUNK_SACK, 0}), DCSCTP_TAG_ESTABLISH},
+        {PACKET(OTHER, {DCSCTP_CHUNK_AUTH, 0}, {DCSCTP_CHUNK_COOKIE_ECHO, 0}), DCSCTP_TAG_ESTABLISH}, /* RFC 4895 section 6.3 */
         /* E: SHUTDOWN ACK, out of the blue where a cookie is awaited */
         {PACKET(OWN, {DCSCTP_CHUNK_SHUTDOWN_ACK, 0}), DCSCTP_TAG_ACCEPT},
     };
@@ -126,6 +127,7 @@ static void out_of_the_blue(void)
         {PACKET(0, {DCSCTP_CHUNK_INIT, 0}, {DCSCTP_CHUNK_SHUTDOWN_ACK, 0}), DCSCTP_ANSWER_INIT},
         {PACKET(OTHER, {DCSCTP_CHUNK_INIT, 0}), DCSCTP_ANSWER_ABORT},
         {PACKET(OTHER, {DCSCTP_CHUNK_COOKIE_ECHO, 0}, {DCSCTP_CHUNK_SHUTDOWN_ACK, 0}), DCSCTP_ANSWER_COOKIE_ECHO},
+        {PACKET(OTHER, {DCSCTP_CHUNK_AUTH, 0}, {DCSCTP_CHUNK_COOKIE_ECHO, 0}), DCSCTP_ANSWER_COOKIE_ECHO},
         {PACKET(OTHER, {DCSCTP_CHUNK_SACK, 0}, {DCSCTP_CHUNK_COOKIE_ECHO, 0}), DCSCTP_ANSWER_ABORT},
         {PACKET(OTHER, {DCSCTP_CHUNK_SHUTDOWN_COMPLETE, 0}, {DCSCTP_CHUNK_SHUTDOWN_ACK, 0}), DCSCTP_ANSWER_SHUTDOWN_COMPLETE},
         {PACKET(OTHER, {DCSCTP_CHUNK_SHUTDOWN_COMPLETE, 0}), DCSCTP_ANSWER_DISCARD},
@@ -260,46 +262,67 @@ struct report {
     size_t added_size, end;
 };
 
-/* Reports into a packet with `length` bytes from `start` on: parameters into its INIT ACK, or chunks after its header. */
-static uint32_t report(struct packet *packet, size_t room, const struct report *it, bool is_parameters, size_t *end)
+/* Parameters into an INIT ACK, or in an ERROR after the header; or chunks in an ERROR. */
+enum reported { PARAMETERS, PARAMETERS_ERROR, CHUNKS };
+
+static uint32_t report(struct packet *packet, size_t room, const struct report *it, enum reported reported, size_t *end)
 {
     uint8_t known[6];
     for (size_t i = 0; i < it->known_count; i++)
         known[i] = (uint8_t)it->known[i];
-    return is_parameters ? dcsctp_add_unrecognized_parameters(packet->bytes, room, &packet->size, DCSCTP_FIRST_CHUNK, it->came,
-                                                              it->came_size, it->known, it->known_count, end)
-                         : dcsctp_add_unrecognized_chunks(packet->bytes, room, &packet->size, it->came, it->came_size, known,
-                                                          it->known_count, end);
+    if (reported == CHUNKS)
+        return dcsctp_add_unrecognized_chunks(packet->bytes, room, &packet->size, it->came, it->came_size, known, it->known_count, end);
+    return reported == PARAMETERS
+        ? dcsctp_add_unrecognized_parameters(packet->bytes, room, &packet->size, DCSCTP_FIRST_CHUNK, it->came, it->came_size,
+                                             it->known, it->known_count, end)
+        : dcsctp_add_unrecognized_parameters_error(packet->bytes, room, &packet->size, it->came, it->came_size, it->known,
+                                                   it->known_count, end);
 }
 
 /* Nothing changes in a buffer that is too small, whatever its size; in one that isn't, what is added and nothing else. */
-static void check_report(const struct report *it, bool is_parameters, int line)
+static void check_report(const struct report *it, enum reported reported, int line)
 {
     const struct dcsctp_init init = {.initiate_tag = OTHER, .a_rwnd = 1500, .outbound_streams = 1, .inbound_streams = 1};
     struct packet packet, before;
     memset(&packet, 0xa5, sizeof packet);
     CHECK(dcsctp_begin(packet.bytes, ROOM, &packet.size, 5000, 5001, OWN) == DCSCTP_OK);
-    if (is_parameters)
+    if (reported == PARAMETERS)
         CHECK(dcsctp_add_init_ack(packet.bytes, ROOM, &packet.size, &init) == DCSCTP_OK);
     before = packet;
     const size_t start = packet.size, size = start + it->added_size;
     for (size_t room = 0; room < size; room++) {
         size_t end = 77;
-        check_that(report(&packet, room, it, is_parameters, &end) == (room < start ? DCSCTP_BAD_PLACE : DCSCTP_NO_ROOM), "no room", line);
+        check_that(report(&packet, room, it, reported, &end) == (room < start ? DCSCTP_BAD_PLACE : DCSCTP_NO_ROOM), "no room", line);
         check_that(packet.size == start && end == 77 && !memcmp(packet.bytes, before.bytes, ROOM), "nothing changes", line);
     }
     size_t end = 77;
-    check_that(report(&packet, size, it, is_parameters, &end) == DCSCTP_OK && end == it->end, "what is reported", line);
+    check_that(report(&packet, size, it, reported, &end) == DCSCTP_OK && end == it->end, "what is reported", line);
     check_that(packet.size == size && !memcmp(packet.bytes + start, it->added, it->added_size), "what is added", line);
     check_that(!memcmp(packet.bytes + size, before.bytes + size, ROOM - size), "what is behind stays", line);
     size_t length = 20; /* of the INIT ACK: without the padding of its last parameter */
-    for (size_t at = 0; is_parameters && at < it->added_size; at += (length - 20 + 3) / 4 * 4 - at)
+    for (size_t at = 0; reported == PARAMETERS && at < it->added_size; at += (length - 20 + 3) / 4 * 4 - at)
         length = 20 + at + (size_t)(it->added[at + 2] * 256 + it->added[at + 3]);
-    if (is_parameters)
+    if (reported == PARAMETERS)
         check_that(packet.bytes[14] * 256u + packet.bytes[15] == length, "the length of the chunk", line);
 }
 
-/* Reporting (sections 3.2, 3.2.1, 3.2.2, 3.3.3.1.2 and 3.3.10.6): each pair of high bits, in whole lists and in cut ones. */
+/* The same parameters in an INIT ACK, and in an ERROR, whose causes have the same bytes as the INIT ACK's parameters. */
+static void check_parameters(const struct report *it, int line)
+{
+    uint8_t error[100] = {9};
+    size_t length = 4;
+    for (size_t at = 0; at < it->added_size; at += (length - 4 + 3) / 4 * 4 - at)
+        length = 4 + at + (size_t)(it->added[at + 2] * 256 + it->added[at + 3]);
+    error[3] = (uint8_t)length;
+    memcpy(error + 4, it->added, it->added_size);
+    struct report in_error = *it;
+    in_error.added = error;
+    in_error.added_size = it->added_size ? 4 + it->added_size : 0;
+    check_report(it, PARAMETERS, line);
+    check_report(&in_error, PARAMETERS_ERROR, line);
+}
+
+/* Reporting (sections 3.2, 3.2.1, 3.2.2, 3.3.3.1.2, 3.3.10.6 and 3.3.10.8): each pair of high bits, in whole lists and in cut ones. */
 static void reports(void)
 {
     static const uint8_t parameters[] = {0x80, 1, 0, 4, 0xc0, 1, 0, 8, 1, 2, 3, 4, 0xc0, 2, 0, 5, 9, 255, 255, 255, 0x40, 3, 0, 6,
@@ -331,19 +354,45 @@ static void reports(void)
         ROW(1, chunks, 26, shorter, sizeof shorter, 26, 11), /* the last padding is cut */
     };
     for (size_t i = 0; i < sizeof of_parameters / sizeof *of_parameters; i++)
-        check_report(&of_parameters[i], true, (int)i);
+        check_parameters(&of_parameters[i], (int)i);
     for (size_t i = 0; i < sizeof of_chunks / sizeof *of_chunks; i++)
-        check_report(&of_chunks[i], false, (int)i);
+        check_report(&of_chunks[i], CHUNKS, (int)i);
     /* lengths of 0 to 3 behind one that is whole, and one whose padding is missing */
     for (uint8_t length = 0; length < 4; length++) {
         const uint8_t cut[] = {0xc0, 1, 0, 4, 0xc0, 2, 0, length};
         const struct report row = ROW(0, cut, sizeof cut, lone, sizeof lone, sizeof cut, 0);
-        check_report(&row, true, __LINE__);
+        check_parameters(&row, __LINE__);
     }
     const uint8_t short_one[] = {0xc0, 1, 0, 5, 9};
     const struct report row = ROW(0, short_one, sizeof short_one, unpadded, sizeof unpadded, sizeof short_one, 0);
-    check_report(&row, true, __LINE__);
+    check_parameters(&row, __LINE__);
 #undef ROW
+}
+
+/* Addresses that an INIT adds (sections 5.2.2 and 3.3.10.11), of IPv4 and IPv6, among other parameters; those that are known. */
+static void new_addresses(void)
+{
+#define V4(last) 0, 5, 0, 8, 10, 0, 0, last
+#define V6(last) 0, 6, 0, 20, 0x20, 1, 0xd, 0xb8, 0, 0, 0, 0, 0, 0, 0, 0, 0, 0, 0, last
+    static const uint8_t list[] = {V4(1), 0, 9, 0, 8, 0, 0, 0, 1, V6(1), V4(2), V6(2), 0, 5, 0, 7, 1, 2, 3, 0},
+                         known[] = {0xc0, 0, 0, 4, V6(2), V4(1)}, cause[] = {0, 11, 0, 32, V6(1), V4(2)}, v6[] = {V6(2)};
+#undef V4
+#undef V6
+    struct packet packet, before;
+    memset(&packet, 0xa5, sizeof packet);
+    CHECK(dcsctp_adds_addresses(list, sizeof list, known, sizeof known) && !dcsctp_adds_addresses(list, 8, known, sizeof known));
+    CHECK(!dcsctp_adds_addresses(v6, sizeof v6, known, sizeof known) && dcsctp_adds_addresses(v6, sizeof v6, known, 4));
+    CHECK(!dcsctp_adds_addresses(v6, sizeof v6 - 1, NULL, 0) && !dcsctp_adds_addresses(NULL, 0, NULL, 0));
+    CHECK(dcsctp_begin(packet.bytes, ROOM, &packet.size, 5000, 5001, OWN) == DCSCTP_OK);
+    CHECK(dcsctp_add_chunk(packet.bytes, ROOM, &packet.size, DCSCTP_CHUNK_ABORT, 0, NULL, 0) == DCSCTP_OK);
+    before = packet;
+    for (size_t room = 0; room < 16 + sizeof cause; room++)
+        CHECK(dcsctp_add_new_addresses(packet.bytes, room, &packet.size, DCSCTP_FIRST_CHUNK, list, sizeof list, known, sizeof known)
+              == (room < 16 ? DCSCTP_BAD_PLACE : DCSCTP_NO_ROOM) && !memcmp(&packet, &before, sizeof packet));
+    CHECK(dcsctp_add_new_addresses(packet.bytes, 16 + sizeof cause, &packet.size, DCSCTP_FIRST_CHUNK, list, sizeof list, known,
+                                   sizeof known) == DCSCTP_OK && packet.size == 16 + sizeof cause);
+    CHECK(packet.bytes[15] == 4 + sizeof cause && !memcmp(packet.bytes + 16, cause, sizeof cause));
+    CHECK(!memcmp(packet.bytes + packet.size, before.bytes + packet.size, ROOM - packet.size));
 }
 
 /* More than a packet can have: 65,532 bytes, of which 32 are the header and the INIT ACK. */
@@ -379,6 +428,7 @@ int main(void)
     refusals();
     init_aborts();
     reports();
+    new_addresses();
     too_much();
     printf("receive: %u passed, %u failed\n", passed, failed);
     return failed != 0;
