@@ -90,8 +90,8 @@ static bool write_kept(const struct responder *r, const struct exchange *init, s
     const uint16_t of_auth[] = {DCSCTP_PARAMETER_RANDOM, DCSCTP_PARAMETER_CHUNK_LIST, DCSCTP_PARAMETER_REQUESTED_HMAC_ALGORITHM},
                    of_addresses[] = {DCSCTP_PARAMETER_IPV4_ADDRESS, DCSCTP_PARAMETER_IPV6_ADDRESS};
     return !dcsctp_begin(TO(x), 0, 0, 0) && !dcsctp_add_chunk(TO(x), DCSCTP_CHUNK_HEARTBEAT, 0, NULL, 0)
-        && (r->state < ESTABLISHED || !dcsctp_add_parameter(TO(x), DCSCTP_FIRST_CHUNK, DCSCTP_PARAMETER_HEARTBEAT_INFO,
-                                                            r->association_tie_tags, sizeof r->association_tie_tags))
+        && (r->state < COOKIE_ECHOED || !dcsctp_add_parameter(TO(x), DCSCTP_FIRST_CHUNK, DCSCTP_PARAMETER_HEARTBEAT_INFO,
+                                                              r->association_tie_tags, sizeof r->association_tie_tags))
         && (r->listed.size == 0 || (add_own_auth(r, x) && add_parameters(init, of_auth, 3, x)))
         && add_parameters(init, of_addresses, 2, x) && dcsctp_chunk_at(x->packet, x->size, DCSCTP_FIRST_CHUNK, &x->chunk);
 }
@@ -168,7 +168,8 @@ static bool answer_init(const struct responder *r, uint64_t now, struct exchange
             && !dcsctp_init_abort(TO(x), &x->header, peer.initiate_tag, fault);
     if (r->state == SHUTDOWN_ACK_SENT)
         return answer_shutting_down(r, x);
-    if (r->state == ESTABLISHED && dcsctp_adds_addresses(list.at, list.size, r->addresses, r->addresses_size)) /* section 5.2.2 */
+    /* sections 5.2.1 and 5.2.2 */
+    if (r->state >= COOKIE_ECHOED && dcsctp_adds_addresses(list.at, list.size, r->addresses, r->addresses_size))
         return !dcsctp_begin(TO(x), x->header.destination_port, x->header.source_port, peer.initiate_tag)
             && !dcsctp_add_chunk(TO(x), DCSCTP_CHUNK_ABORT, 0, NULL, 0)
             && !dcsctp_add_new_addresses(TO(x), DCSCTP_FIRST_CHUNK, list.at, list.size, r->addresses, r->addresses_size);
@@ -319,6 +320,7 @@ static void answer_init_ack(struct responder *r, struct exchange *x)
     r->association.peer_initial_tsn = peer.initial_tsn;
     r->association.inbound_streams = peer.outbound_streams;
     r->state = COOKIE_ECHOED;
+    memcpy(r->association_tie_tags, r->tie_tags, sizeof r->tie_tags);
     begin_receiving(r, kept.packet + kept.chunk.value_offset, kept.chunk.value_size);
 }
 
@@ -331,7 +333,6 @@ static bool take_call(struct responder *r, struct exchange *x)
     if (x->chunk.type == DCSCTP_CHUNK_COOKIE_ACK && r->state == COOKIE_ECHOED) {
         r->state = ESTABLISHED;
         r->association.local_tag = r->own.initiate_tag;
-        memcpy(r->association_tie_tags, r->tie_tags, sizeof r->tie_tags);
     }
     if (x->chunk.type == DCSCTP_CHUNK_ERROR)
         for (size_t at = dcsctp_list_offset(&x->chunk); dcsctp_parameter_at(CHUNK(x), at, &it); at = it.next)
@@ -519,11 +520,11 @@ static uint32_t verdict_of(const struct responder *r, const struct exchange *x)
                                                       : dcsctp_verify_tag(x->bytes, x->length, &association);
 }
 
-/* Answers the chunks of a packet of the association. */
-static bool answer_chunks(struct responder *r, struct exchange *x)
+/* Answers the chunks of a packet of the association, from an offset on. */
+static bool answer_chunks(struct responder *r, struct exchange *x, size_t at)
 {
-    size_t at = DCSCTP_FIRST_CHUNK;
-    if (dcsctp_begin(TO(x), r->association.local_port, r->association.peer_port, r->association.peer_tag))
+    if (dcsctp_begin(TO(x), r->association.local_port, r->association.peer_port, r->association.peer_tag)
+        || !dcsctp_chunk_at(x->bytes, x->length, at, &x->chunk))
         return false;
     for (size_t next; take_chunk(r, x, at) && (next = x->chunk.next, dcsctp_chunk_at(x->bytes, x->length, next, &x->chunk));)
         at = next;
@@ -533,25 +534,31 @@ static bool answer_chunks(struct responder *r, struct exchange *x)
     return x->size > DCSCTP_FIRST_CHUNK && (r->shared_key_size == 0 || sign(r, x));
 }
 
-/* Answers a packet with COOKIE ECHO, which may come after an AUTH, and has to where it is listed: the keys are those that its
-   cookie says (RFC 4895 section 6.3), and an AUTH that isn't right under them changes nothing. */
+/* Answers a packet with COOKIE ECHO, which may come after an AUTH, and has to where it is listed. Without an association the keys
+   are those of the cookie (RFC 4895 section 6.3). An AUTH that isn't right changes nothing. */
 static bool answer_cookie(struct responder *r, uint64_t now, struct exchange *x)
 {
     const struct responder before = *r;
     const struct dcsctp_chunk first = x->chunk;
-    if (first.type != DCSCTP_CHUNK_COOKIE_ECHO && (first.type != DCSCTP_CHUNK_AUTH
-                                                   || !dcsctp_chunk_at(x->bytes, x->length, first.next, &x->chunk)))
+    const bool has_auth = first.type == DCSCTP_CHUNK_AUTH, has_key = r->state >= COOKIE_ECHOED;
+    if (has_auth && has_key && !take_auth(r, x, DCSCTP_FIRST_CHUNK))
+        return false;
+    if (has_auth && !dcsctp_chunk_at(x->bytes, x->length, first.next, &x->chunk))
+        return false;
+    if (x->chunk.type != DCSCTP_CHUNK_COOKIE_ECHO
+        || (!has_auth && dcsctp_is_listed(r->listed.at, r->listed.size, DCSCTP_CHUNK_COOKIE_ECHO)))
         return false;
     if (!open_association(r, now, x))
         return x->size > 0;
-    x->cookie = first.type == DCSCTP_CHUNK_AUTH ? first.next : DCSCTP_FIRST_CHUNK;
-    x->chunk = first;
-    const bool has_answer = answer_chunks(r, x);
-    if (!x->is_authenticated && (first.type == DCSCTP_CHUNK_AUTH || dcsctp_is_listed(r->listed.at, r->listed.size, first.type))) {
-        *r = before;
-        return false;
+    x->cookie = has_auth ? first.next : DCSCTP_FIRST_CHUNK;
+    if (has_auth && !has_key) {
+        x->chunk = first;
+        if (!take_auth(r, x, DCSCTP_FIRST_CHUNK)) {
+            *r = before;
+            return false;
+        }
     }
-    return has_answer;
+    return answer_chunks(r, x, x->cookie);
 }
 
 /* Answers a packet: one that belongs to no association as section 8.4 says. Returns whether there is an answer. */
@@ -559,7 +566,7 @@ static bool answer(struct responder *r, uint64_t now, struct exchange *x)
 {
     uint32_t blue;
     switch (verdict_of(r, x)) {
-    case DCSCTP_TAG_ACCEPT: return answer_chunks(r, x);
+    case DCSCTP_TAG_ACCEPT: return answer_chunks(r, x, DCSCTP_FIRST_CHUNK);
     case DCSCTP_TAG_DISCARD: return false;
     case DCSCTP_TAG_OUT_OF_THE_BLUE:
         blue = dcsctp_out_of_the_blue(x->bytes, x->length, true);

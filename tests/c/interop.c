@@ -85,8 +85,8 @@ static const struct scenario scenarios[] = {
     {.name = "responder-unknown", .is_short = true, .is_answered = true, .run = run_unknown},
     {.name = "responder-forgotten", .is_short = true, .is_answered = true, .run = run_forgotten},
     {.name = "responder-auth-forgotten", .is_short = true, .is_answered = true, .is_authenticated = true, .run = run_forgotten},
-    {.name = "responder-auth-cookies", .is_short = true, .is_answered = true, .is_authenticated = true, .lists_cookies = true,
-     .run = run_restart},
+    {.name = "responder-auth-cookies", .is_short = true, .is_answered = true, .lost = 5, .late = 10, .is_authenticated = true,
+     .lists_cookies = true},
     {.name = "responder-wrong-cookie", .is_short = true, .is_answered = true, .is_authenticated = true, .lists_cookies = true,
      .key = "a key", .wrong_key = "another", .run = run_wrong_cookie},
     {.name = "responder-addresses", .is_short = true, .is_answered = true, .run = run_addresses},
@@ -1189,15 +1189,24 @@ static void run_wrong_key(void)
     crash();
 }
 
-/* The same of a COOKIE ECHO, whose AUTH is verified by what its cookie says. */
+/* The same of a COOKIE ECHO: its AUTH is verified by what its cookie says; where there is an association, by the keys of that one, which
+   a peer that begins anew doesn't have. */
 static void run_wrong_cookie(void)
 {
-    call();
-    RUN_UNTIL(answers((const char[]){PLAIN_INIT_ACK}, 1));
-    const struct responder before = responder;
-    run_for(5000);
-    REQUIRE(tally.kinds[PLAIN_COOKIE_ECHO] > 1 && answers("", 0) && !memcmp(&responder, &before, sizeof before));
-    crash();
+    for (int i = 0; i < 2; i++) {
+        const unsigned echoes = tally.kinds[PLAIN_COOKIE_ECHO];
+        if (i > 0) {
+            responder.pair_key = (struct bytes){(const uint8_t *)scenario->key, strlen(scenario->key)};
+            connect_sides();
+            crash();
+        }
+        call();
+        RUN_UNTIL(answers((const char[]){PLAIN_INIT_ACK}, 1));
+        const struct responder before = responder;
+        run_for(5000);
+        REQUIRE(tally.kinds[PLAIN_COOKIE_ECHO] > echoes + 1 && answers("", 0) && !memcmp(&responder, &before, sizeof before));
+        crash();
+    }
 }
 
 /* Loses the COOKIE ECHO, so that an INIT alone arrives: INIT ACK has a new tag, and nothing changes (section 5.2.2). */

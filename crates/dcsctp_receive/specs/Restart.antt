@@ -16,7 +16,7 @@ abbrev pub is_new : List Item → Item → Bool
 is_new known p = is_address p && not (list_any (is_same p) known)
 
 -- "the endpoint MUST check to see if the unexpected INIT chunk adds new addresses to the
--- association": of two lists of parameters, the INIT's and the association's
+-- association": of two lists of parameters, the association's and the INIT's
 abbrev pub adds_addresses : List ℕ → List ℕ → Bool
 adds_addresses known list = list_any (is_new (items_of (whole known))) (items_of (whole list))
 

@@ -12,8 +12,9 @@ use dcsctp_buffer::item::add_written;
 /// The error cause Restart of an Association with New Addresses (RFC 9260 section 3.3.10.11).
 const RESTART_WITH_NEW_ADDRESSES: u16 = 11;
 
-/// Returns whether an INIT adds addresses to an association (RFC 9260 section 5.2.2), which is
-/// answered by an ABORT under its Initiate Tag; the association stays as it is.
+/// Returns whether an INIT adds addresses to an association, which is answered by an ABORT under its
+/// Initiate Tag; the association stays as it is (RFC 9260 section 5.2.2, and section 5.2.1 in the
+/// state COOKIE-ECHOED).
 ///
 /// `list` holds the INIT's parameters, behind its fixed-length ones, and `known` the association's
 /// addresses, as parameters too: IPv4 Address and IPv6 Address. What comes after the first whose
