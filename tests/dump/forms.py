@@ -115,7 +115,23 @@ def brief_end(seen, key, port, is_local):
     return f"{host}:{seen[port] if 'verdict' in seen else '-'}"
 
 
-def brief(seen):
+def sent_again(seen, places):
+    """The marks of the TSNs that were sent before. Each of 65,536 that follow one another has a place."""
+    marks = ""
+    for chunk in seen["chunks"]:
+        if chunk["chunk"] in (0, 64) and "tsn" in chunk:
+            sending = [seen.get(key) for key in ("tag", "source", "destination", "direction")] + [chunk["tsn"]]
+            place = (seen["tag"] + chunk["tsn"] + 32768 * (seen.get("direction") == "incoming")) % 65536
+            if place not in places or places[place][0] != sending:
+                places[place] = sending, seen["packet"], seen.get("file")
+                continue
+            _, packet, file = places[place]
+            elsewhere = f"@{printed(file.encode(), '')}" if file != seen.get("file") else ""
+            marks += f" ~ tsn={chunk['tsn']} again={packet}{elsewhere}"
+    return marks
+
+
+def brief(seen, places):
     is_outgoing = seen.get("direction") == "outgoing"
     source = brief_end(seen, "from", "source", is_outgoing)
     destination = brief_end(seen, "to", "destination", not is_outgoing)
@@ -126,6 +142,7 @@ def brief(seen):
         line += " ! {kind} at {offset}: {reason}".format(**seen["fault"])
     elif "captured" in seen:
         line += " ! cut off"
+    line += sent_again(seen, places)
     line += f" * AUTH {seen['auth']}" if "auth" in seen else ""
     return line + (f" * unauthenticated {brief_type(seen['unauthenticated'])}" if "unauthenticated" in seen else "")
 
@@ -245,10 +262,10 @@ def block(seen):
 
 def made(objects, is_brief):
     """The lines of one of the other two forms."""
-    between, file = "" if is_brief else "\n", None
+    between, file, places = "" if is_brief else "\n", None, {}
     for value in objects:
         if "packet" in value:
-            yield brief(value) if is_brief else block(value)
+            yield brief(value, places) if is_brief else block(value)
             if value.get("file") != file:
                 yield f"a packet of {file!r}, and not of {value.get('file')!r}"
         elif "packets" in value:

@@ -20,11 +20,10 @@ use crate::skipped::{Said, SkippedLine, frame_reason_of};
 use crate::tracker::Tracker;
 use crate::when::Clock;
 use dcsctp_borrowed::checksum::Checksum;
-use dcsctp_wire::packet::sctp_packet::FirstFault;
 use dump_analysis::filter::Arrival;
 use dump_analysis::rule::RULES;
 use dump_analysis::warnings::Warnings;
-use dump_analysis::{Authentication, AuthenticationCounts, Noted, SeenPacket};
+use dump_analysis::{Authentication, AuthenticationCounts, Noted, ResentBrief, SeenPacket};
 use dump_capture::event::{Part, Seen, Sink, Skipped, Time};
 use dump_capture::frame::{FoundPacket, packet_in};
 use dump_capture::line::Direction;
@@ -153,7 +152,11 @@ impl<W: Write> EventPrinter<W> {
         let nanoseconds = self.clock.read(&seen.time);
         let (direction, transport) = log_of(&seen.time);
         let arrival = self.clock.arrival_of(seen, nanoseconds);
-        let passes = passes(&self.options, arrival, transport, found, word, fault);
+        let offset = match fault {
+            Some(fault) => Some(fault.offset),
+            None => None,
+        };
+        let passes = passes(&self.options, arrival, transport, found, word, offset);
         let packet = SeenPacket {
             number: self.files.number_of(seen.number),
             nanoseconds,
@@ -165,6 +168,7 @@ impl<W: Write> EventPrinter<W> {
             passes,
             key: self.options.auth_key,
         };
+        let resent = self.tracker.resent(&self.options, &packet, offset)?;
         let Noted { of: member, left } = self.tracker.see(&self.options, &packet)?;
         match left {
             Some(association) => {
@@ -211,6 +215,11 @@ impl<W: Write> EventPrinter<W> {
             broken,
             member,
             authentication,
+            resent: ResentBrief {
+                resent: resent.as_slice(),
+                file: packet.number.file,
+                files: self.files.named(),
+            },
         };
         push_packet(&self.options, shown, &mut self.output.text)?;
         self.print_messages()
@@ -372,15 +381,11 @@ fn passes(
     transport: &[u8],
     found: &FoundPacket<'_>,
     word: u32,
-    fault: Option<&FirstFault>,
+    fault: Option<usize>,
 ) -> bool {
     if !options.is_filtered {
         return true;
     }
-    let offset = match fault {
-        Some(fault) => Some(fault.offset),
-        None => None,
-    };
     let others = options.has_transport(transport);
-    options.filter.passes(arrival, others, found, word, offset)
+    options.filter.passes(arrival, others, found, word, fault)
 }

@@ -13,7 +13,7 @@ use dump_analysis::warnings::{WarningCounts, WarningLines, Warnings, WarningsBri
 use dump_analysis::{
     Association, AssociationJson, AssociationReport, Associations, Authentication,
     AuthenticationBrief, AuthenticationCounts, AuthenticationJson, AuthenticationLines, Membership,
-    MembershipJson, Message, MessageJson, MessageReport, Paths, TimeStyle,
+    MembershipJson, Message, MessageJson, MessageReport, Paths, ResentBrief, TimeStyle,
 };
 use dump_report::{PacketBrief, PacketJson, PacketReport};
 use dump_text::json_text::JsonText;
@@ -34,6 +34,8 @@ pub struct Shown<'t, 'f, 'a> {
     pub member: Option<Membership>,
     /// What is found of AUTH in it, if a key was given.
     pub authentication: Authentication,
+    /// Which of its TSNs were sent before, if lines are printed.
+    pub resent: ResentBrief<'t>,
 }
 
 /// Adds the name of an input.
@@ -80,8 +82,8 @@ pub fn push_packet(
                 fault,
             };
             let (seen, warnings) = (SeenBrief(seen), WarningsBrief(broken));
-            let found = AuthenticationBrief(found);
-            writeln!(text, "{seen} {report}{found}{warnings}")
+            let (resent, found) = (shown.resent, AuthenticationBrief(found));
+            writeln!(text, "{seen} {report}{resent}{found}{warnings}")
         }
         OutputForm::Json => {
             let report = PacketJson {

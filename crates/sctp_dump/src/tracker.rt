@@ -1,9 +1,11 @@
 //! The associations of the packets so far, if associations, messages or rules are asked for, and what
 //! is kept beside them: their paths and their messages.
 
-use crate::options::Options;
+use crate::options::{Options, OutputForm};
 use dump_analysis::rule::Known;
-use dump_analysis::{Associations, Message, Messages, Noted, PathTable, Paths, SeenPacket};
+use dump_analysis::{
+    Associations, Message, Messages, Noted, PathTable, Paths, Resent, SeenPacket, Sendings,
+};
 use std::alloc::{AllocError, Global};
 
 /// The associations of the packets so far, if they are asked for.
@@ -13,6 +15,7 @@ pub struct Tracker {
     associations: Option<Associations>,
     paths: Option<PathTable>,
     messages: Option<Messages>,
+    sendings: Sendings,
 }
 
 impl Tracker {
@@ -23,6 +26,7 @@ impl Tracker {
             associations: None,
             paths: None,
             messages: None,
+            sendings: Sendings::new(alloc),
         }
     }
 
@@ -49,6 +53,19 @@ impl Tracker {
             }
         }
         Ok(noted)
+    }
+
+    /// Returns which TSNs of a packet were sent before, if lines are asked for, which say it.
+    pub fn resent(
+        &mut self,
+        options: &Options,
+        packet: &SeenPacket<'_>,
+        fault: Option<usize>,
+    ) -> Result<Vec<Resent>, AllocError> {
+        match options.output {
+            OutputForm::Brief => self.sendings.see(packet, fault),
+            OutputForm::Blocks | OutputForm::Json => Ok(Vec::new(self.alloc)),
+        }
     }
 
     /// Counts a packet among those of its association, if these are asked for.
