@@ -7,4 +7,4 @@ use Rattle.dump_analysis.proofs.filter.Filter.passes.Goals as goal
 pub returns : goal.returns
 returns c =
     let packet = part_in (packet_of c.args.found.now) in
-    (chunks_seen c.args.fault packet, are_seen c.args.fault packet, c.is_met.ensures)
+    (chunks_seen c.args.fault packet, are_seen c.args.fault packet, c.is_passed.ensures)
