@@ -142,6 +142,16 @@ impl Associations {
         }
     }
 
+    /// Returns the number of the association of a packet that wasn't counted yet; `None` if it is
+    /// of none, or begins one.
+    pub fn number_of(&self, packet: &SeenPacket<'_>) -> Option<u64> {
+        let arrival = Arrival::of(packet, &self.names)?;
+        match self.find(&arrival) {
+            Owner::Known(flow) => Some(self.table.get(flow.slot)?.number),
+            Owner::Gone | Owner::Beside(_) | Owner::New => None,
+        }
+    }
+
     /// Returns how many associations left the table, up to 2^64 - 1.
     pub fn left(&self) -> u64
         ensures { result ≡ self.now.left }

@@ -65,7 +65,7 @@ pub use crate::authentication_text::{
 pub use crate::counts::{Counts, LeastWindow, SeenPacket};
 pub use crate::details::PathTable;
 pub use crate::end::{Acknowledged, Closed, End, Skipped};
-pub use crate::fragment::MessageKey;
+pub use crate::fragment::{MessageKey, label_of, stream_of};
 pub use crate::json::AssociationJson;
 pub use crate::key_vector::{KeyVector, KeyVectors};
 pub use crate::membership::{Membership, MembershipJson, Sequence};

@@ -39,8 +39,8 @@ What is printed:
                    --json after the packet
   --auth-key KEY   whether AUTH is right under this endpoint pair shared key: as
                    0badc0de, 7:0badc0de of Shared Key Identifier 7, or ''
-  --keep NUMBER    of --associations, --messages, --check and --auth-key: the most
-                   associations that are kept at a time; 10000 if not given
+  --keep NUMBER    of --associations, --messages, --check, --auth-key and --label:
+                   the most associations kept at a time; 10000 if not given
   --check          the rules of the RFCs that accepted packets break
   --summary        counts alone
 
@@ -53,6 +53,7 @@ one has to; a NAME may hold commas.
   --chunk TYPE     with a chunk of this type, as SACK, HEARTBEAT_ACK or 3
   --stream NUMBER  with user data of this stream
   --ppid NUMBER    with user data of this payload protocol
+  --label NAME     with user data of the stream of a channel with this label
   --transport NAME of this transport of a log, as DcSctpTransport0
   --wrong          whose checksum is wrong
   --not            which the options above leave out
@@ -232,7 +233,14 @@ impl Options {
         match name {
             "--from" => self.filter.from = bound_of(values, FROM_USAGE)?,
             "--to" => self.filter.to = bound_of(values, TO_USAGE)?,
-            "--transport" => add(&mut self.transports, name_of(values)?)?,
+            "--label" => {
+                let usage = "--label takes a text of up to 64 bytes";
+                add(&mut self.labels, name_of(values, usage)?)?;
+            }
+            "--transport" => {
+                let usage = "--transport takes a name of up to 64 bytes";
+                add(&mut self.transports, name_of(values, usage)?)?;
+            }
             _ => {
                 for value in values.split(",") {
                     self.take_value_of_filter(name, value)?;
@@ -346,11 +354,11 @@ fn time_of(name: &str) -> Result<TimeOption, Failure> {
     }
 }
 
-/// Returns a transport's name.
-fn name_of(text: &str) -> Result<Name, Failure> {
+/// Returns a short name.
+fn name_of(text: &str, usage: &'static str) -> Result<Name, Failure> {
     match Name::new(text.as_bytes()) {
         Some(name) => Ok(name),
-        None => Err(Failure::Usage("--transport takes a name of up to 64 bytes")),
+        None => Err(Failure::Usage(usage)),
     }
 }
 

@@ -20,7 +20,7 @@ use crate::skipped::{Said, SkippedLine, frame_reason_of};
 use crate::tracker::Tracker;
 use crate::when::Clock;
 use dcsctp_borrowed::checksum::Checksum;
-use dump_analysis::filter::Arrival;
+use dcsctp_wire::packet::sctp_packet::FirstFault;
 use dump_analysis::rule::RULES;
 use dump_analysis::warnings::Warnings;
 use dump_analysis::{Authentication, AuthenticationCounts, Noted, ResentBrief, SeenPacket};
@@ -150,26 +150,13 @@ impl<W: Write> EventPrinter<W> {
     {
         let (word, fault) = (judged.word, judged.fault.as_ref());
         let nanoseconds = self.clock.read(&seen.time);
-        let (direction, transport) = log_of(&seen.time);
-        let arrival = self.clock.arrival_of(seen, nanoseconds);
-        let offset = match fault {
-            Some(fault) => Some(fault.offset),
-            None => None,
-        };
-        let passes = passes(&self.options, arrival, transport, found, word, offset);
-        let packet = SeenPacket {
-            number: self.files.number_of(seen.number),
-            nanoseconds,
-            found: *found,
-            direction,
-            transport,
-            checksum: Checksum::of_packet(found.packet, found.length, word),
-            is_refused: judged.verdict == Verdict::Refused,
-            passes,
-            key: self.options.auth_key,
-        };
+        let offset = offset_of(fault);
+        let packet = self.packet_of(seen, found, judged, nanoseconds)?;
+        let passes = packet.passes;
         let resent = self.tracker.resent(&self.options, &packet, offset)?;
         let Noted { of: member, left } = self.tracker.see(&self.options, &packet)?;
+        self.tracker
+            .note_labels(&self.options, member, &packet, offset)?;
         match left {
             Some(association) => {
                 let paths = self.tracker.take_paths(association.number);
@@ -223,6 +210,42 @@ impl<W: Write> EventPrinter<W> {
         };
         push_packet(&self.options, shown, &mut self.output.text)?;
         self.print_messages()
+    }
+
+    /// Returns a packet with what is known of it, and whether it is asked for.
+    fn packet_of<'a>(
+        &mut self,
+        seen: &Seen<'a>,
+        found: &FoundPacket<'a>,
+        judged: &Judged,
+        nanoseconds: Option<u64>,
+    ) -> Result<SeenPacket<'a>, AllocError>
+        ensures options { self.new.options ≡ self.old.options }
+        ensures counts { self.new.counts ≡ self.old.counts }
+        ensures failure { self.new.failure ≡ self.old.failure }
+        ensures warnings { self.new.warnings ≡ self.old.warnings }
+    {
+        let (word, fault) = (judged.word, offset_of(judged.fault.as_ref()));
+        let (direction, transport) = log_of(&seen.time);
+        let mut packet = SeenPacket {
+            number: self.files.number_of(seen.number),
+            nanoseconds,
+            found: *found,
+            direction,
+            transport,
+            checksum: Checksum::of_packet(found.packet, found.length, word),
+            is_refused: judged.verdict == Verdict::Refused,
+            passes: true,
+            key: self.options.auth_key,
+        };
+        let arrival = self.clock.arrival_of(seen, nanoseconds);
+        if self.options.is_filtered {
+            let others = self.tracker.has_label(&self.options, &packet, fault)?
+                && self.options.has_transport(transport);
+            let filter = &self.options.filter;
+            packet.passes = filter.passes(arrival, others, found, word, fault);
+        }
+        Ok(packet)
     }
 
     /// Prints the messages that are over by the last packet.
@@ -374,18 +397,10 @@ fn is_judged(options: &Options, verdict: Verdict) -> bool
     }
 }
 
-/// Returns whether a packet is asked for.
-fn passes(
-    options: &Options,
-    arrival: Arrival,
-    transport: &[u8],
-    found: &FoundPacket<'_>,
-    word: u32,
-    fault: Option<usize>,
-) -> bool {
-    if !options.is_filtered {
-        return true;
+/// Returns where the first fault of a refused packet lies.
+fn offset_of(fault: Option<&FirstFault>) -> Option<usize> {
+    match fault {
+        Some(fault) => Some(fault.offset),
+        None => None,
     }
-    let others = options.has_transport(transport);
-    options.filter.passes(arrival, others, found, word, fault)
 }

@@ -14,6 +14,7 @@ mod failure;
 mod files;
 mod host;
 mod input;
+mod labels;
 mod log_clock;
 mod name;
 mod options;

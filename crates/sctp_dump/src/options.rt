@@ -79,6 +79,8 @@ pub struct Options {
     pub auth_key: Option<PairKey>,
     /// Which packets are printed.
     pub filter: Filter,
+    /// The labels of the channels whose packets are printed.
+    pub labels: [Option<Name>; VALUES],
     /// The names of the transports, in a log, whose packets are printed.
     pub transports: [Option<Name>; VALUES],
     /// The filter was asked for: what has no packet isn't printed.
@@ -106,6 +108,7 @@ impl Options {
         keep: 10_000,
         auth_key: None,
         filter: Filter::ALL,
+        labels: [None; VALUES],
         transports: [None; VALUES],
         is_filtered: false,
         udp_port: UDP_PORT,
@@ -134,11 +137,15 @@ impl Options {
         if self.filter.is_empty() {
             return Some("no packet is from --from on and up to --to");
         }
-        if self.filter.inverts && self.filter.is_free() && asks_nothing(&self.transports) {
+        if self.filter.inverts
+            && self.filter.is_free()
+            && asks_nothing(&self.labels)
+            && asks_nothing(&self.transports)
+        {
             return Some("--not needs an option that says which packets it leaves out");
         }
         if self.keep != Options::DEFAULT.keep && !self.tracks_associations() {
-            return Some("--keep needs --associations, --messages, --check or --auth-key");
+            return Some("--keep needs --associations, --messages, --check, --auth-key or --label");
         }
         if self.summary && self.output == OutputForm::Brief {
             return Some("--brief has no effect beside --summary");
@@ -160,7 +167,11 @@ impl Options {
 
     /// Returns whether it has to be known of which association a packet is.
     pub fn tracks_associations(&self) -> bool {
-        self.associations || self.messages || self.check || self.auth_key.is_some()
+        self.associations
+            || self.messages
+            || self.check
+            || self.auth_key.is_some()
+            || !asks_nothing(&self.labels)
     }
 
     /// Returns whether packets are printed: not where associations, messages or counts alone are.
@@ -176,10 +187,19 @@ impl Options {
 
     /// Returns whether a transport is one of those that are asked for, if any are.
     pub fn has_transport(&self, transport: &[u8]) -> bool {
-        asks_nothing(&self.transports)
-            || self.transports.iter().any(|asked| match asked {
-                Some(name) => name.is(transport),
-                None => false,
-            })
+        asks_nothing(&self.transports) || is_one_of(&self.transports, transport)
     }
+
+    /// Returns whether a label is one of those that are asked for.
+    pub fn has_label(&self, label: &[u8]) -> bool {
+        is_one_of(&self.labels, label)
+    }
+}
+
+/// Returns whether a text is one of the names.
+fn is_one_of(names: &[Option<Name>; VALUES], text: &[u8]) -> bool {
+    names.iter().any(|asked| match asked {
+        Some(name) => name.is(text),
+        None => false,
+    })
 }

@@ -1,10 +1,13 @@
 //! The associations of the packets so far, if associations, messages or rules are asked for, and what
 //! is kept beside them: their paths and their messages.
 
+use crate::labels::LabelledStreams;
 use crate::options::{Options, OutputForm};
+use dump_analysis::filter::asks_nothing;
 use dump_analysis::rule::Known;
 use dump_analysis::{
-    Associations, Message, Messages, Noted, PathTable, Paths, Resent, SeenPacket, Sendings,
+    Associations, Membership, Message, Messages, Noted, PathTable, Paths, Resent, SeenPacket,
+    Sendings,
 };
 use std::alloc::{AllocError, Global};
 
@@ -16,6 +19,7 @@ pub struct Tracker {
     paths: Option<PathTable>,
     messages: Option<Messages>,
     sendings: Sendings,
+    labelled: LabelledStreams,
 }
 
 impl Tracker {
@@ -27,6 +31,7 @@ impl Tracker {
             paths: None,
             messages: None,
             sendings: Sendings::new(alloc),
+            labelled: LabelledStreams::new(alloc),
         }
     }
 
@@ -53,6 +58,44 @@ impl Tracker {
             }
         }
         Ok(noted)
+    }
+
+    /// Returns whether a packet that wasn't counted yet has user data of a channel whose label is
+    /// asked for, or none is.
+    pub fn has_label(
+        &mut self,
+        options: &Options,
+        packet: &SeenPacket<'_>,
+        fault: Option<usize>,
+    ) -> Result<bool, AllocError> {
+        if asks_nothing(&options.labels) {
+            return Ok(true);
+        }
+        let number = match &self.associations {
+            Some(associations) => associations.number_of(packet),
+            None => None,
+        };
+        self.labelled.see(options, number, packet, fault)
+    }
+
+    /// Notes the channels that a packet opens which was counted: the association of one that began
+    /// it had no number before.
+    pub fn note_labels(
+        &mut self,
+        options: &Options,
+        member: Option<Membership>,
+        packet: &SeenPacket<'_>,
+        fault: Option<usize>,
+    ) -> Result<(), AllocError> {
+        let Some(member) = member else {
+            return Ok(());
+        };
+        if !asks_nothing(&options.labels) {
+            let _ = self
+                .labelled
+                .see(options, Some(member.association), packet, fault)?;
+        }
+        Ok(())
     }
 
     /// Returns which TSNs of a packet were sent before, if lines are asked for, which say it.
