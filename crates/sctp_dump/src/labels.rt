@@ -83,8 +83,8 @@ impl LabelledStreams {
             None => {
                 if let Some(place) = self.streams.get_mut(self.next) {
                     *place = stream;
+                    self.next = (self.next + 1) % self.streams.len();
                 }
-                self.next = (self.next + 1) % MOST;
             }
         }
         Ok(())
