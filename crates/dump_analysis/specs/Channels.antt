@@ -30,7 +30,7 @@ AddsFrom Second before m after =
 abbrev pub Adds : Tally → Message → Tally → Type 0
 Adds before m after = AddsFrom m.sender before m after
 
--- ---- of all channels of an association
+-- ---- of all channels in a list
 
 abbrev pub messages_of : Tally → ℕ
 messages_of t = t.first.messages + t.second.messages
@@ -38,9 +38,13 @@ messages_of t = t.first.messages + t.second.messages
 abbrev pub bytes_of : Tally → ℕ
 bytes_of t = t.first.bytes + t.second.bytes
 
--- those of the channels that are kept, and those of others
-abbrev pub messages_in : List Channel → Tally → ℕ
-messages_in channels others = sum_by (λ c. messages_of c.tally) channels + messages_of others
+abbrev pub messages_on : List Channel → ℕ
+messages_on channels = sum_by (λ c. messages_of c.tally) channels
 
-abbrev pub bytes_in : List Channel → Tally → ℕ
-bytes_in channels others = sum_by (λ c. bytes_of c.tally) channels + bytes_of others
+abbrev pub bytes_on : List Channel → ℕ
+bytes_on channels = sum_by (λ c. bytes_of c.tally) channels
+
+-- These have as many messages and bytes as those.
+abbrev pub AreAlike : List Channel → List Channel → Type 0
+AreAlike before after =
+    (messages_on after ≡ messages_on before) × (bytes_on after ≡ bytes_on before)

@@ -7,8 +7,11 @@ use crate::association::Side;
 use crate::counts::increase;
 use crate::data_channel::Opened;
 use crate::message::{Fate, Message, comes_before};
+use crate::moment::Moment;
 use crate::packet_number::PacketNumber;
 use crate::round_trips::RoundTrips;
+use dcsctp_borrowed::part::Part;
+use dcsctp_wire::packet::read_u16_be;
 
 /// What is counted of the messages that one end sent, up to 2^64 - 1 each.
 #[derive(Clone, Debug, Drop)]
@@ -114,6 +117,49 @@ impl Reset {
     }
 }
 
+/// What a packet says of channels.
+#[derive(Clone, Copy)]
+pub enum News<'a> {
+    /// The stream is opened anew.
+    Opened {
+        /// The stream.
+        stream: u16,
+        /// The packet.
+        packet: PacketNumber,
+    },
+    /// A DATA_CHANNEL_ACK accepts what the other end opened.
+    Accepted {
+        /// The stream.
+        stream: u16,
+        /// Which end sent it.
+        by: Side,
+        /// Its packet.
+        moment: Moment,
+    },
+    /// An Outgoing SSN Reset Request asks for a reset.
+    Asked {
+        /// Which end sent it.
+        by: Side,
+        /// Its Re-configuration Request Sequence Number.
+        number: u32,
+        /// The streams, of two bytes each.
+        streams: Part<'a>,
+        /// The packet.
+        packet: PacketNumber,
+    },
+    /// A Re-configuration Response answers a request.
+    Answered {
+        /// The end that sent the request.
+        to: Side,
+        /// The request's number.
+        number: u32,
+        /// The result.
+        code: u32,
+        /// The packet.
+        packet: PacketNumber,
+    },
+}
+
 /// A channel: a stream, both ways, from its DATA_CHANNEL_OPEN (RFC 8832) on; or where none was
 /// seen, what a stream has of one payload protocol. It ends by a reset of the stream, each way by
 /// itself, or by the next DATA_CHANNEL_OPEN.
@@ -156,10 +202,10 @@ impl Channel {
     }
 
     /// Returns the reset of what an end sends.
-    pub fn reset(&self, side: Side) -> &Option<Reset> {
+    fn reset(&self, side: Side) -> Option<Reset> {
         match side {
-            Side::First => &self.first_reset,
-            Side::Second => &self.second_reset,
+            Side::First => self.first_reset,
+            Side::Second => self.second_reset,
         }
     }
 
@@ -197,54 +243,88 @@ impl Channel {
         opened.crossed == Some(other.tsn)
     }
 
-    /// Notes that the stream is opened anew in a packet.
-    pub fn replace(&mut self, packet: PacketNumber)
+    /// Notes what is said of this channel, if it is.
+    pub fn note(&mut self, news: News<'_>)
         ensures { self.new.tally ≡ self.old.tally }
     {
-        if self.replaced.is_none() {
-            self.replaced = Some(packet);
+        match news {
+            News::Opened { stream, packet } => {
+                if self.stream == stream && self.replaced.is_none() {
+                    self.replaced = Some(packet);
+                }
+            }
+            News::Accepted { stream, by, moment } => self.accept(stream, by, moment),
+            News::Asked {
+                by,
+                number,
+                streams,
+                packet,
+            } => {
+                let known = self.reset(by);
+                let is_again = known.is_some_and(|known| known.number == number);
+                if !is_again && has(streams, self.stream) && !self.is_over(by, packet) {
+                    let result = None;
+                    let reset = Reset {
+                        number,
+                        packet,
+                        result,
+                    };
+                    self.set_reset(by, reset);
+                }
+            }
+            News::Answered {
+                to,
+                number,
+                code,
+                packet,
+            } => {
+                if let Some(reset) = self.reset(to) {
+                    if reset.number == number && reset.performed().is_none() {
+                        let result = Some((code, packet));
+                        self.set_reset(to, Reset { result, ..reset });
+                    }
+                }
+            }
         }
     }
 
-    /// Notes a request of an end to reset the stream.
-    pub fn ask(&mut self, side: Side, number: u32, packet: PacketNumber)
+    /// Notes a DATA_CHANNEL_ACK of an end.
+    fn accept(&mut self, stream: u16, by: Side, moment: Moment)
         ensures { self.new.tally ≡ self.old.tally }
     {
-        if self.is_over(side, packet) {
+        if self.stream != stream || self.replaced.is_some() {
             return;
         }
-        let reset = match side {
-            Side::First => &mut self.first_reset,
-            Side::Second => &mut self.second_reset,
-        };
-        if reset.is_some_and(|reset| reset.number == number) {
-            return;
+        if let Some(opened) = &mut self.opened {
+            if opened.by != by && opened.acknowledged.is_none() {
+                opened.acknowledged = Some(moment);
+            }
         }
-        *reset = Some(Reset {
-            number,
-            packet,
-            result: None,
-        });
     }
 
-    /// Notes the response to a request of an end, with the code of its result.
-    pub fn answer(&mut self, side: Side, number: u32, code: u32, packet: PacketNumber)
+    /// Notes the reset of what an end sends.
+    fn set_reset(&mut self, side: Side, reset: Reset)
         ensures { self.new.tally ≡ self.old.tally }
     {
-        let slot = match side {
-            Side::First => &mut self.first_reset,
-            Side::Second => &mut self.second_reset,
-        };
-        let Some(reset) = *slot else {
-            return;
-        };
-        if reset.number == number && reset.performed().is_none() {
-            *slot = Some(Reset {
-                result: Some((code, packet)),
-                ..reset
-            });
+        match side {
+            Side::First => self.first_reset = Some(reset),
+            Side::Second => self.second_reset = Some(reset),
         }
     }
+}
+
+/// Returns whether an Outgoing SSN Reset Request with these streams is for one: it names that, or
+/// none, which means all (RFC 6525 section 4.1).
+fn has(streams: Part<'_>, stream: u16) -> bool {
+    if streams.size == 0 {
+        return true;
+    }
+    for place in 0..streams.bytes.len() / 2 {
+        if read_u16_be(&streams.bytes[2 * place..]) == stream {
+            return true;
+        }
+    }
+    false
 }
 
 /// Returns whether a packet is another one, if there is one, or comes after it.

@@ -1,10 +1,11 @@
 //! The channels of an association, and those of all.
 
 ghost use Rattle.std.specs.Prelude.{◌≡◌, ◌≤◌, ◌<◌, ◌+◌, ◌-◌, ◌^◌, if◌then◌else◌, vec_len, IfOk};
-ghost use Rattle.dump_analysis.specs.Channels.{messages_in, bytes_in};
+ghost use Rattle.dump_analysis.specs.Channels.{messages_on, bytes_on, AreAlike};
+ghost use Rattle.dump_analysis.specs.ChannelCounts.{messages_seen, bytes_seen};
 
 use crate::association::Side;
-use crate::channel::{Channel, Tally};
+use crate::channel::{Channel, News, Tally};
 use crate::chunk_type::RE_CONFIG;
 use crate::counts::SeenPacket;
 use crate::data_channel::{Establishment, Opened};
@@ -16,10 +17,10 @@ use dcsctp_borrowed::part::{Item, Part};
 use dcsctp_wire::packet::outgoing_ssn_reset_request_parameter::{
     OutgoingSsnResetRequestNumbers, PARAMETER_TYPE as OUTGOING_SSN_RESET,
 };
+use dcsctp_wire::packet::read_u32_be;
 use dcsctp_wire::packet::reconfiguration_response_parameter::{
     PARAMETER_TYPE as RESPONSE, ReconfigurationResponseNumbers,
 };
-use dcsctp_wire::packet::{read_u16_be, read_u32_be};
 use std::alloc::{AllocError, Global};
 use std::collections::HashMap;
 
@@ -47,8 +48,8 @@ pub struct Channels {
 impl Channels {
     /// Returns the channels of an association without packets.
     pub fn new(alloc: Global, association: u64) -> Channels
-        ensures messages { messages_in result.list.items result.others ≡ 0 }
-        ensures bytes { bytes_in result.list.items result.others ≡ 0 }
+        ensures messages { messages_seen result ≡ 0 }
+        ensures bytes { bytes_seen result ≡ 0 }
     {
         Channels {
             association,
@@ -60,36 +61,50 @@ impl Channels {
 
     /// Notes a packet that an end sent: which channels are opened, acknowledged and reset. There
     /// is room for this many more of all associations.
-    fn see(
-        &mut self,
-        sender: Side,
-        packet: &SeenPacket<'_>,
-        room: usize,
-    ) -> Result<(), AllocError> {
+    fn see(&mut self, sender: Side, packet: &SeenPacket<'_>, room: usize) -> Result<(), AllocError>
+        ensures others { self.new.others ≡ self.old.others }
+        ensures counts { AreAlike self.old.list.items self.new.list.items }
+    {
         let most = self.list.len().saturating_add(room);
-        let moment = Moment::of(packet);
         for chunk in packet.chunks() {
-            if chunk.first == RE_CONFIG {
-                self.note_requests(sender, packet.number, chunk.value);
-            } else if let Some((stream, what)) = Establishment::of(sender, moment, chunk) {
-                match what {
-                    Establishment::Open(opened) => self.open(stream, opened, most)?,
-                    Establishment::Ack => self.acknowledge(stream, sender, moment),
-                }
-            }
+            self.note(sender, Moment::of(packet), chunk, most)?;
         }
         Ok(())
+    }
+
+    /// Notes a chunk of a packet.
+    fn note(
+        &mut self,
+        sender: Side,
+        moment: Moment,
+        chunk: Item<'_>,
+        most: usize,
+    ) -> Result<(), AllocError>
+        ensures others { self.new.others ≡ self.old.others }
+        ensures counts { AreAlike self.old.list.items self.new.list.items }
+    {
+        if chunk.first == RE_CONFIG {
+            note_requests(&mut self.list, sender, moment.packet, chunk.value);
+            return Ok(());
+        }
+        match Establishment::of(sender, moment, chunk) {
+            Some((stream, Establishment::Open(opened))) => self.open(stream, opened, most),
+            Some((stream, Establishment::Ack)) => {
+                let by = sender;
+                tell(&mut self.list, News::Accepted { stream, by, moment });
+                Ok(())
+            }
+            None => Ok(()),
+        }
     }
 
     /// Counts a message that is over, once: of its channel, which is put into the list if it is new
     /// and there is room, or of others.
     fn add(&mut self, message: &Message, has_room: bool) -> Result<(), AllocError>
-        ensures messages { messages_in self.old.list.items self.old.others < 2 ^ 64 - 1
-            → IfOk result (λ _. messages_in self.new.list.items self.new.others
-            ≡ messages_in self.old.list.items self.old.others + 1) }
-        ensures bytes { bytes_in self.old.list.items self.old.others + message.now.size < 2 ^ 64
-            → IfOk result (λ _. bytes_in self.new.list.items self.new.others
-            ≡ bytes_in self.old.list.items self.old.others + message.now.size) }
+        ensures messages { messages_seen self.old < 2 ^ 64 - 1
+            → IfOk result (λ _. messages_seen self.new ≡ messages_seen self.old + 1) }
+        ensures bytes { bytes_seen self.old + message.now.size < 2 ^ 64
+            → IfOk result (λ _. bytes_seen self.new ≡ bytes_seen self.old + message.now.size) }
     {
         let place = self.place_of(message, has_room)?;
         if !add_at(&mut self.list, place, message) {
@@ -102,84 +117,55 @@ impl Channels {
     /// Returns the place of a message's channel in the list, where it is put if it is new and there
     /// is room; beyond the list if there is none.
     fn place_of(&mut self, message: &Message, has_room: bool) -> Result<usize, AllocError>
-        ensures messages { messages_in self.new.list.items self.new.others
-            ≡ messages_in self.old.list.items self.old.others }
-        ensures bytes { bytes_in self.new.list.items self.new.others
-            ≡ bytes_in self.old.list.items self.old.others }
+        ensures others { self.new.others ≡ self.old.others }
+        ensures counts { AreAlike self.old.list.items self.new.list.items }
     {
-        for (place, channel) in self.list.iter().enumerate() {
-            if channel.has(message) {
-                return Ok(place);
-            }
+        if let Some(place) = self.find(message) {
+            return Ok(place);
         }
         let place = self.list.len();
         if has_room && place < MOST {
-            self.list
-                .push(Channel::new(message.key.stream, message.ppid, None))?;
+            let channel = Channel::new(message.key.stream, message.ppid, None);
+            self.list.push(channel)?;
         }
         Ok(place)
     }
 
-    /// Notes a DATA_CHANNEL_OPEN: it is one that was seen before, or meets one of the other end,
-    /// or begins a channel.
-    fn open(&mut self, stream: u16, opened: Opened, most: usize) -> Result<(), AllocError> {
-        for channel in self.list.iter_mut() {
-            if channel.stream == stream && channel.knows(&opened) {
-                return Ok(());
+    /// Returns the place of a message's channel in the list, if it is there.
+    fn find(&self, message: &Message) -> Option<usize> {
+        for (place, channel) in self.list.iter().enumerate() {
+            if channel.has(message) {
+                return Some(place);
             }
         }
-        for channel in self.list.iter_mut() {
-            if channel.stream == stream {
-                channel.replace(opened.sent.packet);
-            }
+        None
+    }
+
+    /// Notes a DATA_CHANNEL_OPEN: it is of a channel in the list, or begins one.
+    fn open(&mut self, stream: u16, opened: Opened, most: usize) -> Result<(), AllocError>
+        ensures others { self.new.others ≡ self.old.others }
+        ensures counts { AreAlike self.old.list.items self.new.list.items }
+    {
+        if is_known(&mut self.list, stream, &opened) {
+            return Ok(());
         }
+        let packet = opened.sent.packet;
+        tell(&mut self.list, News::Opened { stream, packet });
         if self.list.len() < MOST.min(most) {
             self.list.push(Channel::new(stream, None, Some(opened)))?;
         }
         Ok(())
     }
-
-    /// Notes a DATA_CHANNEL_ACK of an end: it answers the last one that the other end opened.
-    fn acknowledge(&mut self, stream: u16, by: Side, moment: Moment) {
-        for channel in self.list.iter_mut() {
-            if channel.stream == stream && channel.replaced.is_none() {
-                if let Some(opened) = &mut channel.opened {
-                    if opened.by != by && opened.acknowledged.is_none() {
-                        opened.acknowledged = Some(moment);
-                    }
-                }
-            }
-        }
-    }
-
-    /// Notes the requests and responses in the value of a RE-CONFIG that an end sent.
-    fn note_requests(&mut self, sender: Side, packet: PacketNumber, value: Part<'_>) {
-        for parameter in value.items() {
-            let bytes = parameter.value.bytes;
-            match parameter.code() {
-                OUTGOING_SSN_RESET if bytes.len() >= OutgoingSsnResetRequestNumbers::SIZE => {
-                    let number = read_u32_be(bytes);
-                    for channel in self.list.iter_mut() {
-                        if names(parameter, channel.stream) {
-                            channel.ask(sender, number, packet);
-                        }
-                    }
-                }
-                RESPONSE if bytes.len() >= ReconfigurationResponseNumbers::SIZE => {
-                    let number = read_u32_be(bytes);
-                    let code = read_u32_be(&bytes[ReconfigurationResponseNumbers::RESULT..]);
-                    for channel in self.list.iter_mut() {
-                        channel.answer(sender.other(), number, code, packet);
-                    }
-                }
-                _ => {}
-            }
-        }
-    }
 }
 
 /// Counts a message of the channel in a place. Returns false if there is none.
-fn add_at(list: &mut Vec<Channel>, place: usize, message: &Message) -> bool {
+fn add_at(list: &mut Vec<Channel>, place: usize, message: &Message) -> bool
+    ensures size { vec_len list.new ≡ vec_len list.old }
+    ensures messages { messages_on list.old.items < 2 ^ 64 - 1 → messages_on list.new.items
+        ≡ messages_on list.old.items + (if result then 1 else 0) }
+    ensures bytes { bytes_on list.old.items + message.now.size < 2 ^ 64 → bytes_on list.new.items
+        ≡ bytes_on list.old.items + (if result then message.now.size else 0) }
+{
     match list.get_mut(place) {
         Some(channel) => {
             channel.passes |= message.passes;
@@ -190,19 +176,84 @@ fn add_at(list: &mut Vec<Channel>, place: usize, message: &Message) -> bool {
     }
 }
 
-/// Returns whether an Outgoing SSN Reset Request is for a stream: it names that, or none, which
-/// means all (RFC 6525 section 4.1).
-fn names(request: Item<'_>, stream: u16) -> bool {
-    let value = request.value.after(OutgoingSsnResetRequestNumbers::SIZE);
-    if value.size == 0 {
-        return true;
-    }
-    for place in 0..value.bytes.len() / 2 {
-        if read_u16_be(&value.bytes[2 * place..]) == stream {
+/// Returns whether a DATA_CHANNEL_OPEN is of a channel in the list.
+fn is_known(list: &mut Vec<Channel>, stream: u16, opened: &Opened) -> bool
+    ensures size { vec_len list.new ≡ vec_len list.old }
+    ensures counts { AreAlike list.old.items list.new.items }
+{
+    for place in 0..list.len() {
+        if is_known_at(list, place, stream, opened) {
             return true;
         }
     }
     false
+}
+
+/// Returns whether a DATA_CHANNEL_OPEN is of the channel in a place.
+fn is_known_at(list: &mut Vec<Channel>, place: usize, stream: u16, opened: &Opened) -> bool
+    ensures size { vec_len list.new ≡ vec_len list.old }
+    ensures counts { AreAlike list.old.items list.new.items }
+{
+    match list.get_mut(place) {
+        Some(channel) => channel.stream == stream && channel.knows(opened),
+        None => false,
+    }
+}
+
+/// Notes the requests and responses in the value of a RE-CONFIG that an end sent.
+fn note_requests(list: &mut Vec<Channel>, sender: Side, packet: PacketNumber, value: Part<'_>)
+    ensures size { vec_len list.new ≡ vec_len list.old }
+    ensures counts { AreAlike list.old.items list.new.items }
+{
+    for parameter in value.items() {
+        if let Some(news) = news_of(parameter, sender, packet) {
+            tell(list, news);
+        }
+    }
+}
+
+/// Returns what a parameter of a RE-CONFIG says of channels, if it does.
+fn news_of(parameter: Item<'_>, sender: Side, packet: PacketNumber) -> Option<News<'_>> {
+    let bytes = parameter.value.bytes;
+    match parameter.code() {
+        OUTGOING_SSN_RESET if bytes.len() >= OutgoingSsnResetRequestNumbers::SIZE => {
+            Some(News::Asked {
+                by: sender,
+                number: read_u32_be(bytes),
+                streams: parameter.value.after(OutgoingSsnResetRequestNumbers::SIZE),
+                packet,
+            })
+        }
+        RESPONSE if bytes.len() >= ReconfigurationResponseNumbers::SIZE => {
+            Some(News::Answered {
+                to: sender.other(),
+                number: read_u32_be(bytes),
+                code: read_u32_be(&bytes[ReconfigurationResponseNumbers::RESULT..]),
+                packet,
+            })
+        }
+        _ => None,
+    }
+}
+
+/// Tells all channels what is said of some.
+fn tell(list: &mut Vec<Channel>, news: News<'_>)
+    ensures size { vec_len list.new ≡ vec_len list.old }
+    ensures counts { AreAlike list.old.items list.new.items }
+{
+    for place in 0..list.len() {
+        tell_at(list, place, news);
+    }
+}
+
+/// Tells the channel in a place.
+fn tell_at(list: &mut Vec<Channel>, place: usize, news: News<'_>)
+    ensures size { vec_len list.new ≡ vec_len list.old }
+    ensures counts { AreAlike list.old.items list.new.items }
+{
+    if let Some(channel) = list.get_mut(place) {
+        channel.note(news);
+    }
 }
 
 /// The channels of associations, in bounded memory: of each the first 1,024, and 16,384 of all.
