@@ -1,7 +1,7 @@
 -- The SCTP packet in a frame: after the headers of the link and of IP, and after those of tunnels, or
 -- by itself; in IP as protocol 132, or in UDP (RFC 6951). A header says what follows it, and the
 -- headers are read one after the other.
-use Rattle.std.specs.Prelude.{◌+◌, ◌-◌, ◌*◌, ◌/◌, ◌%◌, ◌^◌, ◌==◌, ℕ, zero, suc, Bool, true, ◌&&◌, ◌||◌, not, nat_lt, if◌then◌else◌, List, Option, Some, None, Result, Ok, Err, length, take, drop}
+use Rattle.std.specs.Prelude.{◌+◌, ◌-◌, ◌*◌, ◌/◌, ◌%◌, ◌^◌, ◌==◌, ℕ, Bool, true, ◌&&◌, ◌||◌, not, nat_lt, if◌then◌else◌, List, Option, Some, None, Result, Ok, Err, length, take, drop}
 use Rattle.std.specs.Int.{w32, from_be_bytes, from_le_bytes}
 use Rattle.dump_capture.specs.Number.{byte_at, number16}
 use Rattle.dump_capture.specs.Payload.{Payload, ◌>>=◌, behind, after_steps}

@@ -30,7 +30,7 @@ is_gre bytes =
     byte_at 0 bytes / 64 % 2 == 0 && byte_at 0 bytes / 4 % 4 == 0 && byte_at 1 bytes % 8 == 0
 
 -- What this type says (RFC 2784 section 2.4). ERSPAN's are 0x88be, of type II if there is a
--- sequence number and else of type I, and 0x22eb of type III (draft-foschiano-erspan-03 section 4).
+-- sequence number and else of type I, and 0x22eb of type III (draft-foschiano-erspan-03).
 abbrev pub in_gre : ℕ → Payload → Result Payload NoPacket
 in_gre type p =
     if type == 0x22eb || type == 0x88be && has_sequence_number p.bytes == 1

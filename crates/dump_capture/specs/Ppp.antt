@@ -1,6 +1,6 @@
 -- PPP (RFC 1661), alone, in HDLC-like framing (RFC 1662), and in a session of PPPoE (RFC 2516); and
 -- Cisco's framing.
-use Rattle.std.specs.Prelude.{◌/◌, ◌%◌, ◌==◌, ℕ, ◌||◌, nat_lt, if◌then◌else◌, Result, Ok, Err, length}
+use Rattle.std.specs.Prelude.{◌%◌, ◌==◌, ℕ, ◌||◌, nat_lt, if◌then◌else◌, Result, Ok, Err, length}
 use Rattle.dump_capture.specs.Number.{byte_at, number16}
 use Rattle.dump_capture.specs.Payload.{Payload, behind}
 use Rattle.dump_capture.specs.declared.frame.NoPacket.{NoPacket}

@@ -1,5 +1,5 @@
 -- VXLAN: a frame of Ethernet in UDP (RFC 7348).
-use Rattle.std.specs.Prelude.{◌/◌, ◌%◌, ◌==◌, ℕ, not, nat_lt, if◌then◌else◌, Result, Ok, Err, length}
+use Rattle.std.specs.Prelude.{◌/◌, ◌%◌, ◌==◌, not, nat_lt, if◌then◌else◌, Result, Ok, Err, length}
 use Rattle.dump_capture.specs.Number.{byte_at}
 use Rattle.dump_capture.specs.Payload.{Payload, behind}
 use Rattle.dump_capture.specs.declared.frame.NoPacket.{NoPacket}

@@ -1,7 +1,7 @@
 //! GRE: a payload of a type of Ethernet, in IP.
 
 ghost use Rattle.std.specs.Prelude.{◌≡◌, ◌≤◌, length};
-ghost use Rattle.dump_capture.specs.Gre.{gre, gre_size, is_gre, has_sequence_number, in_gre};
+ghost use Rattle.dump_capture.specs.Gre.{gre, gre_size, is_gre, in_gre};
 ghost use Rattle.dump_capture.specs.Found.{payload_of, payload_result};
 
 use crate::erspan::erspan;
