@@ -206,6 +206,11 @@ look_with tshark "$root/tests/dump/channels.py" "$program"
 # They say what other programs do.
 look_with_scapy "$root/tests/dump/scapy.py" --program "$program"
 look_with 'tshark-4 editcap mergecap text2pcap tcpdump hexdump xxd' "$root/tests/dump/tshark.py" "$program"
+if command -v tshark >/dev/null; then
+    look_with_scapy "$root/tests/dump/tunnels.py" "$program"
+else
+    leave_out "$root/tests/dump/tunnels.py" tshark
+fi
 
 # ---- fields of a real stack's packets
 

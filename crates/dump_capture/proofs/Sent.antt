@@ -4,12 +4,13 @@ use Rattle.std.specs.Int.{w16, to_be_bytes}
 use Rattle.std.proofs.lemmas.Bool.Decides.{nat_tests}
 use Rattle.std.proofs.lemmas.List.{length-append, take_at, drop_at, drop-drop}
 use Rattle.std.proofs.lemmas.Nat.{from_be_bytes-to_be_bytes_2}
-use Rattle.dump_capture.specs.Frame.{Payload, ip, ipv4, ipv6, on_link, in_frame, packet_in}
+use Rattle.dump_capture.specs.Payload.{Payload}
+use Rattle.dump_capture.specs.Frame.{ip, ipv4, ipv6, may_carry_sctp, on_link, in_frame, packet_in}
 use Rattle.dump_capture.specs.Number.{number16}
 use Rattle.dump_capture.specs.Sent.{Ipv4Fields, ipv4_packet, ipv6_packet}
 use Rattle.dump_capture.specs.declared.frame.Addresses.{Addresses}
 use Rattle.dump_capture.specs.declared.frame.Addresses.TheVariants.{V4, V6}
-use Rattle.dump_capture.specs.declared.frame.Protocol.TheVariants.{Number}
+use Rattle.dump_capture.specs.declared.payload.Protocol.TheVariants.{Number}
 use Rattle.dump_capture.proofs.Headers.{behind_one}
 
 -- what an IP packet carries
@@ -25,7 +26,7 @@ in_ipv4 : (f : Ipv4Fields) (a b c d p q r s original size : ℕ) (bytes : List �
     → on_link 101 (in_frame 101 original
     (ipv4_packet f size (a ∷ b ∷ c ∷ d ∷ []) (p ∷ q ∷ r ∷ s ∷ []) bytes))
     ≡ Ok (carried_in (V4 (a ∷ b ∷ c ∷ d ∷ []) (p ∷ q ∷ r ∷ s ∷ [])) size bytes)
-unfolding on_link ip ipv4
+unfolding on_link ip ipv4 may_carry_sctp
 in_ipv4 f a b c d p q r s original size bytes fits =
     let frame = ipv4_packet f size (a ∷ b ∷ c ∷ d ∷ []) (p ∷ q ∷ r ∷ s ∷ []) bytes in
     let some : (length frame == 0) ≡ false = grind (arith, nat_tests) in
@@ -69,7 +70,7 @@ sent_found f source destination bytes port original size of_source of_destinatio
     rw (s.is, d.is) (behind_one port 101 original
     (ipv4_packet f size (s.a ∷ s.b ∷ s.c ∷ s.d ∷ []) (d.a ∷ d.b ∷ d.c ∷ d.d ∷ []) bytes)
     (carried_in (V4 (s.a ∷ s.b ∷ s.c ∷ s.d ∷ []) (d.a ∷ d.b ∷ d.c ∷ d.d ∷ [])) size bytes)
-    (in_ipv4 f s.a s.b s.c s.d d.a d.b d.c d.d original size bytes fits) refl)
+    (in_ipv4 f s.a s.b s.c s.d d.a d.b d.c d.d original size bytes fits) refl refl)
 
 in_ipv6 : (source destination bytes : List ℕ) (hop_limit original size : ℕ)
     → length source ≡ 16 → length destination ≡ 16
@@ -111,4 +112,4 @@ pub sent_found_ipv6 : (source destination bytes : List ℕ) (hop_limit port orig
 sent_found_ipv6 source destination bytes hop_limit port original size of_source of_dest fits =
     behind_one port 101 original (ipv6_packet hop_limit size source destination bytes)
     (carried_in (V6 source destination) size bytes)
-    (in_ipv6 source destination bytes hop_limit original size of_source of_dest fits) refl
+    (in_ipv6 source destination bytes hop_limit original size of_source of_dest fits) refl refl

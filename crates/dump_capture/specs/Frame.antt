@@ -1,16 +1,22 @@
--- The SCTP packet in a frame: after the headers of the link and of IP, or by itself; in IP as
--- protocol 132, or in UDP (RFC 6951). A header says what follows it, and the headers are read one
--- after the other.
-use Rattle.std.specs.Prelude.{◌+◌, ◌-◌, ◌*◌, ◌/◌, ◌%◌, ◌^◌, ◌==◌, ℕ, zero, suc, Bool, true, ◌&&◌, ◌||◌, not, nat_lt, if◌then◌else◌, List, Option, Some, None, Result, Ok, Err, length, take, drop}
+-- The SCTP packet in a frame: after the headers of the link and of IP, and after those of tunnels, or
+-- by itself; in IP as protocol 132, or in UDP (RFC 6951). A header says what follows it, and the
+-- headers are read one after the other.
+use Rattle.std.specs.Prelude.{◌+◌, ◌-◌, ◌*◌, ◌/◌, ◌%◌, ◌^◌, ◌==◌, ℕ, Bool, true, ◌&&◌, ◌||◌, not, nat_lt, if◌then◌else◌, List, Option, Some, None, Result, Ok, Err, length, take, drop}
 use Rattle.std.specs.Int.{w32, from_be_bytes, from_le_bytes}
 use Rattle.dump_capture.specs.Number.{byte_at, number16}
+use Rattle.dump_capture.specs.Payload.{Payload, ◌>>=◌, behind, after_steps}
+use Rattle.dump_capture.specs.Udp.{udp_length}
+use Rattle.dump_capture.specs.Ppp.{framed_ppp, in_session}
+use Rattle.dump_capture.specs.Nflog.{nflog, attribute}
+use Rattle.dump_capture.specs.Gtp.{gtp_extension}
+use Rattle.dump_capture.specs.Tunnel.{is_tunnel, behind_tunnel}
 use Rattle.dump_capture.specs.declared.frame.Addresses.{Addresses}
 use Rattle.dump_capture.specs.declared.frame.Addresses.TheVariants.{V4, V6}
 use Rattle.dump_capture.specs.declared.frame.UdpPorts.{UdpPorts}
-use Rattle.dump_capture.specs.declared.frame.Protocol.{Protocol}
-use Rattle.dump_capture.specs.declared.frame.Protocol.TheVariants.{Link, EtherType, Ip, Number}
 use Rattle.dump_capture.specs.declared.frame.NoPacket.{NoPacket}
 use Rattle.dump_capture.specs.declared.frame.NoPacket.TheVariants.{Fragment, Cut, Malformed, LinkType, Other}
+use Rattle.dump_capture.specs.declared.payload.Protocol.{Protocol}
+use Rattle.dump_capture.specs.declared.payload.Protocol.TheVariants.{Link, EtherType, Ip, Number, GtpExtension, NflogAttribute}
 
 -- The packet, and what the headers before it say of where it comes from. It had `length` bytes, of
 -- which these were captured, its first.
@@ -19,23 +25,6 @@ pub record Packet : Type 0 where
   pub udp_ports : Option UdpPorts
   pub length : ℕ
   pub bytes : List ℕ
-
--- What follows a header: what it is, its size as the headers say it, and the bytes from its first
--- on. They may be fewer; they may be more, by what follows it in the frame.
-pub record Payload : Type 0 where
-  pub addresses : Option Addresses
-  pub protocol : Protocol
-  pub size : ℕ
-  pub bytes : List ℕ
-
-infixl 10 ◌>>=◌
-abbrev pub ◌>>=◌ : {A B : Type 0} → Result A NoPacket → (A → Result B NoPacket) → Result B NoPacket
-(Ok x) >>= f = f x
-(Err e) >>= f = Err e
-
--- what follows the first n bytes
-abbrev pub behind : ℕ → Protocol → Payload → Payload
-behind n protocol p = record p { protocol = protocol; size = p.size - n; bytes = drop n p.bytes }
 
 -- ---- transport
 
@@ -46,10 +35,6 @@ packet addresses ports size bytes =
 
 abbrev pub udp_ports : List ℕ → UdpPorts
 udp_ports bytes = record { source = number16 bytes; destination = number16 (drop 2 bytes) }
-
--- the header's length field, which counts the header of 8 bytes (RFC 768)
-abbrev pub udp_length : List ℕ → ℕ
-udp_length bytes = number16 (drop 4 bytes)
 
 -- SCTP in UDP: one of the ports is this one, 9899 if no other was agreed on (RFC 6951 section 5.1)
 unfoldable pub in_udp : ℕ → Payload → Result Packet NoPacket
@@ -65,9 +50,7 @@ carried_as port (Number number) p =
     if number == 132 then Ok (packet p.addresses None p.size p.bytes) else
     if number == 17 then in_udp port p else
     Err Other
-carried_as port (Link link) p = Err Other
-carried_as port (EtherType type) p = Err Other
-carried_as port Ip p = Err Other
+carried_as port _ p = Err Other
 
 -- the packet that is after the headers of the link and of IP
 abbrev pub carried : ℕ → Payload → Result Packet NoPacket
@@ -96,9 +79,11 @@ is_ipv4_fragment bytes = not (number16 (drop 6 bytes) % 2 ^ 14 == 0)
 abbrev pub ipv4_addresses : List ℕ → Addresses
 ipv4_addresses bytes = V4 (take 4 (drop 12 bytes)) (take 4 (drop 16 bytes))
 
--- the protocols in IPv4 that may carry SCTP: SCTP itself, UDP, and the authentication header
-abbrev pub may_carry_sctp : ℕ → Bool
-may_carry_sctp number = number == 132 || number == 17 || number == 51
+-- the protocols in IPv4 that may carry SCTP: SCTP itself, UDP, the authentication header, IPv4, IPv6
+-- and GRE
+unfoldable pub may_carry_sctp : ℕ → Bool
+may_carry_sctp number =
+    number == 132 || number == 17 || number == 51 || number == 4 || number == 41 || number == 47
 
 unfoldable pub ipv4 : Payload → Result Payload NoPacket
 ipv4 p =
@@ -185,17 +170,9 @@ label type p =
     if nat_lt (length p.bytes) 4 then Err Cut else
     Ok (behind 4 (if byte_at 2 p.bytes % 2 == 1 then Ip else EtherType type) p)
 
--- PPPoE in a session: a header of six bytes (RFC 2516 section 4), and PPP's protocol, which is that
--- of IPv4 (RFC 1332 section 2.1) or of IPv6 (RFC 5072 section 2)
-unfoldable pub in_session : Payload → Result Payload NoPacket
-in_session p =
-    if nat_lt (length p.bytes) 8 then Err Cut else
-    if number16 (drop 6 p.bytes) == 0x0021 || number16 (drop 6 p.bytes) == 0x0057
-    then Ok (behind 8 Ip p) else
-    Err Other
-
 -- By the type of what a frame carries (IEEE 802.3 clause 3.2.6). A tag is two bytes before a type
--- (IEEE 802.1Q clause 9): of a customer, of a provider, or of a provider before the standard.
+-- (IEEE 802.1Q clause 9): of a customer, of a provider, or of a provider before the standard. Type
+-- 0x6558 is a frame of Ethernet (RFC 8926 section 3.4, RFC 7637 section 3.2).
 unfoldable pub of_type : ℕ → Payload → Result Payload NoPacket
 of_type type p =
     if type == 0x0800 then ipv4 p else
@@ -203,6 +180,7 @@ of_type type p =
     if type == 0x8100 || type == 0x88a8 || type == 0x9100 then typed 2 4 p else
     if type == 0x8847 || type == 0x8848 then label type p else
     if type == 0x8864 then in_session p else
+    if type == 0x6558 then typed 12 14 p else
     Err Other
 
 -- the families of IP: 2 is IPv4 on every machine; 24, 28 and 30 are IPv6 on some
@@ -218,10 +196,17 @@ loopback p =
     then Ok (behind 4 Ip p) else
     Err Other
 
+unfoldable pub hdlc : Payload → Result Payload NoPacket
+hdlc p =
+    if length p.bytes == 0 then Err Cut else
+    if byte_at 0 p.bytes == 0x0f || byte_at 0 p.bytes == 0x8f then typed 2 4 p else
+    framed_ppp p
+
 -- A frame of this link type (the registry of draft-ietf-opsawg-pcaplinktype): Ethernet, whose type
 -- is after two addresses of six bytes; IP without a header of the link, which is 12 or 14 in files
--- of some BSDs; Linux's cooked header of either version; BSD's and OpenBSD's loopback; IPv4; IPv6;
--- and SCTP.
+-- of some BSDs; Linux's cooked header of either version; BSD's and OpenBSD's loopback; PPP, or in 50
+-- also Cisco's framing, whose first byte is 0x0f or 0x8f, and whose type is after two bytes (RFC 1547
+-- section 4.3.1); NFLOG; IPv4; IPv6; and SCTP.
 unfoldable pub on_link : ℕ → Payload → Result Payload NoPacket
 on_link link p =
     if link == 1 then typed 12 14 p else
@@ -229,6 +214,9 @@ on_link link p =
     if link == 113 then typed 14 16 p else
     if link == 276 then typed 0 20 p else
     if link == 0 || link == 108 then loopback p else
+    if link == 9 then framed_ppp p else
+    if link == 50 then hdlc p else
+    if link == 239 then nflog p else
     if link == 228 then ipv4 p else
     if link == 229 then ipv6 p else
     if link == 248 then Ok (behind 0 (Number 132) p) else
@@ -237,42 +225,53 @@ on_link link p =
 -- the link types that frames are read of
 abbrev pub is_known_link : ℕ → Bool
 is_known_link link =
-    link == 0 || link == 1 || link == 12 || link == 14 || link == 101 || link == 108 || link == 113
-    || link == 228 || link == 229 || link == 248 || link == 276
+    link == 0 || link == 1 || link == 9 || link == 12 || link == 14 || link == 50 || link == 101
+    || link == 108 || link == 113 || link == 228 || link == 229 || link == 239 || link == 248
+    || link == 276
 
 -- ---- the packet in a frame
 
--- a header of the link or of IP, and what follows it
+-- a header of the link, of IP or in a tunnel, and what follows it
 abbrev pub is_header : Protocol → Bool
 is_header (Number number) = is_extension number
-is_header (Link link) = true
-is_header (EtherType type) = true
-is_header Ip = true
+is_header _ = true
+
+abbrev pub begins_with_header : Payload → Bool
+begins_with_header p = is_header p.protocol
 
 abbrev pub behind_first : Protocol → Payload → Result Payload NoPacket
 behind_first (Link link) p = on_link link p
 behind_first (EtherType type) p = of_type type p
 behind_first Ip p = ip p
 behind_first (Number number) p = extension number p
+behind_first GtpExtension p = gtp_extension p
+behind_first NflogAttribute p = attribute p
 
 -- the payload after the header at its front
 abbrev pub behind_header : Payload → Result Payload NoPacket
 behind_header p = behind_first p.protocol p
 
 -- the payload after n headers at most
-unfoldable pub behind_headers : ℕ → Payload → Result Payload NoPacket
-behind_headers zero p = Ok p
-behind_headers (suc n) p =
-    if is_header p.protocol then behind_header p >>= behind_headers n else
-    Ok p
+abbrev pub behind_headers : ℕ → Payload → Result Payload NoPacket
+behind_headers n p = after_steps begins_with_header behind_header n p
+
+-- the payload after a tunnel, and after the headers in it
+abbrev pub through_tunnel : Payload → Result Payload NoPacket
+through_tunnel p = behind_tunnel p >>= behind_headers (2 ^ 16)
+
+-- the payload after n tunnels at most, where SCTP in UDP is on this port
+abbrev pub behind_tunnels : ℕ → ℕ → Payload → Result Payload NoPacket
+behind_tunnels n port p = after_steps (is_tunnel port) through_tunnel n p
 
 -- a frame of this link type, with its length on the link
 abbrev pub in_frame : ℕ → ℕ → List ℕ → Payload
 in_frame link original_length frame =
     record { addresses = None; protocol = Link link; size = original_length; bytes = frame }
 
--- The packet in a frame, in UDP if it is on this port. At most 65,536 headers are read, and a frame
--- of 262,144 bytes has no more: each has four bytes at least.
+-- The packet in a frame, in UDP if it is on this port, and in four tunnels at most. At most 65,536
+-- headers are read of a frame, and of what each tunnel carries; a frame of 262,144 bytes has no more:
+-- each has four bytes at least.
 unfoldable pub packet_in : ℕ → ℕ → ℕ → List ℕ → Result Packet NoPacket
 packet_in port link original_length frame =
-    behind_headers (2 ^ 16) (in_frame link original_length frame) >>= carried port
+    behind_headers (2 ^ 16) (in_frame link original_length frame) >>= behind_tunnels 4 port
+    >>= carried port

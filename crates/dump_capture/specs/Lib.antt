@@ -1,5 +1,15 @@
 pub mod Number
 pub mod Pcap
+pub mod Payload
+pub mod Udp
+pub mod Ppp
+pub mod Erspan
+pub mod Gre
+pub mod Vxlan
+pub mod Geneve
+pub mod Gtp
+pub mod Nflog
+pub mod Tunnel
 pub mod Frame
 pub mod Found
 pub mod Stamp

@@ -2,10 +2,14 @@
 
 ghost use Rattle.std.specs.Prelude.{◌≡◌, ◌≤◌, ◌+◌, length};
 ghost use Rattle.dump_capture.specs.Number.{number16};
-ghost use Rattle.dump_capture.specs.Frame.{packet_in, is_known_link, is_header, is_ip_family, is_extension, is_ipv6_fragment, extension_size, may_carry_sctp, packet, carried, in_udp, behind, behind_header, behind_headers, on_link, loopback, typed, of_type, label, in_session, ip, ipv4, ipv6, ipv4_length, ipv4_addresses, ipv6_addresses, extension};
+ghost use Rattle.dump_capture.specs.Frame.{packet_in, is_known_link, is_header, is_ip_family, is_extension, is_ipv6_fragment, extension_size, may_carry_sctp, packet, carried, in_udp, behind_header, behind_headers, behind_tunnels, through_tunnel, on_link, hdlc, loopback, typed, of_type, label, ip, ipv4, ipv6, ipv4_length, ipv4_addresses, ipv6_addresses, extension};
 ghost use Rattle.dump_capture.specs.Found.{found, packet_of, payload_of, payload_result};
 
-use crate::parts::after;
+use crate::gtp::gtp_extension;
+use crate::nflog::{attribute, nflog};
+use crate::payload::{Payload, Protocol, behind};
+use crate::ppp::{framed_ppp, in_session};
+use crate::tunnel::{GRE_PROTOCOL, IPV4_PROTOCOL, IPV6_PROTOCOL, behind_tunnel, is_tunnel};
 
 /// Link types (the registry of draft-ietf-opsawg-pcaplinktype).
 pub mod link_type {
@@ -13,10 +17,14 @@ pub mod link_type {
     pub const LOOPBACK: u16 = 0;
     /// Ethernet II.
     pub const ETHERNET: u16 = 1;
+    /// PPP (RFC 1661), or in HDLC-like framing (RFC 1662).
+    pub const PPP: u16 = 9;
     /// IPv4 or IPv6, in files of some BSDs.
     pub const BSD_RAW_IP: u16 = 12;
     /// IPv4 or IPv6, in files of OpenBSD.
     pub const OPENBSD_RAW_IP: u16 = 14;
+    /// PPP in HDLC-like framing (RFC 1662), or in Cisco's (RFC 1547).
+    pub const PPP_HDLC: u16 = 50;
     /// IPv4 or IPv6, without a header of the link.
     pub const RAW_IP: u16 = 101;
     /// OpenBSD's loopback: the family most significant byte first.
@@ -27,6 +35,8 @@ pub mod link_type {
     pub const IPV4: u16 = 228;
     /// IPv6, without a header of the link.
     pub const IPV6: u16 = 229;
+    /// What Linux's packet filter logged of packets.
+    pub const NFLOG: u16 = 239;
     /// SCTP, without IP.
     pub const SCTP: u16 = 248;
     /// Linux's cooked header, version 2.
@@ -37,7 +47,7 @@ pub mod link_type {
 const SCTP_PROTOCOL: u8 = 132;
 
 /// The protocol number of UDP in IP.
-const UDP_PROTOCOL: u8 = 17;
+pub(crate) const UDP_PROTOCOL: u8 = 17;
 
 /// The protocol number of IPv6's fragment header.
 const FRAGMENT_HEADER: u8 = 44;
@@ -48,9 +58,12 @@ const AUTHENTICATION_HEADER: u8 = 51;
 /// The UDP port of SCTP (RFC 6951 section 5.1).
 pub const UDP_PORT: u16 = 9899;
 
-/// The most headers of a frame that are read, those of the link and of IP: a frame of 262,144 bytes
-/// has no more.
+/// The most headers that are read of a frame, those of the link and of IP, and of what a tunnel
+/// carries: a frame of 262,144 bytes has no more.
 const MOST_HEADERS: u32 = 65_536;
+
+/// The most tunnels that are read in one another.
+const MOST_TUNNELS: u32 = 4;
 
 /// The addresses of an IP packet.
 #[derive(Clone, Copy, Debug, PartialEq, Eq)]
@@ -77,9 +90,9 @@ pub struct UdpPorts {
 /// An SCTP packet where it lies in a frame.
 #[derive(Clone, Copy, Debug)]
 pub struct FoundPacket<'a> {
-    /// The addresses of the IP packet that carries it; none of link type 248.
+    /// The addresses of the innermost IP packet that carries it; none of link type 248.
     pub addresses: Option<Addresses>,
-    /// The ports of the UDP datagram that carries it, if one does.
+    /// The ports of the UDP datagram that carries it, if one does; not those of a tunnel.
     pub udp_ports: Option<UdpPorts>,
     /// How many bytes the packet had, as the headers before it say.
     pub length: usize,
@@ -93,8 +106,8 @@ pub struct FoundPacket<'a> {
 pub enum NoPacket {
     /// Frames of its link type aren't read.
     LinkType,
-    /// It is a fragment of an IP packet that may carry SCTP: in IPv4 of one that carries SCTP, UDP
-    /// or the authentication header, in IPv6 of any.
+    /// It is a fragment of an IP packet that may carry SCTP: in IPv4 of one that carries SCTP, UDP,
+    /// the authentication header, IP or GRE, in IPv6 of any.
     Fragment,
     /// Fewer bytes were captured than the headers have.
     Cut,
@@ -112,13 +125,16 @@ pub fn is_known_link(link_type: u16) -> bool
         link_type,
         link_type::LOOPBACK
             | link_type::ETHERNET
+            | link_type::PPP
             | link_type::BSD_RAW_IP
             | link_type::OPENBSD_RAW_IP
+            | link_type::PPP_HDLC
             | link_type::RAW_IP
             | link_type::OPENBSD_LOOPBACK
             | link_type::LINUX_COOKED
             | link_type::IPV4
             | link_type::IPV6
+            | link_type::NFLOG
             | link_type::SCTP
             | link_type::LINUX_COOKED_2
     )
@@ -129,9 +145,12 @@ pub fn is_known_link(link_type: u16) -> bool
 ///
 /// The packet is protocol 132 of IPv4 or of IPv6, or it is in UDP with `udp_port` on either side.
 /// It may be after any 802.1Q and 802.1ad tags, MPLS labels and PPPoE in a session, and after the
-/// authentication header and IPv6's extension headers. It is as long as the innermost header says,
-/// and what follows in the frame is left out; if the frame was cut off, it has fewer bytes than
-/// `length`, maybe none. An IPv4 packet whose length is 0 reaches to the end of the frame.
+/// authentication header and IPv6's extension headers; and in up to four tunnels, each in the one
+/// before: IP in IP, GRE, ERSPAN, VXLAN, Geneve and GTP-U, these three in UDP to the port that each
+/// has. It is as long as the innermost header says, and what follows in the frame, or in what a
+/// tunnel carries, is left out; if the frame was cut off, or that says more bytes than a tunnel
+/// carries, it has fewer bytes than `length`, maybe none. An IPv4 packet whose length is 0 reaches
+/// to the end of the frame or of the tunnel's payload.
 ///
 /// Otherwise returns the first of these from the link's header inward: `LinkType`; `Cut` if fewer
 /// bytes were captured than a header has; `Malformed` if a header has another version than its type
@@ -146,36 +165,14 @@ pub fn packet_in(
 ) -> Result<FoundPacket<'_>, NoPacket>
     ensures { found result ≡ packet_in udp_port link_type original_length frame.now }
 {
-    let payload = behind_headers(Payload {
+    let outer = behind_headers(Payload {
         addresses: None,
         protocol: Protocol::Link(link_type),
         size: original_length as usize,
         bytes: frame,
     })?;
+    let payload = behind_tunnels(udp_port, outer)?;
     carried(udp_port, payload)
-}
-
-/// What a payload is.
-#[derive(Clone, Copy)]
-enum Protocol {
-    /// A frame of this link type.
-    Link(u16),
-    /// What has this type in Ethernet.
-    EtherType(u16),
-    /// An IP packet, whose version says which.
-    Ip,
-    /// What has this protocol number in IP.
-    Number(u8),
-}
-
-/// What follows a header: `size` bytes as the headers say. `bytes` begin with them, but may be
-/// fewer, or more by what follows them in the frame.
-#[derive(Clone, Copy)]
-struct Payload<'a> {
-    addresses: Option<Addresses>,
-    protocol: Protocol,
-    size: usize,
-    bytes: &'a [u8],
 }
 
 /// Returns a packet of this size, as far as it was captured.
@@ -236,6 +233,28 @@ fn in_udp(udp_port: u16, payload: Payload<'_>) -> Result<FoundPacket<'_>, NoPack
     Ok(packet(payload.addresses, Some(ports), size - 8, &bytes[8..]))
 }
 
+/// Returns the payload after tunnels, where SCTP in UDP is on this port.
+fn behind_tunnels(udp_port: u16, payload: Payload<'_>) -> Result<Payload<'_>, NoPacket>
+    ensures { payload_result result ≡
+        behind_tunnels MOST_TUNNELS udp_port (payload_of payload.entry) }
+{
+    let mut rest = payload;
+    for _k in 0..MOST_TUNNELS {
+        if !is_tunnel(udp_port, rest) {
+            return Ok(rest);
+        }
+        rest = through_tunnel(rest)?;
+    }
+    Ok(rest)
+}
+
+/// Returns the payload after a tunnel and the headers in it.
+fn through_tunnel(payload: Payload<'_>) -> Result<Payload<'_>, NoPacket>
+    ensures { payload_result result ≡ through_tunnel (payload_of payload.entry) }
+{
+    behind_headers(behind_tunnel(payload)?)
+}
+
 /// Returns the payload after the headers of the link and of IP.
 fn behind_headers(payload: Payload<'_>) -> Result<Payload<'_>, NoPacket>
     ensures { payload_result result ≡ behind_headers MOST_HEADERS (payload_of payload.entry) }
@@ -250,7 +269,7 @@ fn behind_headers(payload: Payload<'_>) -> Result<Payload<'_>, NoPacket>
     Ok(rest)
 }
 
-/// Returns whether this is a header of the link or of IP, and what follows it.
+/// Returns whether this is a header of the link, of IP or in a tunnel, and what follows it.
 fn is_header(protocol: Protocol) -> bool
     ensures { result ≡ is_header protocol }
 {
@@ -269,18 +288,8 @@ fn behind_header(payload: Payload<'_>) -> Result<Payload<'_>, NoPacket>
         Protocol::EtherType(ether_type) => of_type(ether_type, payload),
         Protocol::Ip => ip(payload),
         Protocol::Number(number) => extension(number, payload),
-    }
-}
-
-/// Returns what follows the first `count` bytes.
-fn behind(count: usize, protocol: Protocol, payload: Payload<'_>) -> Payload<'_>
-    ensures { payload_of result ≡ behind count protocol (payload_of payload.entry) }
-{
-    Payload {
-        addresses: payload.addresses,
-        protocol,
-        size: payload.size.saturating_sub(count),
-        bytes: after(payload.bytes, count),
+        Protocol::GtpExtension => gtp_extension(payload),
+        Protocol::NflogAttribute => attribute(payload),
     }
 }
 
@@ -295,10 +304,27 @@ fn on_link(link_type: u16, frame: Payload<'_>) -> Result<Payload<'_>, NoPacket>
         link_type::LINUX_COOKED => typed(14, 16, frame),
         link_type::LINUX_COOKED_2 => typed(0, 20, frame),
         link_type::LOOPBACK | link_type::OPENBSD_LOOPBACK => loopback(frame),
+        link_type::PPP => framed_ppp(frame),
+        link_type::PPP_HDLC => hdlc(frame),
+        link_type::NFLOG => nflog(frame),
         link_type::IPV4 => ipv4(frame),
         link_type::IPV6 => ipv6(frame),
         link_type::SCTP => Ok(behind(0, Protocol::Number(SCTP_PROTOCOL), frame)),
         _ => Err(NoPacket::LinkType),
+    }
+}
+
+/// Returns what follows the header of PPP, or of Cisco's framing.
+#[tactic(auto, unfolding(crate::specs::Frame::hdlc))]
+fn hdlc(frame: Payload<'_>) -> Result<Payload<'_>, NoPacket>
+    ensures { payload_result result ≡ hdlc (payload_of frame.entry) }
+{
+    if frame.bytes.is_empty() {
+        return Err(NoPacket::Cut);
+    }
+    match frame.bytes[0] {
+        0x0f | 0x8f => typed(2, 4, frame),
+        _ => framed_ppp(frame),
     }
 }
 
@@ -350,6 +376,7 @@ fn of_type(ether_type: u16, payload: Payload<'_>) -> Result<Payload<'_>, NoPacke
         0x8100 | 0x88a8 | 0x9100 => typed(2, 4, payload),
         0x8847 | 0x8848 => label(ether_type, payload),
         0x8864 => in_session(payload),
+        0x6558 => typed(12, 14, payload),
         _ => Err(NoPacket::Other),
     }
 }
@@ -368,20 +395,6 @@ fn label(ether_type: u16, payload: Payload<'_>) -> Result<Payload<'_>, NoPacket>
         Protocol::EtherType(ether_type)
     };
     Ok(behind(4, protocol, payload))
-}
-
-/// Returns what follows the headers of PPPoE in a session and of PPP.
-#[tactic(auto, unfolding(crate::specs::Frame::in_session))]
-fn in_session(payload: Payload<'_>) -> Result<Payload<'_>, NoPacket>
-    ensures { payload_result result ≡ in_session (payload_of payload.entry) }
-{
-    if payload.bytes.len() < 8 {
-        return Err(NoPacket::Cut);
-    }
-    match number16(&payload.bytes[6..]) {
-        0x0021 | 0x0057 => Ok(behind(8, Protocol::Ip, payload)),
-        _ => Err(NoPacket::Other),
-    }
 }
 
 /// Returns what an IP packet of either version carries.
@@ -559,10 +572,19 @@ fn is_extension(number: u8) -> bool
 }
 
 /// Returns whether this protocol in IPv4 may carry SCTP.
+#[tactic(auto, unfolding(crate::specs::Frame::may_carry_sctp))]
 fn may_carry_sctp(number: u8) -> bool
     ensures { result ≡ may_carry_sctp number }
 {
-    matches!(number, SCTP_PROTOCOL | UDP_PROTOCOL | AUTHENTICATION_HEADER)
+    matches!(
+        number,
+        SCTP_PROTOCOL
+            | UDP_PROTOCOL
+            | AUTHENTICATION_HEADER
+            | IPV4_PROTOCOL
+            | IPV6_PROTOCOL
+            | GRE_PROTOCOL
+    )
 }
 
 /// Returns the number of the first two bytes, most significant byte first.

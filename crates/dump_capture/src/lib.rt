@@ -8,16 +8,25 @@
 
 pub mod decoder;
 mod dump;
+mod erspan;
 pub mod event;
 pub mod frame;
+mod geneve;
+mod gre;
+mod gtp;
 pub mod hex_bytes;
 pub mod laws;
 pub mod line;
 pub mod log_text;
+mod nflog;
 mod parts;
+mod payload;
 pub mod pcap;
 pub mod pcap_decoder;
 pub mod pcapng;
 pub mod pcapng_decoder;
+mod ppp;
 pub mod stamp;
 pub mod text;
+mod tunnel;
+mod vxlan;

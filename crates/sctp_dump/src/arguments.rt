@@ -72,8 +72,9 @@ How they are read:
   --format FORM    pcap, pcapng or text, in place of what the first bytes say
   --help, --version
 
-Frames of these link types are read: 0 and 108 (loopback), 1 (Ethernet), 12, 14
-and 101 (raw IP), 113 and 276 (Linux cooked), 228 (IPv4), 229 (IPv6), 248 (SCTP).
+Frames of these link types are read: 0 and 108 (loopback), 1 (Ethernet), 9 and 50
+(PPP), 12, 14 and 101 (raw IP), 113 and 276 (Linux cooked), 228 (IPv4), 229
+(IPv6), 239 (NFLOG), 248 (SCTP).
 
 An option that would have no effect is refused.
 
