@@ -16,15 +16,13 @@ const NAMES = ['First end', 'Second end'];
 /** Pixels: beside, above and below a panel of the graph, for its legend, and where nothing is seen. */
 const LEFT = 52, RIGHT = 12, ABOVE = 22, BELOW = 20, LEGEND = 22, NOWHERE = -9;
 
-/** Of each end the TSN of its first DATA, or else the first that was acknowledged.
+/** Of each end the TSN of its first DATA, if it has some.
     @param {import('./store.mjs').Store} store
     @param {number[]} rows
     @param {SenderOf} senderOf */
 function basesOf(store, rows, senderOf) {
-  const { tsn, ack } = store.columns, sent = [0, 1].map(end => rows.find(row => store.has(row, 'data') && senderOf(row) === end));
-  const acked = [0, 1].map(end => rows.find(row => store.has(row, 'sack') && senderOf(row) !== end));
-  const orNone = (column, row) => row === undefined ? undefined : column[row];
-  return sent.map((row, end) => orNone(tsn, row) ?? orNone(ack, acked[end]) ?? 0);
+  const sent = [0, 1].map(end => rows.find(row => store.has(row, 'data') && senderOf(row) === end));
+  return sent.map(row => row === undefined ? undefined : store.columns.tsn[row]);
 }
 
 /** The rows of which more is drawn than is known of each.
@@ -38,7 +36,7 @@ function rowsToRead(store, rows) {
 
 /** Gives all that is drawn to `put`, in the order of the rows: its kind, the end whose TSNs they are, nanoseconds since the first row
     (or where no time is known the number of the row), the TSN since the base, the row, and of gap blocks the last TSN. Of some rows
-    the lines were read. TSNs are serial numbers (RFC 1982). */
+    the lines were read. The base of an end without DATA is the first TSN that is acknowledged. TSNs are serial numbers (RFC 1982). */
 function trackOver({ store, rows, senderOf, repeats }, bases, lines, put) {
   const { ack, digits } = store.columns, first = rows.find(row => digits[row]);
   let x = 0;
@@ -50,12 +48,15 @@ function trackOver({ store, rows, senderOf, repeats }, bases, lines, put) {
       store.tsns(row).forEach(tsn => put(again.has(tsn) ? 'again' : 'sent', own, x, tsn - bases[own] | 0, row));
     }
     for (const { cumulative_tsn, blocks = [], nr_blocks = [] } of acking) {
+      bases[other] ??= cumulative_tsn;
       put('acked', other, x, cumulative_tsn - bases[other] | 0, row);
       for (const { first_tsn, last_tsn } of [...blocks, ...nr_blocks].filter(it => isNumber(it.first_tsn) && isNumber(it.last_tsn)))
         put('gaps', other, x, first_tsn - bases[other] | 0, row, last_tsn - bases[other] | 0);
     }
-    if (!acking.length && store.has(row, 'sack'))
+    if (!acking.length && store.has(row, 'sack')) {
+      bases[other] ??= ack[row];
       put('acked', other, x, ack[row] - bases[other] | 0, row);
+    }
   });
 }
 
@@ -160,7 +161,7 @@ class Graph {
         paths[kind] += { sent: `M${place}h0`, again: `M${px - 3},${py - 3}l6,6m0,-6l-6,6`, gaps: `M${px},${py + 2}V${to - 2}` }[kind];
     });
     this.placeOf = row => rows.includes(row) ? xOf(first === undefined ? rows.indexOf(row) : store.between(first, row) ?? NaN) || NOWHERE : NOWHERE;
-    const texts = tracks.map((it, its) => trackText(its, bases[its], it));
+    const texts = tracks.map((it, its) => trackText(its, bases[its] ?? 0, it));
     svg.setAttribute('viewBox', `0 0 ${width} ${height}`);
     svg.setAttribute('aria-label', `TSN over time. ${texts.join('. ')}. ` + (first === undefined ? 'No time is known: by packets.' : `Over ${durationText(end - start)}.`));
     this.cursor = line('cursor', NOWHERE, LEGEND, NOWHERE, height - BELOW);

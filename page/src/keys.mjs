@@ -3,11 +3,12 @@
 // fields knows none: it shows each key as it comes, and `KEY@` as its place.
 import { CHUNK_GROUPS } from './registry.mjs';
 
-export { WORDS, KINDS, FLAGS, MOST_TEXT, COLUMNS, OF_DAY, groupOf, isData, isText, isNumber, isObject, parsed, isAssociation, isSummary, isNotFollowed };
+export { WORDS, KINDS, FLAGS, MOST_TEXT, COLUMNS, OF_DAY, groupOf, isData, isText, isNumber, isObject, parsed, isAssociation, isSummary };
+export { isChannel, isNotFollowed };
 export { Rows, pairsOf, associationOf, skippedText };
 
-/** The program's words: a line of JSON for each packet, with places, broken rules, associations and messages. */
-const WORDS = ['--json', '--places', '--check', '--associations', '--messages'];
+/** The program's words: a line of JSON for each packet, with places, broken rules, associations, messages and channels. */
+const WORDS = ['--json', '--places', '--check', '--associations', '--messages', '--channels'];
 
 /** The kinds of lines that become rows. */
 const KINDS = ['accepted', 'refused', 'cut', 'skipped', 'file'];
@@ -82,17 +83,29 @@ const isAssociation = it => isObject(it) && isNumber(it.association) && it.assoc
     @type {(it: any) => it is Summary} */
 const isSummary = it => isObject(it) && isNumber(it.packets) && mayBeNumber(it.skipped);
 
+const TRAFFIC = ['messages', 'bytes', 'repeated', 'abandoned', 'unacknowledged'];
+const isTraffic = it => isObject(it) && TRAFFIC.every(key => isNumber(it[key])) && (isNone(it.delay) || isObject(it.delay) && mayBeNumber(it.delay.greatest_packet));
+const isReset = it => isObject(it) && (it.end === 0 || it.end === 1) && isNumber(it.packet) && mayBeNumber(it.result) && mayBeText(it.result_name) &&
+  mayBeNumber(it.response_packet);
+
+/** Whether an object is a channel, or sums up others.
+    @type {(it: any) => it is Channel} */
+const isChannel = it => isObject(it) && isNumber(it.channel_of) && (it.others === true || isNumber(it.stream)) && mayBeList(it.resets, isReset) &&
+  Array.isArray(it.ends) && it.ends.length === 2 && it.ends.every(isTraffic) &&
+  ['label', 'label_bytes', 'protocol', 'protocol_bytes', 'channel_type_name', 'ppid_name'].every(key => mayBeText(it[key])) &&
+  ['ppid', 'channel_type', 'reliability', 'opened_by', 'opened_packet', 'acknowledged_packet'].every(key => mayBeNumber(it[key]));
+
 /** Whether an object says how many DATA chunks are followed in no message.
     @type {(it: any) => it is { data_not_followed: number }} */
 const isNotFollowed = it => isObject(it) && isNumber(it.data_not_followed);
 
-const TIME = /"time":(-?[\d.]+)/, TIMES = new RegExp(TIME, 'g'), TIMES_OF_MESSAGE = /"(sent|acknowledged)":(-?[\d.]+)/g;
+const TIME = /"time":(-?[\d.]+)/, TIMES = new RegExp(TIME, 'g'), OTHER_TIMES = /"(sent|opened|acknowledged)":(-?[\d.]+)/g;
 
 /** The object of a line, in which a time stays the text of its digits: a double hasn't enough for nanoseconds.
     @param {string} line */
 function parsed(line) {
   if (!line.startsWith('{"packet"'))
-    return JSON.parse(line.startsWith('{"message_of"') ? line.replace(TIMES_OF_MESSAGE, '"$1":"$2"') : line.replace(TIMES, '"time":"$1"'));
+    return JSON.parse(/^{"(message|channel)_of"/.test(line) ? line.replace(OTHER_TIMES, '"$1":"$2"') : line.replace(TIMES, '"time":"$1"'));
   // (a packet has one time: its line, which can be long, isn't copied)
   const packet = JSON.parse(line);
   if (typeof packet.time === 'number')

@@ -1,12 +1,18 @@
 // SPDX-License-Identifier: Apache-2.0
 // What was read: a row of numbers for each line, and the lines themselves, packed, in Blobs, which the browser may keep on disk.
-import { associationOf, COLUMNS, FLAGS, isAssociation, isNotFollowed, isSummary, KINDS, OF_DAY, pairsOf, parsed } from './keys.mjs';
+import { associationOf, COLUMNS, FLAGS, isAssociation, isChannel, isNotFollowed, isSummary, KINDS, OF_DAY, pairsOf, parsed } from './keys.mjs';
 import { lineIn, uncompressed } from './packed.mjs';
 
 export { Store };
 
 /** So many batches of lines are kept as they were before they were compressed. */
 const MOST_HELD = 4;
+
+/** WebRTC's protocol that opens channels (RFC 8832 section 8.1), and so many others of a stream are named. */
+const DCEP = 50, MOST_PROTOCOLS = 4;
+
+/** @type {(it: Channel | Message) => string} */
+const payloadOf = ({ ppid, ppid_name }) => ppid_name ?? `ppid ${ppid}`;
 
 const decoder = new TextDecoder();
 
@@ -46,7 +52,7 @@ class Store {
   files = new Map();
   /** The beginning of each row's texts, in small letters. */
   texts = /** @type {string[]} */ ([]);
-  /** Data channels, and how many messages are on streams that aren't among them.
+  /** Channels, and how many messages are on those that found no room.
       @type {Channel[]} */
   channels = [];
   unlisted = 0;
@@ -74,7 +80,7 @@ class Store {
 
   /** Adds what the Worker posted.
       @param {Batch} batch */
-  add({ lines, columns, objects, read, flows, summaries, notes, texts, channels, unlisted, messages, fates }) {
+  add({ lines, columns, objects, read, flows, summaries, notes, texts, messages, fates }) {
     const more = columns.kind.length;
     for (const [name, column] of Object.entries(this.columns)) {
       if (column.length < this.count + more) {
@@ -92,9 +98,6 @@ class Store {
     summaries.forEach(it => this.summaries.push(it));
     notes.forEach(it => this.notes.push(it));
     texts.forEach(it => this.texts.push(it));
-    for (const it of channels)
-      this.channels[it.channel - 1] = it;
-    this.unlisted = unlisted;
     messages.forEach(it => this.messages.push(it));
     this.fates = fates;
     for (const it of objects) {
@@ -102,6 +105,8 @@ class Store {
         this.associations.push(it);
       else if (isSummary(it))
         this.summary = it;
+      else if (isChannel(it))
+        this.addChannel(it);
       else if (isNotFollowed(it))
         this.unfollowed = it.data_not_followed;
     }
@@ -118,6 +123,15 @@ class Store {
       for (const [name, bit] of Object.entries(FLAGS))
         this.flags[name] += bits & bit ? count : 0;
     }
+  }
+
+  /** Adds a channel, or counts the messages of others.
+      @param {Channel} it */
+  addChannel(it) {
+    if (it.others)
+      this.unlisted += it.ends[0].messages + it.ends[1].messages;
+    else
+      this.channels.push(Object.assign({ channel: 0 }, it, { channel: this.channels.length + 1 }));
   }
 
   /** Puts a time of day on the day that brings it nearest to the latest one, from the first day on: a log goes on after midnight.
@@ -221,12 +235,38 @@ class Store {
     }
     this.associations.sort((a, b) => a.association - b.association);
     const byNumber = new Map(this.associations.map(it => [it.association, it]));
+    const sides = this.sides(), payloads = this.payloads();
     for (const channel of this.channels) {
+      channel.payload = channel.ppid !== undefined ? [payloadOf(channel)] : [...payloads.get(`${channel.channel_of} ${channel.stream}`) ?? []];
       channel.ends.forEach((end, i) => {
-        const own = byNumber.get(channel.association)?.ends[i];
-        Object.assign(end, { addresses: own?.addresses, port: own?.port });
+        const own = byNumber.get(channel.channel_of)?.ends[i], side = sides.get(channel.channel_of)?.[i];
+        Object.assign(end, { ...side && { side }, addresses: own?.addresses, port: own?.port });
       });
     }
+  }
+
+  /** The payload protocols of the messages that are kept, without DCEP, by association and stream: a few of each.
+      @returns {Map<string, Set<string>>} */
+  payloads() {
+    const found = new Map();
+    for (const it of this.messages) {
+      const key = `${it.message_of} ${it.stream}`, own = found.get(key) ?? new Set();
+      if (it.ppid !== undefined && it.ppid !== DCEP && own.size < MOST_PROTOCOLS)
+        found.set(key, own.add(payloadOf(it)));
+    }
+    return found;
+  }
+
+  /** Which of an association's ends is the local one, by its number: of a log that is known.
+      @returns {Map<number, string[]>} */
+  sides() {
+    const { association, end, flow } = this.columns, sides = new Map();
+    for (let row = 0; row < this.count; row++) {
+      const { direction } = this.flows[flow[row]];
+      if (direction !== undefined && !sides.has(association[row]))
+        sides.set(association[row], (direction === 'outgoing') === (end[row] === 0) ? ['local', 'remote'] : ['remote', 'local']);
+    }
+    return sides;
   }
 
   /** The rows of an association's packets, and who sent each.

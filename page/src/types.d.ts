@@ -95,16 +95,28 @@ interface Association {
   [key: string]: unknown;
 }
 
-/** A data channel, as streams.mjs gathers it. */
+/** A data channel, or the messages of a stream with one payload protocol, as the program says what it has; `channel` is its number. */
 interface Channel {
   channel: number;
-  association: number;
+  channel_of: number;
   stream: number;
-  channel_type?: string;
-  reliability?: number;
+  others?: boolean;
   label?: string;
+  label_bytes?: string;
   protocol?: string;
-  payload: unknown[];
+  protocol_bytes?: string;
+  ppid?: number;
+  ppid_name?: string;
+  channel_type?: number;
+  channel_type_name?: string;
+  reliability?: number;
+  payload?: string[];
+  opened_by?: number;
+  opened_packet?: number;
+  opened_file?: string;
+  acknowledged_packet?: number;
+  acknowledged_file?: string;
+  resets?: { end: 0 | 1; packet: number; file?: string; result?: number; result_name?: string; response_packet?: number; response_file?: string }[];
   ends: ChannelEnd[];
   [key: string]: unknown;
 }
@@ -117,7 +129,8 @@ interface ChannelEnd {
   bytes: number;
   repeated: number;
   abandoned: number;
-  longest?: AssociationEvent & { delay: number };
+  unacknowledged: number;
+  delay?: { greatest?: number; greatest_packet?: number; greatest_file?: string };
   [key: string]: unknown;
 }
 
@@ -224,8 +237,6 @@ interface Batch {
   summaries: ChunkSummary[];
   notes: string[];
   texts: string[];
-  channels: Channel[];
-  unlisted: number;
   messages: Message[];
   fates: import('./store.mjs').Store['fates'];
 }

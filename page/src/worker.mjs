@@ -6,7 +6,6 @@ import { COLUMNS, parsed, Rows } from './keys.mjs';
 import { compressed, packInto } from './packed.mjs';
 import { run } from './program.mjs';
 import { formOf, HEAD, signsOf } from './signs.mjs';
-import { Streams } from './streams.mjs';
 
 /** This many bytes of packed lines are a batch; one that is waited for is smaller. */
 const BATCH = 1 << 20;
@@ -64,7 +63,6 @@ class Output {
   /** @type {string[]} */
   texts = [];
   rows = new Rows();
-  streams = new Streams();
   fates = new Fates();
   batch = 0;
   read = 0;
@@ -118,16 +116,12 @@ class Output {
     }
     const row = this.rows.row(object);
     if (!row) {
-      if (isMessage(object)) {
+      if (isMessage(object))
         this.fates.add(object);
-        this.streams.addMessage(object);
-      } else if (object) {
+      else if (object)
         this.objects.push(object);
-      }
       return;
     }
-    if (row.association)
-      this.streams.add(object);
     [row.batch, row.offset, row.size] = [this.batch, from, end - from];
     this.done = end;
     for (const name in this.columns)
@@ -140,11 +134,11 @@ class Output {
     this.last = performance.now();
     /** @type {Columns} */
     const columns = /** @type {any} */ (Object.fromEntries(Object.entries(COLUMNS).map(([name, type]) => [name, type.from(this.columns[name])])));
-    const { flows, summaries, notes } = this.rows, { streams, fates } = this;
+    const { flows, summaries, notes } = this.rows, { fates } = this;
     postMessage({
       lines: new Blob([compressed(this.packed.subarray(0, this.done))]), columns, objects: this.objects, read: this.read,
       flows: flows.take(), summaries: summaries.take(), notes: notes.take(),
-      texts: this.texts, channels: streams.take(), unlisted: streams.unlisted, messages: fates.take(), fates: fates.counts,
+      texts: this.texts, messages: fates.take(), fates: fates.counts,
     }, Object.values(columns).map(it => it.buffer));
     this.batch++;
     this.clear();

@@ -832,8 +832,8 @@ async function inBrowser(browser) {
     await browser.click('#tab-channels');
     const ends = '192.0.2.10:49152 / 198.51.100.7:5000';
     const channels = [
-      ['1', '0', 'chat / ', 'WebRTC String', 'reliable ordered', ends, 'OPEN 5 / ACK 6', '6 / 1', '60 B / 3 B', '1 / 1', '0 / 0', '222 ms / 683 ms', '–'],
-      ['1', '1', '– / ', 'WebRTC Binary', '–', ends, '–', '1 / 0', '200 B / 0 B', '0 / 0', '0 / 0', '21 ms / –', 'first end: reset 25, 26: Performed'],
+      ['1', '0', 'chat / ', 'WebRTC String', 'reliable ordered', ends, 'OPEN 5 / ACK 6', '7 / 2', '76 B / 4 B', '1 / 1', '0 / 0', '222 ms / 683 ms', '–'],
+      ['1', '1', '–', 'WebRTC Binary', '–', ends, '–', '1 / 0', '200 B / 0 B', '0 / 0', '0 / 0', '21 ms / –', 'first end: reset 25, 26: Performed'],
     ];
     assert.deepEqual(await cells(), channels);
     await browser.click('#channel-heads span:nth-child(9) button');
@@ -1113,7 +1113,7 @@ async function inBrowser(browser) {
       await wait(100);
       const cells = 'Array.from(it.children, cell => [cell.dataset.title, Array.from(cell.children, line => line.textContent)])';
       const rows = await browser.ask(all('#association-rows .row', cells));
-      const wanted = linesOf(files, ...Object.keys(files)).filter(it => it.ends);
+      const wanted = linesOf(files, ...Object.keys(files)).filter(it => it.ends && it.association);
       assert.equal(rows.length, wanted.length);
       rows.forEach((row, i) => compareRow(Object.fromEntries(row), wanted[i]));
       assert.deepEqual(await browser.ask(all('#association-heads span')), rows[0].map(([head]) => head));
