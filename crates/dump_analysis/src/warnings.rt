@@ -3,6 +3,7 @@
 ghost use Rattle.std.specs.Prelude.{◌≡◌, true, false, replicate};
 ghost use Rattle.dcsctp_borrowed.specs.Part.{Part as ThePart};
 ghost use Rattle.dcsctp_chunk.specs.Flags.{is_set};
+ghost use Rattle.dcsctp_receive.specs.Rule.{AreBroken};
 ghost use Rattle.dump_analysis.specs.Warnings.{CountsBroken, CountsRules, is_warned};
 
 use crate::rule::{BrokenRules, Known, RULES, Rule};
@@ -35,7 +36,10 @@ impl Warnings {
     ) -> BrokenRules
         ensures judged { let packet : ThePart = record { bytes = bytes.now; size = size } in
             is_judged ≡ true → CountsRules packet word known self.old.counts self.new.counts }
+        ensures found { let packet : ThePart = record { bytes = bytes.now; size = size } in
+            is_judged ≡ true → AreBroken packet word known result.bits }
         ensures left { is_judged ≡ false → self.new.counts ≡ self.old.counts }
+        ensures none { is_judged ≡ false → result.bits ≡ 0 }
     {
         if !is_judged {
             return BrokenRules::NONE;
