@@ -144,18 +144,18 @@ pub fn is_known_link(link_type: u16) -> bool
 /// link.
 ///
 /// The packet is protocol 132 of IPv4 or of IPv6, or it is in UDP with `udp_port` on either side.
-/// It may be after any 802.1Q and 802.1ad tags, MPLS labels and PPPoE in a session, and after the
-/// authentication header and IPv6's extension headers; and in up to four tunnels, each in the one
-/// before: IP in IP, GRE, ERSPAN, VXLAN, Geneve and GTP-U, these three in UDP to the port that each
-/// has. It is as long as the innermost header says, and what follows in the frame, or in what a
-/// tunnel carries, is left out; if the frame was cut off, or that says more bytes than a tunnel
-/// carries, it has fewer bytes than `length`, maybe none. An IPv4 packet whose length is 0 reaches
-/// to the end of the frame or of the tunnel's payload.
+/// It may be after any 802.1Q and 802.1ad tags, MPLS labels, PPP and PPPoE in a session, and after
+/// the authentication header and IPv6's extension headers. It may be in tunnels, up to four in one
+/// another: IP in IP, GRE, ERSPAN, and in UDP to its own port VXLAN, Geneve or GTP-U. It is as long
+/// as the innermost header says, and what follows in the frame, or a tunnel's payload, is left out;
+/// if the frame was cut off, or a tunnel's payload is shorter, it has fewer bytes than `length`,
+/// maybe none. An IPv4 packet whose length is 0 reaches to the end of the frame, or of that payload.
 ///
 /// Otherwise returns the first of these from the link's header inward: `LinkType`; `Cut` if fewer
 /// bytes were captured than a header has; `Malformed` if a header has another version than its type
 /// says, or a length that is less than a header or more than the header around it allows;
-/// `Fragment`, but not of a packet in one fragment; `Other`.
+/// `Fragment`, but not of a packet in one fragment; `Other`, also of a fifth tunnel, and of versions
+/// and messages of tunnels that carry no packet here.
 #[tactic(auto, unfolding(crate::specs::Frame::packet_in))]
 pub fn packet_in(
     udp_port: u16,
