@@ -25,13 +25,13 @@ function basesOf(store, rows, senderOf) {
   return sent.map(row => row === undefined ? undefined : store.columns.tsn[row]);
 }
 
-/** The rows of which more is drawn than is known of each.
+/** The rows of which more is drawn than is known of each; of very many each at a step.
     @param {import('./store.mjs').Store} store
     @param {number[]} rows */
 function rowsToRead(store, rows) {
   const wanted = rows.filter(row => store.has(row, 'gaps') || store.summaries[store.columns.summary[row]].types.some(it => READ.includes(it)));
   const step = Math.ceil(wanted.length / MOST_READ);
-  return step > 1 ? wanted.filter((row, i) => i % step === 0) : wanted;
+  return { wanted: step > 1 ? wanted.filter((row, i) => i % step === 0) : wanted, step };
 }
 
 /** Gives all that is drawn to `put`, in the order of the rows: its kind, the end whose TSNs they are, nanoseconds since the first row
@@ -61,11 +61,11 @@ function trackOver({ store, rows, senderOf, repeats }, bases, lines, put) {
 }
 
 /** What a panel shows, in words. */
-function trackText(end, base, { sent, again, acked, gaps, least, most, last }) {
+function trackText(end, base, { sent, again, acked, gaps, least, most, last }, step = 1) {
   const tsn = it => (base + it) >>> 0, number = it => it.toLocaleString('en');
   const said = [
     sent ? `${counted(sent, 'TSN')} sent, ${tsn(least)} to ${tsn(most)}` : 'no DATA', again ? `${number(again)} sent again` : '',
-    acked ? `acknowledged to ${tsn(last)}` : sent ? 'not acknowledged' : '', gaps ? counted(gaps, 'gap block') : '',
+    acked ? `acknowledged to ${tsn(last)}` : sent ? 'not acknowledged' : '', gaps ? counted(gaps, 'gap block') + (step > 1 ? ` of 1 in ${number(step)} packets with some` : '') : '',
   ];
   return `${NAMES[end]}: ${said.filter(it => it).join(', ')}`;
 }
@@ -78,6 +78,9 @@ class Graph {
   /** What is shown, as `show` has it.
       @type {any} */
   shown;
+  /** The lines that were read of it, and at which step.
+      @type {{ rows?: number[], step: number, lines: Map<number, any> }} */
+  read = { step: 1, lines: new Map() };
   /** What can be clicked on: places and rows. */
   spots = /** @type {number[][]} */ ([]);
   /** @type {number | undefined} */
@@ -115,14 +118,20 @@ class Graph {
     const { svg, shown } = this, number = ++this.drawing, { clientWidth: width, clientHeight: height } = svg;
     if (!width || !shown?.rows.length) {
       svg.replaceChildren();
+      svg.setAttribute('aria-label', 'TSN over time: no packet');
       this.spots = [];
       return;
     }
-    const { store, all, rows, senderOf } = shown, wanted = rowsToRead(store, rows), objects = await store.objects(wanted);
-    if (number !== this.drawing)
-      return;
-    const bases = basesOf(store, all, senderOf), lines = new Map(wanted.map((row, i) => [row, objects[i]]));
-    this.paint(put => trackOver(shown, bases, lines, put), bases, width, height);
+    const { store, all, rows, senderOf } = shown;
+    // (lines are read once, whatever size the graph gets)
+    if (this.read.rows !== rows) {
+      const { wanted, step } = rowsToRead(store, rows), objects = await store.objects(wanted);
+      if (number !== this.drawing)
+        return;
+      this.read = { rows, step, lines: new Map(wanted.map((row, i) => [row, objects[i]])) };
+    }
+    const bases = basesOf(store, all, senderOf);
+    this.paint(put => trackOver(shown, bases, this.read.lines, put), bases, width, height);
   }
 
   /** Paints a panel for each end. Marks that fall on the same pixels are one. */
@@ -161,7 +170,7 @@ class Graph {
         paths[kind] += { sent: `M${place}h0`, again: `M${px - 3},${py - 3}l6,6m0,-6l-6,6`, gaps: `M${px},${py + 2}V${to - 2}` }[kind];
     });
     this.placeOf = row => rows.includes(row) ? xOf(first === undefined ? rows.indexOf(row) : store.between(first, row) ?? NaN) || NOWHERE : NOWHERE;
-    const texts = tracks.map((it, its) => trackText(its, bases[its] ?? 0, it));
+    const texts = tracks.map((it, its) => trackText(its, bases[its] ?? 0, it, this.read.step));
     svg.setAttribute('viewBox', `0 0 ${width} ${height}`);
     svg.setAttribute('aria-label', `TSN over time. ${texts.join('. ')}. ` + (first === undefined ? 'No time is known: by packets.' : `Over ${durationText(end - start)}.`));
     this.cursor = line('cursor', NOWHERE, LEGEND, NOWHERE, height - BELOW);

@@ -1172,6 +1172,21 @@ async function inBrowser(browser) {
     await browser.press('End');
     await wait(100);
     assert.match((await browser.ask(all('#tree .value'))).join('\n'), /^<img src=x onerror="hacked=1">$/m);
+    // Labels, which are on streams 0 to 9, are text, too; what isn't seen is a number.
+    await browser.click('#tab-channels');
+    await browser.ask("document.getElementById('channel-rows').focus()");
+    const labels = new Set();
+    for (let i = 0; i < 12; i++) {
+      (await browser.ask(all('#channel-rows .row > :nth-child(3)'))).forEach(it => labels.add(it));
+      for (let k = 0; k < 4; k++)
+        await browser.press('ArrowDown');
+      await wait(30);
+    }
+    for (const it of ['<img src=x onerror="hacked=1">a<b', '"><svg onload=hacked=1>a<b', '\\u202egnol\\u2066a<b'])
+      assert.ok(labels.has(it), `${it}: ${[...labels]}`);
+    assert.ok([...labels].some(it => it.startsWith('\\u0000\\u0001')) && ![...labels].some(it => /[\u0000-\u001f\u202e]/.test(it)));
+    await browser.click('#tab-messages');
+    await wait(100);
     // Lines that sctp_dump didn't print.
     const values = [null, -1, 1e300, 'x', [], {}, [null], [[]], [{}], true, '<b>'];
     const spoil = (line, at, value) => JSON.stringify(line, (key, its) => key !== '' && at-- === 0 ? value : its);

@@ -788,7 +788,7 @@ each('the row of a packet', (number, name) => withSkipped.rowOf(number, name), [
 
 /** All marks of the graph of a store's packets: kind, end, milliseconds, TSNs from the base, and the packet. */
 async function marksOf(store) {
-  const { rows, senderOf } = store.rowsOf({ association: 1 }), bases = basesOf(store, rows, senderOf), read = rowsToRead(store, rows), objects = await store.objects(read);
+  const { rows, senderOf } = store.rowsOf({ association: 1 }), bases = basesOf(store, rows, senderOf), { wanted: read } = rowsToRead(store, rows), objects = await store.objects(read);
   const first = firstSendings(store, rows, senderOf), marks = [];
   const put = (kind, end, x, y, row, last) => marks.push(`${kind} ${end} ${x / 1e6} ${y}${last === undefined ? '' : `-${last}`} ${row + 1}`);
   trackOver({ store, rows, senderOf, repeats: row => repeatsOf(store, first, senderOf, row) }, bases, new Map(read.map((row, i) => [row, objects[i]])), put);
@@ -806,10 +806,11 @@ each('the graph', () => graphed, [[['4294967295 70', 'sent 0 0 0 1', 'sent 0 0 1
 const untimed = await marksOf(storeOf(...ofEnds([[1, [{ chunk: 3, cumulative_tsn: 9 }]], [1, [{ chunk: 3, cumulative_tsn: 12 }]]])));
 each('a graph without times and DATA', () => untimed, [[['9 ', 'acked 0 0 0 1', 'acked 0 0.000001 3 2']]]);
 const withGaps = storeOf(...Array.from({ length: 5000 }, (_, i) => packet(i + 1, B, [{ chunk: 3, cumulative_tsn: 1, blocks: [block(3, 3)] }], { association: 1, end: 1 })));
-each('too many gaps', () => rowsToRead(withGaps, rowsOf(withGaps)).length, [[1667]]);
+each('too many gaps', () => (({ wanted, step }) => [wanted.length, step])(rowsToRead(withGaps, rowsOf(withGaps))), [[[1667, 3]]]);
 const drawnTrack = { sent: 1500, again: 2, acked: 3, gaps: 1, least: 0, most: 1499, last: 1498 };
 each('what a panel says', (...by) => trackText(...by), [
   [0, LAST, drawnTrack, 'First end: 1,500 TSNs sent, 4294967295 to 1498, 2 sent again, acknowledged to 1497, 1 gap block'],
+  [0, 0, { ...drawnTrack, gaps: 9 }, 21, 'First end: 1,500 TSNs sent, 0 to 1499, 2 sent again, acknowledged to 1498, 9 gap blocks of 1 in 21 packets with some'],
   [1, 5, { ...drawnTrack, again: 0, acked: 0, gaps: 0 }, 'Second end: 1,500 TSNs sent, 5 to 1504, not acknowledged'],
   [1, 5, { ...drawnTrack, sent: 0, again: 0, gaps: 0, last: 0 }, 'Second end: no DATA, acknowledged to 5'],
 ]);
