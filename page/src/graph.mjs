@@ -65,7 +65,8 @@ function trackText(end, base, { sent, again, acked, gaps, least, most, last }, s
   const tsn = it => (base + it) >>> 0, number = it => it.toLocaleString('en');
   const said = [
     sent ? `${counted(sent, 'TSN')} sent, ${tsn(least)} to ${tsn(most)}` : 'no DATA', again ? `${number(again)} sent again` : '',
-    acked ? `acknowledged to ${tsn(last)}` : sent ? 'not acknowledged' : '', gaps ? counted(gaps, 'gap block') + (step > 1 ? ` of 1 in ${number(step)} packets with some` : '') : '',
+    acked ? `acknowledged to ${tsn(last)}` : sent ? 'not acknowledged' : '',
+    gaps ? counted(gaps, 'gap block') + (step > 1 ? ` of 1 in ${number(step)} packets with some` : '') : '',
   ];
   return `${NAMES[end]}: ${said.filter(it => it).join(', ')}`;
 }
@@ -99,7 +100,8 @@ class Graph {
     button.addEventListener('click', () => turn(button.getAttribute('aria-pressed') === 'false'));
     turn(matchMedia('(min-width: 1000px)').matches);
     this.svg.addEventListener('click', event => {
-      const { left, top } = this.svg.getBoundingClientRect(), far = (/** @type {number[]} */ [x, y]) => (event.clientX - left - x) ** 2 + (event.clientY - top - y) ** 2;
+      const { left, top } = this.svg.getBoundingClientRect(), { clientX, clientY } = event;
+      const far = (/** @type {number[]} */ [x, y]) => (clientX - left - x) ** 2 + (clientY - top - y) ** 2;
       if (this.spots.length)
         select(this.spots.reduce((best, it) => far(it) < far(best) ? it : best)[2]);
     });
@@ -172,7 +174,8 @@ class Graph {
     this.placeOf = row => rows.includes(row) ? xOf(first === undefined ? rows.indexOf(row) : store.between(first, row) ?? NaN) || NOWHERE : NOWHERE;
     const texts = tracks.map((it, its) => trackText(its, bases[its] ?? 0, it, this.read.step));
     svg.setAttribute('viewBox', `0 0 ${width} ${height}`);
-    svg.setAttribute('aria-label', `TSN over time. ${texts.join('. ')}. ` + (first === undefined ? 'No time is known: by packets.' : `Over ${durationText(end - start)}.`));
+    const span = first === undefined ? 'No time is known: by packets.' : `Over ${durationText(end - start)}.`;
+    svg.setAttribute('aria-label', `TSN over time. ${texts.join('. ')}. ${span}`);
     this.cursor = line('cursor', NOWHERE, LEGEND, NOWHERE, height - BELOW);
     svg.replaceChildren(...legend(), this.cursor, ...tracks.flatMap((it, its) => axes(it, texts[its], LEGEND + its * high, high, width, y => yOf(its, y))),
       ...times(start, end, xOf, [height - high - BELOW, height - BELOW], first !== undefined),
@@ -200,16 +203,17 @@ function axes({ least, most }, text, top, high, width, yOf) {
   const bottom = top + high - BELOW, step = stepWithin(Math.max(1, (most - least) / 3)), marks = [];
   for (let y = Math.ceil(least / step) * step; y <= most; y += step)
     marks.push(write('dim', LEFT - 6, yOf(y) + 4, 'end', y.toLocaleString('en')), line('axis', LEFT - 3, yOf(y), LEFT, yOf(y)));
-  const [short] = fitted(text, '', Math.floor((width - 12) / 6.4));
-  return [write('head', 6, top + 13, 'start', shape('title', {}, text), short), ...marks, shape('path', { class: 'axis', d: `M${LEFT},${top + ABOVE - 4}V${bottom}H${width - RIGHT}` })];
+  const [short] = fitted(text, '', Math.floor((width - 12) / 6.4)), frame = `M${LEFT},${top + ABOVE - 4}V${bottom}H${width - RIGHT}`;
+  return [write('head', 6, top + 13, 'start', shape('title', {}, text), short), ...marks, shape('path', { class: 'axis', d: frame })];
 }
 
 /** The times, or numbers of packets, below each panel. */
 function times(start, end, xOf, bottoms, isTimed) {
   const step = stepWithin(Math.max(1, (end - start) / 3)), marks = [];
   for (let x = Math.ceil(start / step) * step; x <= end; x += step) {
+    const text = !isTimed ? String(x) : x ? durationText(x) : '0 s', anchor = x + step > end ? 'end' : 'middle';
     for (const bottom of bottoms)
-      marks.push(line('axis', xOf(x), bottom, xOf(x), bottom + 3), write('dim', xOf(x), bottom + 15, x + step > end ? 'end' : 'middle', isTimed ? x ? durationText(x) : '0 s' : String(x)));
+      marks.push(line('axis', xOf(x), bottom, xOf(x), bottom + 3), write('dim', xOf(x), bottom + 15, anchor, text));
   }
   return marks;
 }

@@ -878,7 +878,8 @@ async function inBrowser(browser) {
     await browser.ask("document.getElementById('tab-channels').focus()");
     await browser.press('ArrowRight');
     assert.equal(await focused(), 'tab-messages');
-    assert.deepEqual(await browser.ask(all('[role=tab]', "it.getAttribute('aria-selected') + ' ' + it.tabIndex")), [...Array(3).fill('false -1'), 'true 0', 'false -1']);
+    const tabs = await browser.ask(all('[role=tab]', "it.getAttribute('aria-selected') + ' ' + it.tabIndex"));
+    assert.deepEqual(tabs, [...Array(3).fill('false -1'), 'true 0', 'false -1']);
     await browser.ask("document.getElementById('message-rows').focus()");
     await browser.press('ArrowDown');
     await titled('Message 2');
@@ -1501,6 +1502,21 @@ async function inFirefox(firefox) {
     assert.match(await text('#which'), /40000.*9900/);
     await firefox.click('#tab-associations');
     assert.match(await text('#association-rows .row'), /10\.0\.0\.1:4000010\.0\.1\.1:9900/);
+    await quiet();
+  });
+
+  await check('Firefox: messages, and the graph', async () => {
+    await show(fileURLToPath(new URL('../sample.pcap', import.meta.url)));
+    await firefox.click('#tab-messages');
+    assert.equal(await text('#messages-said'), '10 messages: 10 acknowledged, 2 sent again.');
+    await firefox.click('#show-message');
+    await titled('Packet 5');
+    assert.equal(await text('#filter', 'value'), 'association:1 packet:5-6');
+    await firefox.click('#back');
+    await titled('Message 1');
+    await firefox.click('#tab-diagram');
+    await firefox.run("document.getElementById('show-graph').getAttribute('aria-pressed') === 'false' && document.getElementById('show-graph').click()");
+    await firefox.until(`(${by('#graph', "getAttribute('aria-label')")}).startsWith('TSN over time. First end: 1 TSN sent, 1000 to 1000, acknowledged to 1000. ')`);
     await quiet();
   });
 
