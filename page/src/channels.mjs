@@ -13,6 +13,11 @@ const linesOf = lines => lines.some(it => it) ? lines.map(it => it ?? ['–']) :
 /** A text of the peer, or its bytes in hexadecimal where it is none, and whether it is longer. */
 const textOf = (text, bytes, isCut) => `${text ?? (bytes === undefined ? '' : `0x${bytes}`)}${isCut ? ' …' : ''}`;
 
+/** The texts that DCEP has of a channel.
+    @param {Channel} it */
+const labelLines = it => it.channel_type === undefined ? [['–']]
+  : [[textOf(it.label, it.label_bytes, it.label_cut)], [textOf(it.protocol, it.protocol_bytes, it.protocol_cut)]];
+
 /** How each end opened a channel.
     @param {Channel} it */
 function openedLines({ opened_by: by, opened_packet, opened_file, acknowledged_packet, acknowledged_file, opened_by_both: isByBoth }) {
@@ -50,7 +55,7 @@ function delayLine({ delay: { greatest, greatest_packet: packet, greatest_file: 
 const COLUMNS_OF_CHANNELS = [
   ['Association', 'number', it => [[it.channel_of]], it => it.channel_of * 65536 + it.stream],
   ['Stream', 'number', it => [[it.stream]], it => it.stream],
-  ['Label', '', it => it.channel_type === undefined ? [['–']] : [[textOf(it.label, it.label_bytes, it.label_cut)], [textOf(it.protocol, it.protocol_bytes, it.protocol_cut)]], it => it.label],
+  ['Label', '', labelLines, it => it.label],
   ['Payload', '', ({ payload: [first = '–', ...rest] }) => [[first], ...rest.length ? [[rest.join(', ')]] : []], it => it.payload[0]],
   ['Reliability', '', reliabilityLines, typeOf],
   ['Ends', 'pair', ({ ends }) => ends.map(it => [placeOfEnd(it)]), ({ ends }) => ends.map(placeOfEnd).join(' ')],

@@ -73,7 +73,8 @@ async function packetsOf(store, message) {
   return [...own, ...ends.filter(row => row >= 0 && !own.includes(row))].sort((a, b) => a - b);
 }
 
-/** The filter that passes these rows of a message; of very many, those of its TSNs.
+/** The filter that passes these rows of a message, though of several files others can have their numbers; of very many rows, those of
+    its TSNs.
     @param {import('./store.mjs').Store} store
     @param {Message} message
     @param {number[]} rows */

@@ -25,13 +25,13 @@ function basesOf(store, rows, senderOf) {
   return sent.map(row => row === undefined ? undefined : store.columns.tsn[row]);
 }
 
-/** The rows of which more is drawn than is known of each.
+/** The rows of which more is drawn than is known of each; of very many each at a step.
     @param {import('./store.mjs').Store} store
     @param {number[]} rows */
 function rowsToRead(store, rows) {
   const wanted = rows.filter(row => store.has(row, 'gaps') || store.summaries[store.columns.summary[row]].types.some(it => READ.includes(it)));
   const step = Math.ceil(wanted.length / MOST_READ);
-  return step > 1 ? wanted.filter((row, i) => i % step === 0) : wanted;
+  return { wanted: step > 1 ? wanted.filter((row, i) => i % step === 0) : wanted, step };
 }
 
 /** Gives all that is drawn to `put`, in the order of the rows: its kind, the end whose TSNs they are, nanoseconds since the first row
@@ -61,11 +61,12 @@ function trackOver({ store, rows, senderOf, repeats }, bases, lines, put) {
 }
 
 /** What a panel shows, in words. */
-function trackText(end, base, { sent, again, acked, gaps, least, most, last }) {
+function trackText(end, base, { sent, again, acked, gaps, least, most, last }, step = 1) {
   const tsn = it => (base + it) >>> 0, number = it => it.toLocaleString('en');
   const said = [
     sent ? `${counted(sent, 'TSN')} sent, ${tsn(least)} to ${tsn(most)}` : 'no DATA', again ? `${number(again)} sent again` : '',
-    acked ? `acknowledged to ${tsn(last)}` : sent ? 'not acknowledged' : '', gaps ? counted(gaps, 'gap block') : '',
+    acked ? `acknowledged to ${tsn(last)}` : sent ? 'not acknowledged' : '',
+    gaps ? counted(gaps, 'gap block') + (step > 1 ? ` of 1 in ${number(step)} packets with some` : '') : '',
   ];
   return `${NAMES[end]}: ${said.filter(it => it).join(', ')}`;
 }
@@ -78,6 +79,9 @@ class Graph {
   /** What is shown, as `show` has it.
       @type {any} */
   shown;
+  /** The lines that were read of it, and at which step.
+      @type {{ rows?: number[], step: number, lines: Map<number, any> }} */
+  read = { step: 1, lines: new Map() };
   /** What can be clicked on: places and rows. */
   spots = /** @type {number[][]} */ ([]);
   /** @type {number | undefined} */
@@ -96,7 +100,8 @@ class Graph {
     button.addEventListener('click', () => turn(button.getAttribute('aria-pressed') === 'false'));
     turn(matchMedia('(min-width: 1000px)').matches);
     this.svg.addEventListener('click', event => {
-      const { left, top } = this.svg.getBoundingClientRect(), far = (/** @type {number[]} */ [x, y]) => (event.clientX - left - x) ** 2 + (event.clientY - top - y) ** 2;
+      const { left, top } = this.svg.getBoundingClientRect(), { clientX, clientY } = event;
+      const far = (/** @type {number[]} */ [x, y]) => (clientX - left - x) ** 2 + (clientY - top - y) ** 2;
       if (this.spots.length)
         select(this.spots.reduce((best, it) => far(it) < far(best) ? it : best)[2]);
     });
@@ -115,14 +120,20 @@ class Graph {
     const { svg, shown } = this, number = ++this.drawing, { clientWidth: width, clientHeight: height } = svg;
     if (!width || !shown?.rows.length) {
       svg.replaceChildren();
+      svg.setAttribute('aria-label', 'TSN over time: no packet');
       this.spots = [];
       return;
     }
-    const { store, all, rows, senderOf } = shown, wanted = rowsToRead(store, rows), objects = await store.objects(wanted);
-    if (number !== this.drawing)
-      return;
-    const bases = basesOf(store, all, senderOf), lines = new Map(wanted.map((row, i) => [row, objects[i]]));
-    this.paint(put => trackOver(shown, bases, lines, put), bases, width, height);
+    const { store, all, rows, senderOf } = shown;
+    // (lines are read once, whatever size the graph gets)
+    if (this.read.rows !== rows) {
+      const { wanted, step } = rowsToRead(store, rows), objects = await store.objects(wanted);
+      if (number !== this.drawing)
+        return;
+      this.read = { rows, step, lines: new Map(wanted.map((row, i) => [row, objects[i]])) };
+    }
+    const bases = basesOf(store, all, senderOf);
+    this.paint(put => trackOver(shown, bases, this.read.lines, put), bases, width, height);
   }
 
   /** Paints a panel for each end. Marks that fall on the same pixels are one. */
@@ -161,9 +172,10 @@ class Graph {
         paths[kind] += { sent: `M${place}h0`, again: `M${px - 3},${py - 3}l6,6m0,-6l-6,6`, gaps: `M${px},${py + 2}V${to - 2}` }[kind];
     });
     this.placeOf = row => rows.includes(row) ? xOf(first === undefined ? rows.indexOf(row) : store.between(first, row) ?? NaN) || NOWHERE : NOWHERE;
-    const texts = tracks.map((it, its) => trackText(its, bases[its] ?? 0, it));
+    const texts = tracks.map((it, its) => trackText(its, bases[its] ?? 0, it, this.read.step));
     svg.setAttribute('viewBox', `0 0 ${width} ${height}`);
-    svg.setAttribute('aria-label', `TSN over time. ${texts.join('. ')}. ` + (first === undefined ? 'No time is known: by packets.' : `Over ${durationText(end - start)}.`));
+    const span = first === undefined ? 'No time is known: by packets.' : `Over ${durationText(end - start)}.`;
+    svg.setAttribute('aria-label', `TSN over time. ${texts.join('. ')}. ${span}`);
     this.cursor = line('cursor', NOWHERE, LEGEND, NOWHERE, height - BELOW);
     svg.replaceChildren(...legend(), this.cursor, ...tracks.flatMap((it, its) => axes(it, texts[its], LEGEND + its * high, high, width, y => yOf(its, y))),
       ...times(start, end, xOf, [height - high - BELOW, height - BELOW], first !== undefined),
@@ -191,16 +203,17 @@ function axes({ least, most }, text, top, high, width, yOf) {
   const bottom = top + high - BELOW, step = stepWithin(Math.max(1, (most - least) / 3)), marks = [];
   for (let y = Math.ceil(least / step) * step; y <= most; y += step)
     marks.push(write('dim', LEFT - 6, yOf(y) + 4, 'end', y.toLocaleString('en')), line('axis', LEFT - 3, yOf(y), LEFT, yOf(y)));
-  const [short] = fitted(text, '', Math.floor((width - 12) / 6.4));
-  return [write('head', 6, top + 13, 'start', shape('title', {}, text), short), ...marks, shape('path', { class: 'axis', d: `M${LEFT},${top + ABOVE - 4}V${bottom}H${width - RIGHT}` })];
+  const [short] = fitted(text, '', Math.floor((width - 12) / 6.4)), frame = `M${LEFT},${top + ABOVE - 4}V${bottom}H${width - RIGHT}`;
+  return [write('head', 6, top + 13, 'start', shape('title', {}, text), short), ...marks, shape('path', { class: 'axis', d: frame })];
 }
 
 /** The times, or numbers of packets, below each panel. */
 function times(start, end, xOf, bottoms, isTimed) {
   const step = stepWithin(Math.max(1, (end - start) / 3)), marks = [];
   for (let x = Math.ceil(start / step) * step; x <= end; x += step) {
+    const text = !isTimed ? String(x) : x ? durationText(x) : '0 s', anchor = x + step > end ? 'end' : 'middle';
     for (const bottom of bottoms)
-      marks.push(line('axis', xOf(x), bottom, xOf(x), bottom + 3), write('dim', xOf(x), bottom + 15, x + step > end ? 'end' : 'middle', isTimed ? x ? durationText(x) : '0 s' : String(x)));
+      marks.push(line('axis', xOf(x), bottom, xOf(x), bottom + 3), write('dim', xOf(x), bottom + 15, anchor, text));
   }
   return marks;
 }

@@ -878,7 +878,8 @@ async function inBrowser(browser) {
     await browser.ask("document.getElementById('tab-channels').focus()");
     await browser.press('ArrowRight');
     assert.equal(await focused(), 'tab-messages');
-    assert.deepEqual(await browser.ask(all('[role=tab]', "it.getAttribute('aria-selected') + ' ' + it.tabIndex")), [...Array(3).fill('false -1'), 'true 0', 'false -1']);
+    const tabs = await browser.ask(all('[role=tab]', "it.getAttribute('aria-selected') + ' ' + it.tabIndex"));
+    assert.deepEqual(tabs, [...Array(3).fill('false -1'), 'true 0', 'false -1']);
     await browser.ask("document.getElementById('message-rows').focus()");
     await browser.press('ArrowDown');
     await titled('Message 2');
@@ -1172,6 +1173,21 @@ async function inBrowser(browser) {
     await browser.press('End');
     await wait(100);
     assert.match((await browser.ask(all('#tree .value'))).join('\n'), /^<img src=x onerror="hacked=1">$/m);
+    // Labels, which are on streams 0 to 9, are text, too; what isn't seen is a number.
+    await browser.click('#tab-channels');
+    await browser.ask("document.getElementById('channel-rows').focus()");
+    const labels = new Set();
+    for (let i = 0; i < 12; i++) {
+      (await browser.ask(all('#channel-rows .row > :nth-child(3)'))).forEach(it => labels.add(it));
+      for (let k = 0; k < 4; k++)
+        await browser.press('ArrowDown');
+      await wait(30);
+    }
+    for (const it of ['<img src=x onerror="hacked=1">a<b', '"><svg onload=hacked=1>a<b', '\\u202egnol\\u2066a<b'])
+      assert.ok(labels.has(it), `${it}: ${[...labels]}`);
+    assert.ok([...labels].some(it => it.startsWith('\\u0000\\u0001')) && ![...labels].some(it => /[\u0000-\u001f\u202e]/.test(it)));
+    await browser.click('#tab-messages');
+    await wait(100);
     // Lines that sctp_dump didn't print.
     const values = [null, -1, 1e300, 'x', [], {}, [null], [[]], [{}], true, '<b>'];
     const spoil = (line, at, value) => JSON.stringify(line, (key, its) => key !== '' && at-- === 0 ? value : its);
@@ -1486,6 +1502,21 @@ async function inFirefox(firefox) {
     assert.match(await text('#which'), /40000.*9900/);
     await firefox.click('#tab-associations');
     assert.match(await text('#association-rows .row'), /10\.0\.0\.1:4000010\.0\.1\.1:9900/);
+    await quiet();
+  });
+
+  await check('Firefox: messages, and the graph', async () => {
+    await show(fileURLToPath(new URL('../sample.pcap', import.meta.url)));
+    await firefox.click('#tab-messages');
+    assert.equal(await text('#messages-said'), '10 messages: 10 acknowledged, 2 sent again.');
+    await firefox.click('#show-message');
+    await titled('Packet 5');
+    assert.equal(await text('#filter', 'value'), 'association:1 packet:5-6');
+    await firefox.click('#back');
+    await titled('Message 1');
+    await firefox.click('#tab-diagram');
+    await firefox.run("document.getElementById('show-graph').getAttribute('aria-pressed') === 'false' && document.getElementById('show-graph').click()");
+    await firefox.until(`(${by('#graph', "getAttribute('aria-label')")}).startsWith('TSN over time. First end: 1 TSN sent, 1000 to 1000, acknowledged to 1000. ')`);
     await quiet();
   });
 
