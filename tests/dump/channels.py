@@ -109,6 +109,7 @@ class Association:
             reset = one.resets.get(end, {})
             if reset.get('number') == number and reset.get('result') not in (0, 1):
                 reset.update(result=result, response_packet=packet)
+                reset.pop('result_name', None)
                 if result < len(RESULTS):
                     reset['result_name'] = RESULTS[result]
 

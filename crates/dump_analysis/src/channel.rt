@@ -1,7 +1,7 @@
 //! A channel: the messages of a stream from when it was opened until it was reset.
 
-ghost use Rattle.std.specs.Prelude.{◌≡◌};
-ghost use Rattle.dump_analysis.specs.Channels.{nothing_sent, CountsMessage, Adds};
+ghost use Rattle.std.specs.Prelude.{◌≡◌, ◌<◌, ◌+◌, ◌-◌, ◌^◌};
+ghost use Rattle.dump_analysis.specs.Channels.{nothing_sent, CountsMessage, Adds, messages_of, bytes_of};
 
 use crate::association::Side;
 use crate::counts::increase;
@@ -87,7 +87,11 @@ impl Tally {
 
     /// Counts a message of the end that sent it.
     pub fn add(&mut self, message: &Message)
-        ensures { Adds self.old message.now self.new }
+        ensures side { Adds self.old message.now self.new }
+        ensures messages { messages_of self.old < 2 ^ 64 - 1
+            → messages_of self.new ≡ messages_of self.old + 1 }
+        ensures bytes { bytes_of self.old + message.now.size < 2 ^ 64
+            → bytes_of self.new ≡ bytes_of self.old + message.now.size }
     {
         match message.sender {
             Side::First => self.first.add(message),
