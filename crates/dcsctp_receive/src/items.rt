@@ -18,7 +18,7 @@ enum Wanted<'a> {
     Chunk(u8),
     /// A parameter or an error cause of this type.
     Numbered(u8),
-    /// The same type and value.
+    /// An item of this type, with this value.
     Same(Item<'a>),
 }
 
