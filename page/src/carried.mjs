@@ -1,7 +1,7 @@
 // SPDX-License-Identifier: Apache-2.0
 // Between messages and packets: a message opens to its packets, and beside a packet's number are its messages, which lead back.
-import { isData } from './keys.mjs';
 import { isOf, messageFilter, packetsOf } from './fates.mjs';
+import { isData } from './keys.mjs';
 import { nameOf } from './messages.mjs';
 import { change, state, watch } from './state.mjs';
 import { byId, element } from './text.mjs';
@@ -40,7 +40,7 @@ byId('back').addEventListener('click', () => opened.message && back(opened.messa
 watch(({ filterText, store }) => {
   const isOpened = opened.message !== undefined && filterText === opened.filter && store.messages.includes(opened.message);
   byId('back').hidden = !isOpened;
-  byId('back').textContent = `Back to message ${opened.message?.message}`;
+  byId('back').textContent = isOpened ? `Back to message ${opened.message?.message}` : '';
 });
 
 /** The messages of a packet: those of which it has a fragment, and those that it acknowledged or abandoned.

@@ -3,7 +3,6 @@
 import { openLink } from './opening.mjs';
 import { change } from './state.mjs';
 import './details.mjs';
-import './carried.mjs';
 import './filtering.mjs';
 import './missing.mjs';
 import './packets.mjs';
