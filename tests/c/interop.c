@@ -58,7 +58,8 @@ static void run_addresses(void);
 static void run_collision(void);
 static void run_calls(void);
 
-/* Not here, since usrsctp itself stops now and then: I-DATA with loss and partial reliability, and SCTP_RESET_ASSOC. */
+/* Not here, since usrsctp itself stops now and then: I-DATA with loss and partial reliability, and SCTP_RESET_ASSOC; nor calls of both
+   ends at once with AUTH: usrsctp's INIT ACK then has another RANDOM than its INIT, against section 5.2.1. */
 static const struct scenario scenarios[] = {
     {.name = "plain", .is_short = true},
     {.name = "lossy", .is_short = true, .lost = 5, .late = 10},
@@ -91,8 +92,6 @@ static const struct scenario scenarios[] = {
      .key = "a key", .wrong_key = "another", .run = run_wrong_cookie},
     {.name = "responder-addresses", .is_short = true, .is_answered = true, .run = run_addresses},
     {.name = "responder-collision", .is_short = true, .is_answered = true, .run = run_collision},
-    {.name = "responder-auth-collision", .is_short = true, .is_answered = true, .is_authenticated = true, .lists_cookies = true,
-     .run = run_collision},
     {.name = "responder-calls", .is_short = true, .is_answered = true, .run = run_calls},
 };
 enum { SCENARIOS = sizeof scenarios / sizeof *scenarios };
@@ -1425,7 +1424,7 @@ static void run_addresses(void)
 /* Both ends call at once (sections 5.2.1 and 5.2.4): either INIT, either COOKIE ECHO or none is lost. */
 static void run_collision(void)
 {
-    const uint8_t types[] = {0, PLAIN_INIT, PLAIN_COOKIE_ECHO, DCSCTP_CHUNK_AUTH};
+    const uint8_t types[] = {0, PLAIN_INIT, PLAIN_COOKIE_ECHO};
     for (size_t i = 0; i < 2 * sizeof types; i++) {
         const uint32_t own = responder.own.initiate_tag;
         lost_type = types[i / 2];
