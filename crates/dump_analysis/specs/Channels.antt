@@ -1,5 +1,5 @@
 -- What is counted of the messages of a channel, and of all channels of an association.
-use Rattle.std.specs.Prelude.{◌≡◌, ◌+◌, ℕ, Bool, true, false, if◌then◌else◌, List}
+use Rattle.std.specs.Prelude.{◌≡◌, ◌+◌, ℕ, List}
 use Rattle.std.specs.List.{sum_by}
 use Rattle.dump_capture.specs.Number.{capped, one_more}
 use Rattle.dump_analysis.specs.declared.association.Side.{Side}
@@ -48,3 +48,10 @@ bytes_on channels = sum_by (λ c. bytes_of c.tally) channels
 abbrev pub AreAlike : List Channel → List Channel → Type 0
 AreAlike before after =
     (messages_on after ≡ messages_on before) × (bytes_on after ≡ bytes_on before)
+
+-- those of the channels that are kept, and those of others
+abbrev pub messages_seen : List Channel → Tally → ℕ
+messages_seen channels others = messages_on channels + messages_of others
+
+abbrev pub bytes_seen : List Channel → Tally → ℕ
+bytes_seen channels others = bytes_on channels + bytes_of others

@@ -2,7 +2,6 @@ pub mod Acknowledged
 pub mod Announced
 pub mod Buckets
 pub mod Calendar
-pub mod ChannelCounts
 pub mod Channels
 pub mod Counts
 pub mod Messages

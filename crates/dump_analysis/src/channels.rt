@@ -1,8 +1,7 @@
 //! The channels of an association, and those of all.
 
 ghost use Rattle.std.specs.Prelude.{◌≡◌, ◌≤◌, ◌<◌, ◌+◌, ◌-◌, ◌^◌, if◌then◌else◌, vec_len, IfOk};
-ghost use Rattle.dump_analysis.specs.Channels.{messages_on, bytes_on, AreAlike};
-ghost use Rattle.dump_analysis.specs.ChannelCounts.{messages_seen, bytes_seen};
+ghost use Rattle.dump_analysis.specs.Channels.{messages_on, messages_seen, bytes_on, bytes_seen, AreAlike};
 
 use crate::association::Side;
 use crate::channel::{Channel, News, Tally};
@@ -48,8 +47,8 @@ pub struct Channels {
 impl Channels {
     /// Returns the channels of an association without packets.
     pub fn new(alloc: Global, association: u64) -> Channels
-        ensures messages { messages_seen result ≡ 0 }
-        ensures bytes { bytes_seen result ≡ 0 }
+        ensures messages { messages_seen result.list.items result.others ≡ 0 }
+        ensures bytes { bytes_seen result.list.items result.others ≡ 0 }
     {
         Channels {
             association,
@@ -101,10 +100,12 @@ impl Channels {
     /// Counts a message that is over, once: of its channel, which is put into the list if it is new
     /// and there is room, or of others.
     fn add(&mut self, message: &Message, has_room: bool) -> Result<(), AllocError>
-        ensures messages { messages_seen self.old < 2 ^ 64 - 1
-            → IfOk result (λ _. messages_seen self.new ≡ messages_seen self.old + 1) }
-        ensures bytes { bytes_seen self.old + message.now.size < 2 ^ 64
-            → IfOk result (λ _. bytes_seen self.new ≡ bytes_seen self.old + message.now.size) }
+        ensures messages { messages_seen self.old.list.items self.old.others < 2 ^ 64 - 1
+            → IfOk result (λ _. messages_seen self.new.list.items self.new.others
+            ≡ messages_seen self.old.list.items self.old.others + 1) }
+        ensures bytes { bytes_seen self.old.list.items self.old.others + message.now.size < 2 ^ 64
+            → IfOk result (λ _. bytes_seen self.new.list.items self.new.others
+            ≡ bytes_seen self.old.list.items self.old.others + message.now.size) }
     {
         let place = self.place_of(message, has_room)?;
         if !add_at(&mut self.list, place, message) {
