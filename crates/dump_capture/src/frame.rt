@@ -149,13 +149,13 @@ pub fn is_known_link(link_type: u16) -> bool
 /// another: IP in IP, GRE, ERSPAN, and in UDP to its own port VXLAN, Geneve or GTP-U. It is as long
 /// as the innermost header says, and what follows in the frame, or a tunnel's payload, is left out;
 /// if the frame was cut off, or a tunnel's payload is shorter, it has fewer bytes than `length`,
-/// maybe none. An IPv4 packet whose length is 0 reaches to the end of the frame, or of that payload.
+/// maybe none. An IPv4 packet whose length is 0 reaches to the end of the frame or of that payload.
 ///
 /// Otherwise returns the first of these from the link's header inward: `LinkType`; `Cut` if fewer
 /// bytes were captured than a header has; `Malformed` if a header has another version than its type
 /// says, or a length that is less than a header or more than the header around it allows;
-/// `Fragment`, but not of a packet in one fragment; `Other`, also of a fifth tunnel, and of versions
-/// and messages of tunnels that carry no packet here.
+/// `Fragment`, but not of a packet in one fragment; `Other`, also of a fifth tunnel, and of a
+/// version or a message of a tunnel that carries no packet here.
 #[tactic(auto, unfolding(crate::specs::Frame::packet_in))]
 pub fn packet_in(
     udp_port: u16,
