@@ -1,5 +1,5 @@
 -- The packets that a filter passes.
-use Rattle.std.specs.Prelude.{◌+◌, ◌&&◌, ◌||◌, not, Bool, true, false, ℕ, nat_le, Option, Some, None, List, length, bytes_eq, is_some, if◌then◌else◌}
+use Rattle.std.specs.Prelude.{◌+◌, ◌&&◌, ◌||◌, not, Bool, false, ℕ, nat_le, Option, Some, None, List, length, bytes_eq, is_some, if◌then◌else◌}
 use Rattle.std.specs.List.{list_any}
 use Rattle.dump_capture.specs.Frame.{Packet}
 use Rattle.dump_capture.specs.declared.frame.Addresses.{Addresses}

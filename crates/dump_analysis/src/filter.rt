@@ -160,9 +160,29 @@ impl Filter {
             result ≡ has_all self.now p word (chunks_seen fault (part_in p)) }
     {
         let packet = Part::packet(found.packet, found.length);
-        self.is_met_by_headers(packet, found.addresses)
-            && self.is_met_by_chunks(packet, fault)
-            && (!self.wrong || has_wrong_checksum(packet, word))
+        self.is_met_by(packet, found.addresses, word, fault)
+    }
+
+    /// Returns whether what was captured of the packet has all that is asked for.
+    fn is_met_by(
+        &self,
+        packet: Part<'_>,
+        addresses: Option<Addresses>,
+        word: u32,
+        fault: Option<usize>,
+    ) -> bool
+        ensures { let p = part_of packet.entry in
+            result ≡ (passes_headers self.now p addresses
+            && passes_chunks self.now (chunks_seen fault p)
+            && (not self.now.wrong || has_wrong_checksum word p)) }
+    {
+        if !self.is_met_by_headers(packet, addresses) {
+            return false;
+        }
+        if !self.is_met_by_chunks(packet, fault) {
+            return false;
+        }
+        !self.wrong || has_wrong_checksum(packet, word)
     }
 
     /// Returns whether the headers have what is asked for.
