@@ -373,8 +373,7 @@ fn unrecognized_parameters_of_an_init_ack() {
         assert_eq!(found, stop.map(|it: usize| 32 + it), "{list}");
         assert_eq!(packet.as_bytes(), expected, "{list}");
         // (what is added to is the ERROR, if there is one)
-        let last = packet.last_chunk().map(|it| it.offset());
-        assert_eq!(last, Ok(if added.is_empty() { 12 } else { 20 }));
+        assert_eq!(packet.last_chunk().unwrap().offset(), if added.is_empty() { 12 } else { 20 });
         if !added.is_empty() {
             let room = &mut buffer[..expected.len() - 1];
             let mut packet = PacketBuilder::begin(room, 5001, 5000, 7).unwrap();
