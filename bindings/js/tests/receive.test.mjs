@@ -102,6 +102,7 @@ test('packets out of the blue', () => {
     [bare(0, ['INIT'], ['SHUTDOWN_ACK']), 'INIT'],
     [bare(OTHER, ['INIT']), 'ABORT'],
     [bare(OTHER, ['COOKIE_ECHO'], ['SHUTDOWN_ACK']), 'COOKIE_ECHO'],
+    [bare(OTHER, ['AUTH'], ['COOKIE_ECHO']), 'COOKIE_ECHO'],
     [bare(OTHER, ['SACK'], ['COOKIE_ECHO']), 'ABORT'],
     [bare(OTHER, ['SHUTDOWN_COMPLETE'], ['SHUTDOWN_ACK']), 'SHUTDOWN_COMPLETE'],
     [bare(OTHER, ['SHUTDOWN_COMPLETE']), 'DISCARD'],
