@@ -205,7 +205,7 @@ func (h Header) InitAbort(initiateTag uint32, fault InitFault) (Packet, error) {
 // in the INIT: look at it yourself.
 func (chunk Chunk) AddsAddresses(known []byte) bool {
 	bytes, length, c := chunk.inC()
-	return bool(C.go_adds_addresses(bytes, length, c, bytesOf(known), C.size_t(len(known))))
+	return bool(C.go_adds_addresses(bytes, length, &c, bytesOf(known), C.size_t(len(known))))
 }
 
 // Rules are rules of the RFCs that Packet.Check doesn't look at, which accepts a packet that breaks them: a set of bits, one for

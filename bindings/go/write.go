@@ -220,7 +220,7 @@ func (b *Builder) AddUnrecognizedParameters(init Chunk, known []ParameterType) (
 	to, room := b.to()
 	init.packet = b.apart(init.packet)
 	from, length, chunk := init.inC()
-	reported := C.go_add_unrecognized_parameters(to, room, b.size, b.start, from, length, chunk, (*C.uint16_t)(first(known)),
+	reported := C.go_add_unrecognized_parameters(to, room, b.size, b.start, from, length, &chunk, (*C.uint16_t)(first(known)),
 		C.size_t(len(known)))
 	err := b.extended(reported.result)
 	return int(reported.end), err
@@ -233,7 +233,7 @@ func (b *Builder) AddUnrecognizedParametersError(came Chunk, known []ParameterTy
 	to, room := b.to()
 	came.packet = b.apart(came.packet)
 	from, length, chunk := came.inC()
-	reported := C.go_add_unrecognized_parameters_error(to, room, b.size, from, length, chunk, (*C.uint16_t)(first(known)),
+	reported := C.go_add_unrecognized_parameters_error(to, room, b.size, from, length, &chunk, (*C.uint16_t)(first(known)),
 		C.size_t(len(known)))
 	err := b.reported(reported.result)
 	return int(reported.end), err
@@ -258,7 +258,7 @@ func (b *Builder) AddNewAddresses(init Chunk, known []byte) error {
 	to, room := b.to()
 	init.packet, known = b.apart(init.packet), b.apart(known)
 	from, length, chunk := init.inC()
-	return b.extended(C.go_add_new_addresses(to, room, b.size, b.start, from, length, chunk, bytesOf(known),
+	return b.extended(C.go_add_new_addresses(to, room, b.size, b.start, from, length, &chunk, bytesOf(known),
 		C.size_t(len(known))))
 }
 
