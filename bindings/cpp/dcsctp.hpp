@@ -463,7 +463,7 @@ enum class action : std::uint32_t {
 /// What is done with a packet, by its verification tag.
 enum class tag_verdict : std::uint32_t {
     accept = DCSCTP_TAG_ACCEPT,                   ///< the tag is right: the packet is processed
-    establish = DCSCTP_TAG_ESTABLISH,             ///< an INIT alone under the tag 0, or COOKIE ECHO first: section 5
+    establish = DCSCTP_TAG_ESTABLISH, ///< an INIT alone under the tag 0, or COOKIE ECHO first or behind AUTH: see section 5
     out_of_the_blue = DCSCTP_TAG_OUT_OF_THE_BLUE, ///< the packet is treated as if it belonged to no association
     discard = DCSCTP_TAG_DISCARD                  ///< the packet is discarded, without an answer
 };
@@ -471,7 +471,7 @@ enum class tag_verdict : std::uint32_t {
 enum class answer : std::uint32_t {
     discard = DCSCTP_ANSWER_DISCARD,                     ///< it is discarded, without an answer
     init = DCSCTP_ANSWER_INIT,                           ///< its INIT is processed (section 5.1)
-    cookie_echo = DCSCTP_ANSWER_COOKIE_ECHO,             ///< its COOKIE ECHO is processed (section 5.1)
+    cookie_echo = DCSCTP_ANSWER_COOKIE_ECHO,             ///< its COOKIE ECHO, first or behind AUTH, is processed (section 5.1)
     shutdown_complete = DCSCTP_ANSWER_SHUTDOWN_COMPLETE, ///< reply returns what is sent back
     abort = DCSCTP_ANSWER_ABORT                          ///< the same
 };
@@ -1321,9 +1321,16 @@ class chunk {
     friend class builder;
     friend class packet;
     friend class row_view;
+    friend bool adds_addresses(const chunk &of, bytes_view known) noexcept;
     chunk(bytes_view bytes, const ::dcsctp_chunk &it, std::size_t offset) noexcept
         : bytes_(bytes), it_(it), offset_(offset)
     {
+    }
+    // The parameters or error causes, up to the end of the value.
+    [[nodiscard]] bytes_view list() const noexcept
+    {
+        const std::size_t first = ::dcsctp_list_offset(&it_);
+        return detail::part(bytes_, first, it_.value_offset + it_.value_size - first);
     }
     [[nodiscard]] bool has_causes() const noexcept
     {
@@ -1774,6 +1781,16 @@ template <typename Call> outcome<std::vector<std::uint8_t>> made(std::size_t mos
     });
 }
 
+/// Returns whether an INIT adds addresses to an association that is there already (section 5.2.2): an ABORT under its
+/// initiate tag answers it, with builder::add_new_addresses, and the association stays as it is. `known` are the
+/// association's addresses, as parameters: the bytes() of each IPv4 Address and IPv6 Address, one after the other. The
+/// address that the packet came from isn't in the INIT: look at it yourself.
+[[nodiscard]] inline bool adds_addresses(const chunk &of, bytes_view known) noexcept
+{
+    const bytes_view list = of.list();
+    return ::dcsctp_adds_addresses(list.data(), list.size(), known.data(), known.size());
+}
+
 // ---- what is authenticated, by HMACs with SHA-1 or SHA-256 under keys of any length. Two HMACs are compared to their end,
 // wherever they differ; nothing is proved of the time that this takes.
 
@@ -1856,8 +1873,8 @@ opened_cookie open_cookie(bytes_view, Container &&, std::uint64_t) = delete;
 // ---- writing
 
 /// Writes a packet: each `add_` adds a chunk, and add_parameter, add_cause, add_number, add_re_config,
-/// add_missing_parameters, and add_registered of a parameter or an error cause add to the last chunk's list. Each
-/// returns ok; or it changes nothing, and returns why:
+/// add_missing_parameters, add_new_addresses, and add_registered of a parameter or an error cause add to the last chunk's
+/// list. Each returns ok; or it changes nothing, and returns why:
 ///   bad_place  the buffer had no 12 bytes for the header; or there is no chunk to add to
 ///   bad_value  the chunk would have more than 65,535 bytes, or what is to be written lies in the buffer itself
 ///   no_room    the packet would have more bytes than the buffer, the limit or 65,532
@@ -2093,14 +2110,29 @@ class builder {
     /// which processing stops, or of the end of the INIT's value if it stops at none.
     outcome<std::size_t> add_unrecognized_parameters(const chunk &of, view<const std::uint16_t> types)
     {
-        const std::size_t first = ::dcsctp_list_offset(&of.it_), last = of.it_.value_offset + of.it_.value_size;
-        const bytes_view list = detail::part(of.bytes_, first, last - first);
+        const bytes_view list = of.list();
         std::size_t stop = 0;
         const result added = apart(types, list, [&] {
             return ::dcsctp_add_unrecognized_parameters(data_, room_, &size_, start_, list.data(), list.size(), types.data(),
                                                         types.size(), &stop);
         });
-        return added ? outcome<std::size_t>(first + stop) : added.code();
+        return added ? outcome<std::size_t>(::dcsctp_list_offset(&of.it_) + stop) : added.code();
+    }
+    /// Adds an ERROR with a cause Unrecognized Parameters (section 3.3.10.8) for each parameter of an INIT ACK that came, or
+    /// of another chunk but INIT, likewise; no ERROR if there is none. The packet is the one that answers: that of an INIT
+    /// ACK begins with COOKIE ECHO.
+    outcome<std::size_t> add_unrecognized_parameters_error(const chunk &of, view<const std::uint16_t> types)
+    {
+        const bytes_view list = of.list();
+        const std::size_t start = size_;
+        std::size_t stop = 0;
+        const result added = apart(types, list, [&] {
+            return ::dcsctp_add_unrecognized_parameters_error(data_, room_, &size_, list.data(), list.size(), types.data(),
+                                                              types.size(), &stop);
+        });
+        if (size_ != start)
+            start_ = start;
+        return added ? outcome<std::size_t>(::dcsctp_list_offset(&of.it_) + stop) : added.code();
     }
     /// Adds an ERROR with a cause Unrecognized Chunk Type (section 3.3.10.6) for each chunk of a packet that came whose type
     /// isn't one of `types` and is to be reported (section 3.2): whole and in order, up to the first at which processing
@@ -2117,6 +2149,16 @@ class builder {
         if (size_ != start)
             start_ = start;
         return added ? outcome<std::size_t>(stop) : added.code();
+    }
+    /// Adds to an ABORT, the last chunk, the cause Restart of an Association with New Addresses (section 3.3.10.11), with the
+    /// addresses that an INIT adds to those of an association, `known`, as they are in the INIT: see adds_addresses.
+    result add_new_addresses(const chunk &of, bytes_view known)
+    {
+        const bytes_view list = of.list();
+        return apart(known, list, [&] {
+            return ::dcsctp_add_new_addresses(data_, room_, &size_, start_, list.data(), list.size(), known.data(),
+                                              known.size());
+        });
     }
 
     /// Takes the last chunk back, with its list; nothing if that was done, or there is none. After it there is no chunk

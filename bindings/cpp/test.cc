@@ -1533,6 +1533,9 @@ void tags()
         {bare(peer_tag, {{chunk_type::shutdown_complete, 0}}), tag_verdict::discard},
         // D: COOKIE ECHO, by section 5
         {bare(other_tag, {{chunk_type::cookie_echo, 0}, {chunk_type::sack, 0}}), tag_verdict::establish},
+        // or behind an AUTH, RFC 4895 section 6.3
+        {bare(other_tag, {{chunk_type::auth, 0}, {chunk_type::cookie_echo, 0}}), tag_verdict::establish},
+        {bare(other_tag, {{chunk_type::auth, 0}, {chunk_type::auth, 0}, {chunk_type::cookie_echo, 0}}), tag_verdict::discard},
         // E: SHUTDOWN ACK, out of the blue where a cookie is awaited
         {bare(own_tag, {{chunk_type::shutdown_ack, 0}}), tag_verdict::accept},
     };
@@ -1563,6 +1566,7 @@ void out_of_the_blue()
         {bare(0, {{chunk_type::init, 0}, {chunk_type::shutdown_ack, 0}}), answer::init},
         {bare(other_tag, {{chunk_type::init, 0}}), answer::abort},
         {bare(other_tag, {{chunk_type::cookie_echo, 0}, {chunk_type::shutdown_ack, 0}}), answer::cookie_echo},
+        {bare(other_tag, {{chunk_type::auth, 0}, {chunk_type::cookie_echo, 0}}), answer::cookie_echo},
         {bare(other_tag, {{chunk_type::sack, 0}, {chunk_type::cookie_echo, 0}}), answer::abort},
         {bare(other_tag, {{chunk_type::shutdown_complete, 0}, {chunk_type::shutdown_ack, 0}}), answer::shutdown_complete},
         {bare(other_tag, {{chunk_type::shutdown_complete, 0}}), answer::discard},
@@ -1768,6 +1772,115 @@ void unrecognized_parameters()
     CHECK(to.add_unrecognized_parameters(sent, {}).error() == result_code::bad_place);
 }
 
+// A chunk with this value, in the bytes of a packet.
+chunk made(bytes &packet_of, chunk_type type, const std::string &value)
+{
+    builder to(packet_of, 5000, 5001, 0);
+    CHECK(to.add_chunk(type, 0, of_hex(value)) && to.seal());
+    return *packet(packet_of).chunks().begin();
+}
+
+const std::string init_numbers = "00000007 00020000 00010001 00000001";
+
+// The same parameters of an INIT ACK, in an ERROR after the COOKIE ECHO (sections 3.2.2 and 3.3.10.8).
+void unrecognized_parameters_error()
+{
+    const char *const list = "80010004 c0010008 00000001 c0020005 aaffffff 40030006 bbcc0000 c0040004";
+    const struct {
+        const char *list;
+        std::vector<std::uint16_t> types;
+        const char *added;
+        std::size_t stop;
+    } rows[] = {
+        {list, {}, "09000026 0008000c c0010008 00000001 00080009 c0020005 aa000000 0008000a 40030006 bbcc0000", 20},
+        {list, {0xc001, 0x4003}, "09000018 00080009 c0020005 aa000000 00080008 c0040004", 32},
+        {"00010004 c0020004", {}, "", 0},
+        {"", {}, "", 0},
+    };
+    for (const auto &row : rows) {
+        bytes came, buffer;
+        const chunk sent = made(came, chunk_type::init_ack, init_numbers + row.list);
+        const bytes added = of_hex(row.added);
+        builder to(buffer, 5001, 5000, 7);
+        CHECK(to.add_cookie_echo(as_bytes("abcd")));
+        const auto stop = to.add_unrecognized_parameters_error(sent, row.types);
+        CHECK(stop && *stop == 32 + row.stop && same(to.bytes().subspan(20), added));
+        // (the last chunk is the ERROR, if there is one)
+        CHECK(to.last_chunk()->offset() == (added.empty() ? 12 : 20));
+        if (added.empty())
+            continue;
+        bytes small(12 + added.size() - 1);
+        builder short_of(mutable_bytes_view(small.data(), small.size()), 5001, 5000, 7);
+        CHECK(short_of.add_unrecognized_parameters_error(sent, row.types).error() == result_code::no_room);
+        CHECK(short_of.size() == 12 && !short_of.last_chunk());
+    }
+    // A chunk that has no list.
+    bytes came, buffer;
+    const chunk cookie_ack = made(came, chunk_type::cookie_ack, "00000000 c0010004");
+    builder to(buffer, 5001, 5000, 7);
+    const auto stop = to.add_unrecognized_parameters_error(cookie_ack, {});
+    CHECK(stop && *stop == 24 && to.size() == 12);
+    // What is added has to lie apart.
+    CHECK(to.add_init_ack({7, 0x20000, 1, 1, 1}) && to.add_parameter(parameter_type::state_cookie, as_bytes("abcd")));
+    CHECK(to.add_unrecognized_parameters_error(*to.last_chunk(), {}).error() == result_code::bad_value && to.size() == 40);
+}
+
+// Addresses that an INIT adds (section 5.2.2), "an exact copy of the TLV that was found in the INIT chunk" of each, in an ABORT with
+// the cause Restart of an Association with New Addresses (section 3.3.10.11).
+void new_addresses()
+{
+    const char *const one = "00050008 0a000001", *const other = "000b000c 00050008 0a000001";
+    const struct {
+        const char *known, *list, *cause;
+    } rows[] = {
+        {one, one, ""},
+        {one, "00050008 0a000002", "000b000c 00050008 0a000002"},
+        {one, "00050008 0a000001 00060014 20010db8 00000000 00000000 00000001 00050008 0a000003",
+         "000b0020 00060014 20010db8 00000000 00000000 00000001 00050008 0a000003"},
+        // None is known; what is no address isn't listed.
+        {"", one, other},
+        {"", "00090008 00000001 000c0006 00050000", ""},
+        {"", "01050008 0a000001 01060014 20010db8 00000000 00000000 00000001", ""},
+        {"", "00050007 0a000000 00050009 0a000001 02000000 00060008 0a000001 00050014 20010db8 00000000 00000000 00000001", ""},
+        // One that is known by another type isn't the same; one that is known behind what is no address is.
+        {"00060014 00000000 00000000 0000ffff 0a000001", one, other},
+        {"000c0006 00050000 00050008 0a000001", one, ""},
+        // What comes behind an impossible length, of the known ones and of the INIT's.
+        {"00000000 000c0000 00050008 0a000001", one, other},
+        {"", "00050003 00050008 0a000002", ""},
+        {one, "", ""},
+        {"", "", ""},
+    };
+    for (const auto &row : rows) {
+        bytes came, buffer;
+        const chunk sent = made(came, chunk_type::init, init_numbers + row.list);
+        const bytes known = of_hex(row.known), cause = of_hex(row.cause);
+        CHECK(adds_addresses(sent, known) == !cause.empty());
+        if (cause.empty())
+            continue;
+        builder to(buffer, 5001, 5000, 7);
+        CHECK(to.add_new_addresses(sent, known).code() == result_code::bad_place);
+        CHECK(to.add_chunk(chunk_type::abort) && to.add_new_addresses(sent, known));
+        bytes wanted = of_hex("13891388 00000007 00000000 06000000");
+        wanted[15] = static_cast<std::uint8_t>(4 + cause.size());
+        wanted.insert(wanted.end(), cause.begin(), cause.end());
+        CHECK(same(to.bytes(), wanted) && to.last_chunk()->offset() == 12);
+        bytes small(wanted.size() - 1);
+        builder short_of(mutable_bytes_view(small.data(), small.size()), 5001, 5000, 7);
+        CHECK(short_of.add_chunk(chunk_type::abort));
+        CHECK(short_of.add_new_addresses(sent, known).code() == result_code::no_room && short_of.size() == 16);
+    }
+    // A chunk that has no list adds none; what is added has to lie apart.
+    bytes came, buffer;
+    const chunk data = made(came, chunk_type::data, init_numbers + one);
+    CHECK(!adds_addresses(data, {}));
+    builder to(buffer, 5001, 5000, 7);
+    CHECK(to.add_chunk(chunk_type::abort) && to.add_new_addresses(data, {}) && same(to.last_chunk()->bytes(), of_hex("06000008 000b0004")));
+    bytes twice;
+    const chunk sent = made(twice, chunk_type::init, init_numbers + one);
+    CHECK(to.add_new_addresses(sent, to.bytes()).code() == result_code::bad_value);
+}
+
 // An ERROR (section 3.2) with a cause Unrecognized Chunk Type (section 3.3.10.6) for each type with the highest-order bits 01 or
 // 11, up to the first with 00 or 01.
 void unrecognized_chunks()
@@ -1952,6 +2065,8 @@ int main(int count, char **words)
         rules_of_rows(words[1]);
     rules_by_what_is_known();
     unrecognized_parameters();
+    unrecognized_parameters_error();
+    new_addresses();
     unrecognized_chunks();
     cookies();
     auths();

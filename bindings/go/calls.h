@@ -1,6 +1,6 @@
 // SPDX-License-Identifier: Apache-2.0
 /* The calls of dcsctp.h with structs and sizes as values: what cgo passes the address of, Go has to keep on its heap. (A
-   dcsctp_re_config isn't one: Go 1.19 can't compile that under -d=checkptr.) */
+   dcsctp_re_config isn't one, nor is a dcsctp_chunk beside a packet: Go 1.19 can't compile these under -d=checkptr.) */
 #ifndef CALLS_H
 #define CALLS_H
 
@@ -253,19 +253,46 @@ struct go_reported {
     size_t end;
 };
 
-/* The list is that of a chunk, and where the program stops an offset of its packet. */
+/* The list of a chunk, and its offset in the packet. */
+struct go_list {
+    const uint8_t *bytes;
+    size_t size, offset;
+};
+
+static inline struct go_list go_list(const uint8_t *bytes, size_t length, const struct dcsctp_chunk *chunk)
+{
+    const size_t last = chunk->value_offset + chunk->value_size, first = dcsctp_list_offset(chunk);
+    struct go_list list = {bytes, 0, 0};
+    if (last <= length && first <= last) { /* (not so of a Chunk that was changed) */
+        list.bytes = first < last ? bytes + first : bytes;
+        list.size = last - first;
+        list.offset = first;
+    }
+    return list;
+}
+
+/* Where the program stops is an offset of the chunk's packet. */
 static inline struct go_reported go_add_unrecognized_parameters(TO, size_t start, const uint8_t *bytes, size_t length,
                                                                 const struct dcsctp_chunk *chunk, const uint16_t *known,
                                                                 size_t known_count)
 {
+    const struct go_list list = go_list(bytes, length, chunk);
     struct go_reported reported = {{0, size}, 0};
-    size_t last = chunk->value_offset + chunk->value_size, first = dcsctp_list_offset(chunk);
-    if (last > length || first > last) /* (as of a Chunk that was changed) */
-        first = last = 0;
-    reported.result.code =
-        dcsctp_add_unrecognized_parameters(packet, room, &reported.result.size, start, first < last ? bytes + first : bytes,
-                                           last - first, known, known_count, &reported.end);
-    reported.end += first;
+    reported.result.code = dcsctp_add_unrecognized_parameters(packet, room, &reported.result.size, start, list.bytes, list.size,
+                                                              known, known_count, &reported.end);
+    reported.end += list.offset;
+    return reported;
+}
+
+static inline struct go_reported go_add_unrecognized_parameters_error(TO, const uint8_t *bytes, size_t length,
+                                                                      const struct dcsctp_chunk *chunk, const uint16_t *known,
+                                                                      size_t known_count)
+{
+    const struct go_list list = go_list(bytes, length, chunk);
+    struct go_reported reported = {{0, size}, 0};
+    reported.result.code = dcsctp_add_unrecognized_parameters_error(packet, room, &reported.result.size, list.bytes, list.size,
+                                                                    known, known_count, &reported.end);
+    reported.end += list.offset;
     return reported;
 }
 
@@ -276,6 +303,22 @@ static inline struct go_reported go_add_unrecognized_chunks(TO, const uint8_t *b
     reported.result.code = dcsctp_add_unrecognized_chunks(packet, room, &reported.result.size, bytes, length, known, known_count,
                                                           &reported.end);
     return reported;
+}
+
+static inline bool go_adds_addresses(const uint8_t *bytes, size_t length, const struct dcsctp_chunk *chunk,
+                                     const uint8_t *known, size_t known_size)
+{
+    const struct go_list list = go_list(bytes, length, chunk);
+    return dcsctp_adds_addresses(list.bytes, list.size, known, known_size);
+}
+
+static inline struct go_result go_add_new_addresses(TO, size_t start, const uint8_t *bytes, size_t length,
+                                                    const struct dcsctp_chunk *chunk, const uint8_t *known, size_t known_size)
+{
+    const struct go_list list = go_list(bytes, length, chunk);
+    struct go_result result = {0, size};
+    result.code = dcsctp_add_new_addresses(packet, room, &result.size, start, list.bytes, list.size, known, known_size);
+    return result;
 }
 
 ADD(reply, (TO, struct dcsctp_header header, uint32_t answer), &header, answer)

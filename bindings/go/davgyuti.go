@@ -39,7 +39,10 @@
 //
 //   - INIT: AddInitAck in a packet under its InitiateTag, and AddParameter of a State Cookie that Cookie.Seal makes; where
 //     there is an InitFault, what its Refusal says
-//   - INIT ACK: AddCookieEcho of its State Cookie's Value, in a packet under its InitiateTag
+//   - INIT for an association that is there already, where it AddsAddresses: AddChunk(ChunkAbort, 0, nil) in a packet under its
+//     InitiateTag, and AddNewAddresses
+//   - INIT ACK: AddCookieEcho of its State Cookie's Value, in a packet under its InitiateTag; after it
+//     AddUnrecognizedParametersError reports the parameters that you don't know
 //   - COOKIE ECHO: AddCookieAck, if OpenCookie opens it, and its ports and its LocalTag are the packet's
 //   - DATA, I-DATA, FORWARD-TSN, I-FORWARD-TSN: AddSACK, with blocks of CleanBlocks
 //   - HEARTBEAT: AddHeartbeatAck of its Heartbeat Info's Value

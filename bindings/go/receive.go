@@ -70,7 +70,7 @@ type TagVerdict uint32
 const (
 	// TagAccept: the tag is right, and the packet is processed.
 	TagAccept TagVerdict = C.DCSCTP_TAG_ACCEPT
-	// TagEstablish: an INIT alone under the tag 0, or COOKIE ECHO first; section 5 says what is done.
+	// TagEstablish: an INIT alone under the tag 0, or COOKIE ECHO first or behind AUTH; section 5 says what is done.
 	TagEstablish TagVerdict = C.DCSCTP_TAG_ESTABLISH
 	// TagOutOfTheBlue: the packet is treated as if it belonged to no association.
 	TagOutOfTheBlue TagVerdict = C.DCSCTP_TAG_OUT_OF_THE_BLUE
@@ -102,7 +102,7 @@ const (
 	AnswerDiscard Answer = C.DCSCTP_ANSWER_DISCARD
 	// AnswerInit: its INIT is processed (section 5.1).
 	AnswerInit Answer = C.DCSCTP_ANSWER_INIT
-	// AnswerCookieEcho: its COOKIE ECHO is processed (section 5.1).
+	// AnswerCookieEcho: its COOKIE ECHO, first or behind AUTH, is processed (section 5.1).
 	AnswerCookieEcho Answer = C.DCSCTP_ANSWER_COOKIE_ECHO
 	// AnswerShutdownComplete: Header.Reply has what is sent back.
 	AnswerShutdownComplete Answer = C.DCSCTP_ANSWER_SHUTDOWN_COMPLETE
@@ -197,6 +197,15 @@ func (h Header) InitAbort(initiateTag uint32, fault InitFault) (Packet, error) {
 	return unsealed(func(to *C.uint8_t, room C.size_t) C.struct_go_result {
 		return C.go_init_abort(to, room, 0, h.c(), C.uint32_t(initiateTag), C.uint32_t(fault))
 	})
+}
+
+// AddsAddresses returns whether an INIT adds addresses to an association that is there already (section 5.2.2): an ABORT under its
+// InitiateTag answers it, with AddNewAddresses, and the association stays as it is. known are the association's addresses, as
+// parameters: the Bytes of each IPv4 Address and IPv6 Address, one after the other. The address that the packet came from isn't
+// in the INIT: look at it yourself.
+func (chunk Chunk) AddsAddresses(known []byte) bool {
+	bytes, length, c := chunk.inC()
+	return bool(C.go_adds_addresses(bytes, length, &c, bytesOf(known), C.size_t(len(known))))
 }
 
 // Rules are rules of the RFCs that Packet.Check doesn't look at, which accepts a packet that breaks them: a set of bits, one for

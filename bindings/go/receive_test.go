@@ -51,7 +51,7 @@ func TestVerifyTag(t *testing.T) {
 	const (
 		init, ack, abort, shutdownAck, echo = int(davgyuti.ChunkInit), int(davgyuti.ChunkCookieAck), int(davgyuti.ChunkAbort),
 			int(davgyuti.ChunkShutdownAck), int(davgyuti.ChunkCookieEcho)
-		complete, reflected = int(davgyuti.ChunkShutdownComplete), davgyuti.TagReflected
+		complete, auth, reflected = int(davgyuti.ChunkShutdownComplete), int(davgyuti.ChunkAuth), davgyuti.TagReflected
 	)
 	known := davgyuti.Association{OwnTag: own, PeerTag: peer, HasPeerTag: true}
 	for _, c := range []struct {
@@ -81,6 +81,9 @@ func TestVerifyTag(t *testing.T) {
 		{peer, [][2]int{{complete, 0}}, davgyuti.TagDiscard},
 		// D: COOKIE ECHO, by section 5.
 		{other, [][2]int{{echo, 0}, {int(davgyuti.ChunkSACK), 0}}, davgyuti.TagEstablish},
+		// Or behind an AUTH, RFC 4895 section 6.3.
+		{other, [][2]int{{auth, 0}, {echo, 0}}, davgyuti.TagEstablish},
+		{other, [][2]int{{auth, 0}, {auth, 0}, {echo, 0}}, davgyuti.TagDiscard},
 		// E: SHUTDOWN ACK, out of the blue where a cookie is awaited.
 		{own, [][2]int{{shutdownAck, 0}}, davgyuti.TagAccept},
 	} {
@@ -116,6 +119,7 @@ func TestOutOfTheBlue(t *testing.T) {
 		{bareOf(0, [2]int{init, 0}, [2]int{shutdownAck, 0}), davgyuti.AnswerInit},
 		{bareOf(other, [2]int{init, 0}), davgyuti.AnswerAbort},
 		{bareOf(other, [2]int{echo, 0}, [2]int{shutdownAck, 0}), davgyuti.AnswerCookieEcho},
+		{bareOf(other, [2]int{int(davgyuti.ChunkAuth), 0}, [2]int{echo, 0}), davgyuti.AnswerCookieEcho},
 		{bareOf(other, [2]int{sack, 0}, [2]int{echo, 0}), davgyuti.AnswerAbort},
 		{bareOf(other, [2]int{complete, 0}, [2]int{shutdownAck, 0}), davgyuti.AnswerShutdownComplete},
 		{bareOf(other, [2]int{complete, 0}), davgyuti.AnswerDiscard},
@@ -335,7 +339,6 @@ func TestBrokenRulesByWhatIsKnown(t *testing.T) {
 // An INIT ACK of an INIT (section 3.2.2): an Unrecognized Parameter (section 3.3.3.1.2) for each type with the highest-order bits 01
 // or 11, up to the first with 00 or 01. Stops are counted from the list on.
 func TestUnrecognizedParameters(t *testing.T) {
-	const numbers = "00000007 00020000 00010001 00000001"
 	own := davgyuti.Init{InitiateTag: 7, ARwnd: 0x20000, OutboundStreams: 1, InboundStreams: 1, InitialTSN: 1}
 	for _, c := range []struct {
 		list          string
@@ -351,9 +354,9 @@ func TestUnrecognizedParameters(t *testing.T) {
 		{"80000004 00ff0004 c0000004", nil, "0014", "", 4},
 	} {
 		came, _ := davgyuti.Begin(make([]byte, 100), 5000, 5001, 0)
-		equal(t, "INIT", came.AddChunk(davgyuti.ChunkInit, 0, ofHex(numbers+c.list)), nil)
+		equal(t, "INIT", came.AddChunk(davgyuti.ChunkInit, 0, ofHex(initNumbers+c.list)), nil)
 		init, _ := came.LastChunk()
-		wanted := ofHex("13891388 00000007 00000000 0200" + c.length + numbers + c.items)
+		wanted := ofHex("13891388 00000007 00000000 0200" + c.length + initNumbers + c.items)
 		builder, _ := davgyuti.Begin(make([]byte, len(wanted)), 5001, 5000, 7)
 		equal(t, "INIT ACK", builder.AddInitAck(own), nil)
 		stop, err := builder.AddUnrecognizedParameters(init, c.known)
@@ -373,6 +376,107 @@ func TestUnrecognizedParameters(t *testing.T) {
 	// (a Chunk that was made up has no list)
 	stop, err := builder.AddUnrecognizedParameters(davgyuti.Chunk{Type: davgyuti.ChunkInit, Value: make([]byte, 1000)}, nil)
 	equal(t, "made up", []interface{}{stop, err, len(builder.Bytes())}, []interface{}{0, nil, 32})
+}
+
+const initNumbers = "00000007 00020000 00010001 00000001"
+
+// chunkOf returns a chunk with this value.
+func chunkOf(t *testing.T, chunkType davgyuti.ChunkType, value string) davgyuti.Chunk {
+	builder, _ := davgyuti.Begin(make([]byte, 100), 5000, 5001, 0)
+	equal(t, "chunk", builder.AddChunk(chunkType, 0, ofHex(value)), nil)
+	chunk, _ := builder.LastChunk()
+	return chunk
+}
+
+// The same parameters of an INIT ACK, in an ERROR after the COOKIE ECHO (sections 3.2.2 and 3.3.10.8).
+func TestUnrecognizedParametersError(t *testing.T) {
+	const (
+		front = "13891388 00000007 00000000 0a000008 61626364"
+		list  = "80010004 c0010008 00000001 c0020005 aaffffff 40030006 bbcc0000 c0040004"
+	)
+	for _, c := range []struct {
+		list  string
+		known []davgyuti.ParameterType
+		added string
+		stop  int
+	}{
+		{list, nil, "09000026 0008000c c0010008 00000001 00080009 c0020005 aa000000 0008000a 40030006 bbcc0000", 20},
+		{list, []davgyuti.ParameterType{0xc001, 0x4003}, "09000018 00080009 c0020005 aa000000 00080008 c0040004", 32},
+		{"00010004 c0020004", nil, "", 0},
+		{"", nil, "", 0},
+	} {
+		came, wanted := chunkOf(t, davgyuti.ChunkInitAck, initNumbers+c.list), ofHex(front+c.added)
+		builder, _ := davgyuti.Begin(make([]byte, len(wanted)), 5001, 5000, 7)
+		equal(t, "COOKIE ECHO", builder.AddCookieEcho([]byte("abcd")), nil)
+		stop, err := builder.AddUnrecognizedParametersError(came, c.known)
+		equal(t, c.list, []interface{}{stop, err, builder.Bytes()}, []interface{}{32 + c.stop, nil, wanted})
+		last, _ := builder.LastChunk()
+		equal(t, "the last chunk is the ERROR", last.Type == davgyuti.ChunkError, c.added != "")
+		if c.added == "" {
+			continue
+		}
+		builder, _ = davgyuti.Begin(make([]byte, len(wanted)-1), 5001, 5000, 7)
+		equal(t, "COOKIE ECHO", builder.AddCookieEcho([]byte("abcd")), nil)
+		_, err = builder.AddUnrecognizedParametersError(came, c.known)
+		equal(t, c.list, []interface{}{err, len(builder.Bytes())}, []interface{}{davgyuti.ErrNoRoom, 20})
+	}
+	// A chunk that has no list, and a Chunk that was made up.
+	builder, _ := davgyuti.Begin(make([]byte, 100), 5001, 5000, 7)
+	stop, err := builder.AddUnrecognizedParametersError(chunkOf(t, davgyuti.ChunkCookieAck, "00000000 c0010004"), nil)
+	equal(t, "no list", []interface{}{stop, err, len(builder.Bytes())}, []interface{}{24, nil, 12})
+	made := davgyuti.Chunk{Type: davgyuti.ChunkInitAck, Value: make([]byte, 1000)}
+	stop, err = builder.AddUnrecognizedParametersError(made, nil)
+	equal(t, "made up", []interface{}{stop, err, len(builder.Bytes())}, []interface{}{0, nil, 12})
+}
+
+// Addresses that an INIT adds (section 5.2.2), "an exact copy of the TLV that was found in the INIT chunk" of each, in an ABORT with
+// the cause Restart of an Association with New Addresses (section 3.3.10.11).
+func TestNewAddresses(t *testing.T) {
+	const one, other = "00050008 0a000001", "06000010 000b000c 00050008 0a000001"
+	for _, c := range []struct{ known, list, abort string }{
+		{one, one, ""},
+		{one, "00050008 0a000002", "06000010 000b000c 00050008 0a000002"},
+		{one, "00050008 0a000001 00060014 20010db8 00000000 00000000 00000001 00050008 0a000003",
+			"06000024 000b0020 00060014 20010db8 00000000 00000000 00000001 00050008 0a000003"},
+		// None is known; what is no address isn't listed.
+		{"", one, other},
+		{"", "00090008 00000001 000c0006 00050000", ""},
+		{"", "01050008 0a000001 01060014 20010db8 00000000 00000000 00000001", ""},
+		{"", "00050007 0a000000 00050009 0a000001 02000000 00060008 0a000001 00050014 20010db8 00000000 00000000 00000001", ""},
+		// One that is known by another type isn't the same; one that is known behind what is no address is.
+		{"00060014 00000000 00000000 0000ffff 0a000001", one, other},
+		{"000c0006 00050000 00050008 0a000001", one, ""},
+		// What comes behind an impossible length, of the known ones and of the INIT's.
+		{"00000000 000c0000 00050008 0a000001", one, other},
+		{"", "00050003 00050008 0a000002", ""},
+		{one, "", ""},
+		{"", "", ""},
+	} {
+		init, known := chunkOf(t, davgyuti.ChunkInit, initNumbers+c.list), ofHex(c.known)
+		equal(t, c.list, init.AddsAddresses(known), c.abort != "")
+		if c.abort == "" {
+			continue
+		}
+		wanted := ofHex("13891388 00000007 00000000" + c.abort)
+		builder, _ := davgyuti.Begin(make([]byte, len(wanted)), 5001, 5000, 7)
+		equal(t, "no chunk to add to", builder.AddNewAddresses(init, known), davgyuti.ErrBadPlace)
+		equal(t, "ABORT", builder.AddChunk(davgyuti.ChunkAbort, 0, nil), nil)
+		err := builder.AddNewAddresses(init, known)
+		equal(t, c.list, []interface{}{err, builder.Bytes()}, []interface{}{nil, wanted})
+		builder, _ = davgyuti.Begin(make([]byte, len(wanted)-1), 5001, 5000, 7)
+		equal(t, "ABORT", builder.AddChunk(davgyuti.ChunkAbort, 0, nil), nil)
+		err = builder.AddNewAddresses(init, known)
+		equal(t, c.list, []interface{}{err, len(builder.Bytes())}, []interface{}{davgyuti.ErrNoRoom, 16})
+	}
+	// A chunk that has no list, and a Chunk that was made up.
+	data := chunkOf(t, davgyuti.ChunkData, initNumbers+one)
+	equal(t, "no list", data.AddsAddresses(nil), false)
+	equal(t, "made up", davgyuti.Chunk{Type: davgyuti.ChunkInit, Value: make([]byte, 1000)}.AddsAddresses(nil), false)
+	builder, _ := davgyuti.Begin(make([]byte, 100), 5001, 5000, 7)
+	equal(t, "ABORT", builder.AddChunk(davgyuti.ChunkAbort, 0, nil), nil)
+	err := builder.AddNewAddresses(data, nil)
+	last, _ := builder.LastChunk()
+	equal(t, "no list", []interface{}{err, last.Bytes()}, []interface{}{nil, ofHex("06000008 000b0004")})
 }
 
 // An ERROR (section 3.2) with a cause Unrecognized Chunk Type (section 3.3.10.6) for each type with the highest-order bits 01 or

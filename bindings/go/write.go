@@ -8,8 +8,8 @@ import "C"
 import "unsafe"
 
 // A Builder writes a packet into a buffer of the caller: AddParameter, AddCause, AddNumber, AddCauseNumber, AddReConfig,
-// AddMissingParameters, AddUnrecognizedParameters, AddRegisteredParameter and AddRegisteredCause add to the last chunk's list, and
-// each other Add function adds a chunk. Each returns nil; or it changes nothing, and returns why:
+// AddMissingParameters, AddUnrecognizedParameters, AddNewAddresses, AddRegisteredParameter and AddRegisteredCause add to the last
+// chunk's list, and each other Add function adds a chunk. Each returns nil; or it changes nothing, and returns why:
 //
 //	ErrBadPlace  there is no chunk to add to
 //	ErrBadValue  the chunk would have more than 65,535 bytes; some functions say what else can't be written
@@ -226,6 +226,19 @@ func (b *Builder) AddUnrecognizedParameters(init Chunk, known []ParameterType) (
 	return int(reported.end), err
 }
 
+// AddUnrecognizedParametersError adds an ERROR with a cause Unrecognized Parameters (section 3.3.10.8) for each parameter of an
+// INIT ACK that came, or of another chunk but INIT, likewise; no ERROR if there is none. The packet is the one that answers: that
+// of an INIT ACK begins with COOKIE ECHO.
+func (b *Builder) AddUnrecognizedParametersError(came Chunk, known []ParameterType) (int, error) {
+	to, room := b.to()
+	came.packet = b.apart(came.packet)
+	from, length, chunk := came.inC()
+	reported := C.go_add_unrecognized_parameters_error(to, room, b.size, from, length, &chunk, (*C.uint16_t)(first(known)),
+		C.size_t(len(known)))
+	err := b.reported(reported.result)
+	return int(reported.end), err
+}
+
 // AddUnrecognizedChunks adds an ERROR with a cause Unrecognized Chunk Type (section 3.3.10.6) for each chunk of a packet that came
 // whose type isn't known and is to be reported (section 3.2): whole and in order, up to the first at which processing stops, and
 // with it; no ERROR if there is none. All, or nothing. known are the types that your program knows. The first result is where your
@@ -235,12 +248,18 @@ func (b *Builder) AddUnrecognizedChunks(came Packet, known []ChunkType) (int, er
 	came = b.apart(came)
 	reported := C.go_add_unrecognized_chunks(to, room, b.size, bytesOf(came), C.size_t(len(came)), (*C.uint8_t)(first(known)),
 		C.size_t(len(known)))
-	take := b.added
-	if reported.result.size == b.size {
-		take = b.extended
-	}
-	err := take(reported.result)
+	err := b.reported(reported.result)
 	return int(reported.end), err
+}
+
+// AddNewAddresses adds to an ABORT, the last chunk, the cause Restart of an Association with New Addresses (section 3.3.10.11),
+// with the addresses that an INIT adds to those of an association, known, as they are in the INIT: see Chunk.AddsAddresses.
+func (b *Builder) AddNewAddresses(init Chunk, known []byte) error {
+	to, room := b.to()
+	init.packet, known = b.apart(init.packet), b.apart(known)
+	from, length, chunk := init.inC()
+	return b.extended(C.go_add_new_addresses(to, room, b.size, b.start, from, length, &chunk, bytesOf(known),
+		C.size_t(len(known))))
 }
 
 func (b *Builder) to() (*C.uint8_t, C.size_t) { return bytesOf(b.buffer), C.size_t(len(b.buffer)) }
@@ -259,6 +278,14 @@ func (b *Builder) added(result C.struct_go_result) error {
 		b.start = b.size
 	}
 	return b.extended(result)
+}
+
+// reported does, for a call that may have added an ERROR.
+func (b *Builder) reported(result C.struct_go_result) error {
+	if result.size == b.size {
+		return b.extended(result)
+	}
+	return b.added(result)
 }
 
 // apart returns what is to be written, and a copy where it lies in the buffer itself: C reads and writes apart.

@@ -628,6 +628,13 @@ export class Builder {
       it. All, or nothing: throws NO_ROOM where there is no room for all. `known` are the types that your program knows. Returns where
       it stops: the `offset` of the parameter at which processing stops; null if it stops at none. */
   addUnrecognizedParameters(init: Pick<UncheckedChunk, 'value' | 'valueOffset'>, known: Iterable<number>): number | null;
+  /** Adds an ERROR with a cause Unrecognized Parameters (section 3.3.10.8) for each parameter of an INIT ACK that came, or of another
+      chunk but INIT, likewise; no ERROR if there is none. The packet is the one that answers: that of an INIT ACK begins with COOKIE
+      ECHO. */
+  addUnrecognizedParametersError(chunk: UncheckedChunk, known: Iterable<number>): number | null;
+  /** Adds to an ABORT, the last chunk, the cause Restart of an Association with New Addresses (section 3.3.10.11), with the addresses
+      that an INIT adds to those of an association, `known`, as they are in the INIT: see `addsAddresses`. */
+  addNewAddresses(init: UncheckedChunk, known: Uint8Array): this;
   /** Adds an ERROR with a cause Unrecognized Chunk Type (section 3.3.10.6) for each chunk of a packet that came whose type isn't known
       and is to be reported (section 3.2): whole and in order, up to the first at which processing stops, and with it; no ERROR if
       there is none. All, or nothing, likewise. Returns the `offset` of the chunk at which processing stops; null if it stops at
@@ -682,7 +689,7 @@ export interface Association {
 export const TagVerdict: {
   /** The tag is right: the packet is processed. */
   readonly ACCEPT: 0;
-  /** An INIT alone under the tag 0, or COOKIE ECHO first: section 5 says what is done. */
+  /** An INIT alone under the tag 0, or COOKIE ECHO first or behind AUTH: section 5 says what is done. */
   readonly ESTABLISH: 1;
   /** The packet is treated as if it belonged to no association. */
   readonly OUT_OF_THE_BLUE: 2;
@@ -699,7 +706,7 @@ export const Answer: {
   readonly DISCARD: 0;
   /** Its INIT is processed (section 5.1). */
   readonly INIT: 1;
-  /** Its COOKIE ECHO is processed (section 5.1). */
+  /** Its COOKIE ECHO, first or behind AUTH, is processed (section 5.1). */
   readonly COOKIE_ECHO: 2;
   /** `reply` returns what is sent back. */
   readonly SHUTDOWN_COMPLETE: 3;
@@ -753,6 +760,11 @@ export function initRefusal(fault: InitFault, isAck: boolean, inCookieWait: bool
     no ABORT answers. Its tag is the initiate tag; where that is 0, the packet's own, with the T bit. Seal it. Throws a WriteError of
     BAD_VALUE for NO_FAULT. */
 export function initAbort(header: Header, initiateTag: number, fault: InitFault): Uint8Array;
+/** Returns whether an INIT adds addresses to an association that is there already (section 5.2.2): an ABORT under its initiate tag
+    answers it, with `addNewAddresses`, and the association stays as it is. `known` are the association's addresses, as parameters: the
+    `bytes` of each IPv4 Address and IPv6 Address, one after the other. The address that the packet came from isn't in the INIT: look
+    at it yourself. */
+export function addsAddresses(init: UncheckedChunk, known: Uint8Array): boolean;
 
 /** A rule of the RFCs that `check` doesn't look at, which accepts a packet that breaks it: what breaks it, and the section that gives
     it, which says what is done with such a packet, if anything is. Its number is a bit. */

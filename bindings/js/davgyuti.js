@@ -1176,6 +1176,13 @@ function tagReflectedOf(options) {
 // The numbers of an INIT, before its parameters.
 const INIT_NUMBERS = 16;
 
+/** The parameters of a chunk, as they lie in its value, and where they begin in its packet. */
+function listOf(chunk, name) {
+  const { value, valueOffset } = record(chunk, name), first = parameters(chunk).next().value;
+  const base = first?.offset ?? valueOffset + value.length;
+  return [value.subarray(base - valueOffset), base];
+}
+
 /** Where a program stops that reports what it doesn't know, as an offset of what it looked at; null where it stops at nothing. */
 function stopOf(bytes, base) {
   const end = SIZE.read(answer.from).it;
@@ -1389,6 +1396,19 @@ class Builder {
     return stopOf(bytes, base + INIT_NUMBERS);
   }
 
+  addUnrecognizedParametersError(chunk, known) {
+    const types = numbersOf(U16, known, 'known'), [bytes, base] = listOf(chunk, 'chunk'), start = this.#size;
+    this.#add(start, 'dcsctp_add_unrecognized_parameters_error', ...put(input, bytes), ...putAll(output, U16, types), place(answer));
+    if (this.#size > start)
+      this.#starts.push(start);
+    return stopOf(bytes, base);
+  }
+
+  addNewAddresses(init, known) {
+    const [bytes] = listOf(init, 'init');
+    return this.#item('dcsctp_add_new_addresses', ...put(input, bytes), ...put(output, known, 'known'));
+  }
+
   addUnrecognizedChunks(bytes, known) {
     const types = Uint8Array.from(numbersOf(U8, known, 'known').flat()), start = this.#size;
     this.#add(start, 'dcsctp_add_unrecognized_chunks', ...put(input, bytes), ...put(output, types), place(answer));
@@ -1482,6 +1502,9 @@ function initAbort(header, initiateTag, fault) {
   return made(28, 'dcsctp_init_abort', structOf(structs.header, header, 'header'), initiateTag, fault);
 }
 
+const addsAddresses = (init, known) =>
+  call('dcsctp_adds_addresses', ...put(input, listOf(init, 'init')[0]), ...put(list, known, 'known')) !== 0;
+
 // ---- what is authenticated, under keys of yours
 
 const isListed = (chunkList, type) =>
@@ -1545,8 +1568,8 @@ const davgyuti = {
   canonical, text, report, word, needsChecksum, header, chunks, read, readChunk, dataFlags, withFlags, parameters, parameter, causes,
   cause, registeredChunk, registeredParameter, registeredCause, addresses, seal, setTag, Builder, cleanBlocks, Action, unrecognizedChunk,
   unrecognizedParameter, actionReports, actionSkips, TagVerdict, verifyTag, Answer, outOfTheBlue, reply, InitFault, initFault, Refusal,
-  initRefusal, initAbort, Rule, ruleName, ruleText, brokenRules, isListed, sharedKey, verifyAuth, signAuth, sealCookie, CookieState,
-  openCookie,
+  initRefusal, initAbort, addsAddresses, Rule, ruleName, ruleText, brokenRules, isListed, sharedKey, verifyAuth, signAuth, sealCookie,
+  CookieState, openCookie,
 };
 if (this) {
   const wasm = new WebAssembly.Module(require('node:fs').readFileSync(`${__dirname}/dcsctp.wasm`));

@@ -19,6 +19,6 @@ export const {
   canonical, text, report, word, needsChecksum, header, chunks, read, readChunk, dataFlags, withFlags, parameters, parameter, causes,
   cause, registeredChunk, registeredParameter, registeredCause, addresses, seal, setTag, Builder, cleanBlocks, Action, unrecognizedChunk,
   unrecognizedParameter, actionReports, actionSkips, TagVerdict, verifyTag, Answer, outOfTheBlue, reply, InitFault, initFault, Refusal,
-  initRefusal, initAbort, Rule, ruleName, ruleText, brokenRules, isListed, sharedKey, verifyAuth, signAuth, sealCookie, CookieState,
-  openCookie,
+  initRefusal, initAbort, addsAddresses, Rule, ruleName, ruleText, brokenRules, isListed, sharedKey, verifyAuth, signAuth, sealCookie,
+  CookieState, openCookie,
 } = commonJs.default ?? await fetched();

@@ -7,7 +7,7 @@ import * as davgyuti from '../davgyuti.mjs';
 
 const {
   Action, actionReports, actionSkips, Answer, Builder, CauseCode, ChunkType, InitFault, ParameterType, Refusal, Result, Rule,
-  TAG_REFLECTED, TagVerdict, WriteError, brokenRules, check, chunks, header, initAbort, initFault, initRefusal, outOfTheBlue,
+  TAG_REFLECTED, TagVerdict, WriteError, addsAddresses, brokenRules, check, chunks, header, initAbort, initFault, initRefusal, outOfTheBlue,
   reply, ruleName, seal, unrecognizedChunk, unrecognizedParameter, verifyTag,
 } = davgyuti;
 const bytes = hex => Uint8Array.from(Buffer.from(hex.replace(/\s/g, ''), 'hex'));
@@ -18,6 +18,12 @@ const badValue = error => error instanceof WriteError && error.code === Result.B
 const noRoom = error => error instanceof WriteError && error.code === Result.NO_ROOM;
 
 const begun = verificationTag => new Builder({ sourcePort: 5000, destinationPort: 5001, verificationTag });
+
+// Of an INIT or INIT ACK.
+const NUMBERS = '00000007 00020000 0001 0001 00000001';
+
+/** A chunk with this value, as it is read of a packet. */
+const chunkOf = (type, value) => chunks(begun(0).addChunk(type, 0, bytes(value)).finish()).next().value;
 
 /** A packet of chunks without a value, each by its type and its flags. */
 function bare(tag, ...chunks) {
@@ -68,6 +74,9 @@ test('verification tags', () => {
     [PEER, [['SHUTDOWN_COMPLETE']], 'DISCARD'],
     // D: COOKIE ECHO, by section 5
     [OTHER, [['COOKIE_ECHO'], ['SACK']], 'ESTABLISH'],
+    // or behind an AUTH, RFC 4895 section 6.3
+    [OTHER, [['AUTH'], ['COOKIE_ECHO']], 'ESTABLISH'],
+    [OTHER, [['AUTH'], ['AUTH'], ['COOKIE_ECHO']], 'DISCARD'],
     // E: SHUTDOWN ACK, out of the blue where a cookie is awaited
     [OWN, [['SHUTDOWN_ACK']], 'ACCEPT'],
   ];
@@ -93,6 +102,7 @@ test('packets out of the blue', () => {
     [bare(0, ['INIT'], ['SHUTDOWN_ACK']), 'INIT'],
     [bare(OTHER, ['INIT']), 'ABORT'],
     [bare(OTHER, ['COOKIE_ECHO'], ['SHUTDOWN_ACK']), 'COOKIE_ECHO'],
+    [bare(OTHER, ['AUTH'], ['COOKIE_ECHO']), 'COOKIE_ECHO'],
     [bare(OTHER, ['SACK'], ['COOKIE_ECHO']), 'ABORT'],
     [bare(OTHER, ['SHUTDOWN_COMPLETE'], ['SHUTDOWN_ACK']), 'SHUTDOWN_COMPLETE'],
     [bare(OTHER, ['SHUTDOWN_COMPLETE']), 'DISCARD'],
@@ -215,7 +225,6 @@ test('the rules that a packet breaks, by what is known', () => {
 // An INIT ACK of an INIT (section 3.2.2): an Unrecognized Parameter (section 3.3.3.1.2) for each type with the highest-order bits 01
 // or 11, up to the first with 00 or 01. Stops are counted from the list on.
 test('the parameters that are not recognized, reported', () => {
-  const numbers = '00000007 00020000 0001 0001 00000001';
   const own = { initiateTag: 7, aRwnd: 0x20000, outboundStreams: 1, inboundStreams: 1, initialTsn: 1 };
   for (const [list, known, length, items, stop] of [
     ['', [], '0014', '', null],
@@ -225,8 +234,8 @@ test('the parameters that are not recognized, reported', () => {
     ['c0000004 40000005 61000000 c0010004', [], '0025', '00080008 c0000004 00080009 40000005 61000000', 4],
     ['80000004 00ff0004 c0000004', new Set(), '0014', '', 4],
   ]) {
-    const [init] = chunks(begun(0).addChunk(ChunkType.INIT, 0, bytes(numbers + list)).finish());
-    const wanted = bytes(`13881389 00000007 00000000 0200 ${length} ${numbers} ${items}`);
+    const [init] = chunks(begun(0).addChunk(ChunkType.INIT, 0, bytes(NUMBERS + list)).finish());
+    const wanted = bytes(`13881389 00000007 00000000 0200 ${length} ${NUMBERS} ${items}`);
     const ack = room => new Builder({ sourcePort: 5000, destinationPort: 5001, verificationTag: 7, room }).addInitAck(own);
     const builder = ack(wanted.length);
     assert.equal(builder.addUnrecognizedParameters(init, known), stop === null ? null : 32 + stop, list);
@@ -240,6 +249,81 @@ test('the parameters that are not recognized, reported', () => {
     assert.throws(() => ack().addUnrecognizedParameters(init, [0x10000]), RangeError);
     assert.throws(() => ack().addUnrecognizedParameters(null, known), TypeError);
   }
+});
+
+// The same parameters of an INIT ACK, in an ERROR after the COOKIE ECHO (sections 3.2.2 and 3.3.10.8).
+test('the parameters of an INIT ACK that are not recognized, reported', () => {
+  const all = '80010004 c0010008 00000001 c0020005 aaffffff 40030006 bbcc0000 c0040004';
+  for (const [list, known, added, stop] of [
+    [all, [], '09000026 0008000c c0010008 00000001 00080009 c0020005 aa000000 0008000a 40030006 bbcc0000', 20],
+    [all, [0xc001, 0x4003], '09000018 00080009 c0020005 aa000000 00080008 c0040004', null],
+    ['00010004 c0020004', new Set(), '', 0],
+    ['', [], '', null],
+  ]) {
+    const ack = chunkOf(ChunkType.INIT_ACK, NUMBERS + list), wanted = bytes(`13881389 00000007 00000000 0a000008 61626364 ${added}`);
+    const echo = room =>
+      new Builder({ sourcePort: 5000, destinationPort: 5001, verificationTag: 7, room }).addCookieEcho(bytes('61626364'));
+    const builder = echo(wanted.length);
+    assert.equal(builder.addUnrecognizedParametersError(ack, known), stop === null ? null : 32 + stop, list);
+    assert.deepEqual(builder.finish({ checksum: false }), wanted);
+    // (the last chunk is the ERROR, if there is one)
+    assert.equal(builder.lastChunk().type, added === '' ? ChunkType.COOKIE_ECHO : ChunkType.ERROR);
+    if (added !== '') {
+      const short = echo(wanted.length - 1);
+      assert.throws(() => short.addUnrecognizedParametersError(ack, known), noRoom);
+      assert.equal(short.size, 20);
+    }
+    assert.throws(() => echo().addUnrecognizedParametersError(ack, [0x10000]), RangeError);
+    assert.throws(() => echo().addUnrecognizedParametersError(null, known), TypeError);
+  }
+  // A chunk that has no list; one whose list has no numbers before it.
+  const builder = begun(7);
+  assert.equal(builder.addUnrecognizedParametersError(chunkOf(ChunkType.COOKIE_ACK, '00000000 40010004'), []), null);
+  assert.equal(builder.size, 12);
+  assert.equal(builder.addUnrecognizedParametersError(chunkOf(ChunkType.HEARTBEAT, '00010008 00000000 40010004'), [1]), 24);
+  assert.deepEqual(builder.lastChunk().bytes, bytes('0900000c 00080008 40010004'));
+});
+
+// Addresses that an INIT adds (section 5.2.2), "an exact copy of the TLV that was found in the INIT chunk" of each, in an ABORT with the
+// cause Restart of an Association with New Addresses (section 3.3.10.11).
+test('the addresses that an INIT adds, reported', () => {
+  const one = '00050008 0a000001', other = '06000010 000b000c 00050008 0a000001';
+  for (const [known, list, abort] of [
+    [one, one, ''],
+    [one, '00050008 0a000002', '06000010 000b000c 00050008 0a000002'],
+    [one, '00050008 0a000001 00060014 20010db8 00000000 00000000 00000001 00050008 0a000003',
+      '06000024 000b0020 00060014 20010db8 00000000 00000000 00000001 00050008 0a000003'],
+    // None is known; what is no address isn't listed.
+    ['', one, other],
+    ['', '00090008 00000001 000c0006 00050000', ''],
+    ['', '01050008 0a000001 01060014 20010db8 00000000 00000000 00000001', ''],
+    ['', '00050007 0a000000 00050009 0a000001 02000000 00060008 0a000001 00050014 20010db8 00000000 00000000 00000001', ''],
+    // One that is known by another type isn't the same; one that is known behind what is no address is.
+    ['00060014 00000000 00000000 0000ffff 0a000001', one, other],
+    ['000c0006 00050000 00050008 0a000001', one, ''],
+    // What comes behind an impossible length, of the known ones and of the INIT's.
+    ['00000000 000c0000 00050008 0a000001', one, other],
+    ['', '00050003 00050008 0a000002', ''],
+    [one, '', ''],
+    ['', '', ''],
+  ]) {
+    const init = chunkOf(ChunkType.INIT, NUMBERS + list);
+    assert.equal(addsAddresses(init, bytes(known)), abort !== '', list);
+    if (abort === '')
+      continue;
+    const wanted = bytes(`13881389 00000007 00000000 ${abort}`);
+    const aborted = room => new Builder({ sourcePort: 5000, destinationPort: 5001, verificationTag: 7, room }).addChunk(ChunkType.ABORT);
+    assert.deepEqual(aborted(wanted.length).addNewAddresses(init, bytes(known)).finish({ checksum: false }), wanted);
+    const short = aborted(wanted.length - 1);
+    assert.throws(() => short.addNewAddresses(init, bytes(known)), noRoom);
+    assert.equal(short.size, 16);
+    assert.throws(() => begun(7).addNewAddresses(init, bytes(known)), error => error.code === Result.BAD_PLACE);
+    assert.throws(() => aborted().addNewAddresses(init, known), TypeError);
+    assert.throws(() => addsAddresses(null, bytes(known)), TypeError);
+    assert.throws(() => addsAddresses(init, known), TypeError);
+  }
+  // A chunk that has no list.
+  assert.equal(addsAddresses(chunkOf(ChunkType.DATA, NUMBERS + one), NOTHING), false);
 });
 
 // An ERROR (section 3.2) with a cause Unrecognized Chunk Type (section 3.3.10.6) for each type with the highest-order bits 01 or 11,

@@ -5,8 +5,9 @@ A responder to start from: the side of an association that is called (RFC 9260),
 packet in hexadecimal; what answers it is printed likewise, or an empty line.
 
 No byte is written by hand, and `Responder` has no I/O and no clock: packets and the time go in, and packets come out. Left out: user
-data that is sent, and with it timers; messages put together, and streams in order; addresses. There is one association at a time.
-examples/c/responder.c in the repository is the same, and answers the same.
+data that is sent, and with it timers; messages put together, and streams in order; paths. There is one association at a time.
+examples/c/responder.c in the repository answers the same; it calls as well, and takes COOKIE ECHO behind an AUTH, which gets no answer
+here.
 """
 
 import secrets
@@ -25,10 +26,10 @@ MOST_BLOCKS, MOST_DUPLICATES = 64, 16
 SHA_1, SHA_256 = 1, 3
 WINDOW, OUTBOUND_STREAMS, INBOUND_STREAMS = 1 << 20, 1, 64
 EXTENSIONS = bytes((ChunkType.RE_CONFIG, ChunkType.I_DATA, ChunkType.FORWARD_TSN, ChunkType.I_FORWARD_TSN))
+ADDRESS_TYPES = ParameterType.IPV4_ADDRESS, ParameterType.IPV6_ADDRESS
 AUTH_TYPES = ParameterType.RANDOM, ParameterType.CHUNK_LIST, ParameterType.REQUESTED_HMAC_ALGORITHM
 KNOWN = {
-    ParameterType.IPV4_ADDRESS,
-    ParameterType.IPV6_ADDRESS,
+    *ADDRESS_TYPES,
     ParameterType.COOKIE_PRESERVATIVE,
     ParameterType.HOST_NAME_ADDRESS,
     ParameterType.SUPPORTED_ADDRESS_TYPES,
@@ -140,7 +141,10 @@ class Responder:
         if self.state is State.SHUTDOWN_ACK_SENT:  # section 9.2
             return self.answer([davgyuti.ShutdownAck()])
         builder = davgyuti.PacketBuilder(header.destination_port, header.source_port, init.initiate_tag)
-        peer = [it for kind in AUTH_TYPES for it in init.parameters if it.type == kind]
+        if is_there and davgyuti.adds_addresses(init, self.addresses):  # section 5.2.2
+            builder.abort().new_addresses(init, self.addresses)
+            return builder.seal()
+        peer = of_types(init, AUTH_TYPES)
         if self.listed and any(it.type == ParameterType.RANDOM and len(it.value) != 32 for it in peer):
             builder.add(davgyuti.Abort((davgyuti.ProtocolViolation(b""),)))  # RFC 4895 section 6.1
             return builder.seal()
@@ -161,7 +165,14 @@ class Responder:
             peer_port=header.source_port,
             outbound_streams=OUTBOUND_STREAMS,
             inbound_streams=init.outbound_streams,
-            addresses=of_parameters((*([self.ties()] if is_there else []), *own, *(peer if self.listed else []))),
+            addresses=of_parameters(
+                (
+                    *([self.ties()] if is_there else []),
+                    *own,
+                    *(peer if self.listed else []),
+                    *of_types(init, ADDRESS_TYPES),
+                )
+            ),
         )
         parameters = (
             *own,
@@ -215,7 +226,8 @@ class Responder:
         self.last_result = Result.NOTHING_TO_DO
         self.blocks: list[davgyuti.GapAckBlock] = []
         self.duplicates: list[int] = []  # since the last SACK
-        self.open_auth([it for it in kept if it.type != ParameterType.HEARTBEAT_INFO])
+        self.addresses = of_parameters(tuple(it for it in kept if it.type in ADDRESS_TYPES))  # of the peer
+        self.open_auth([it for it in kept if it.type not in (ParameterType.HEARTBEAT_INFO, *ADDRESS_TYPES)])
         return None
 
     def open_auth(self, kept: list[davgyuti.Parameter]) -> None:
@@ -378,6 +390,11 @@ class Responder:
             responses.append(davgyuti.ReConfigResponse(number, result))
         if responses:
             exchange.answers.append(davgyuti.ReConfig(tuple(responses)))
+
+
+def of_types(init: davgyuti.Init, types: Iterable[int]) -> list[davgyuti.Parameter]:
+    """Those of the first type, then those of the next one."""
+    return [it for kind in types for it in init.parameters if it.type == kind]
 
 
 def lifespan(init: davgyuti.Init) -> int:

@@ -5,6 +5,7 @@ import pickle
 import pydoc
 import struct
 import unittest
+from ipaddress import IPv4Address, IPv6Address
 
 import davgyuti
 from davgyuti import Action, Answer, BadValue, ChunkType, Header, InitFault, PacketBuilder, Refusal, TagVerdict, registered
@@ -88,6 +89,9 @@ class Tags(unittest.TestCase):
             (PEER, [(ChunkType.SHUTDOWN_COMPLETE, 0)], TagVerdict.DISCARD),
             # D: COOKIE ECHO, by section 5
             (OTHER, [(ChunkType.COOKIE_ECHO, 0), (ChunkType.SACK, 0)], TagVerdict.ESTABLISH),
+            # or behind an AUTH, RFC 4895 section 6.3
+            (OTHER, [(ChunkType.AUTH, 0), (ChunkType.COOKIE_ECHO, 0)], TagVerdict.ESTABLISH),
+            (OTHER, [(ChunkType.AUTH, 0), (ChunkType.AUTH, 0), (ChunkType.COOKIE_ECHO, 0)], TagVerdict.DISCARD),
             # E: SHUTDOWN ACK, out of the blue where a cookie is awaited
             (OWN, [(ChunkType.SHUTDOWN_ACK, 0)], TagVerdict.ACCEPT),
         ):
@@ -124,6 +128,7 @@ class OutOfTheBlue(unittest.TestCase):
             (packet(0, (ChunkType.INIT, 0), (ChunkType.SHUTDOWN_ACK, 0)), Answer.INIT),
             (packet(OTHER, (ChunkType.INIT, 0)), Answer.ABORT),
             (packet(OTHER, (ChunkType.COOKIE_ECHO, 0), (ChunkType.SHUTDOWN_ACK, 0)), Answer.COOKIE_ECHO),
+            (packet(OTHER, (ChunkType.AUTH, 0), (ChunkType.COOKIE_ECHO, 0)), Answer.COOKIE_ECHO),
             (packet(OTHER, (ChunkType.SACK, 0), (ChunkType.COOKIE_ECHO, 0)), Answer.ABORT),
             (packet(OTHER, (ChunkType.SHUTDOWN_COMPLETE, 0), (ChunkType.SHUTDOWN_ACK, 0)), Answer.SHUTDOWN_COMPLETE),
             (packet(OTHER, (ChunkType.SHUTDOWN_COMPLETE, 0)), Answer.DISCARD),
@@ -212,13 +217,23 @@ class Initiations(unittest.TestCase):
         self.assertRaises(ValueError, davgyuti.init_abort, header, 2**32, InitFault.TAG_ZERO)
 
 
+NUMBERS = {"initiate_tag": 1, "a_rwnd": 1500, "outbound_streams": 1, "inbound_streams": 1, "initial_tsn": 0}
+
+
+def parameters(text: str) -> list[davgyuti.RawParameter]:
+    """The parameters of a list, in hex."""
+    builder = PacketBuilder(5000, 5001, 7)
+    builder.chunk(ChunkType.RE_CONFIG, 0, of_hex(text))
+    (_, items), = davgyuti.raw_items(bytes(builder))
+    return list(items)
+
+
 class Reported(unittest.TestCase):
     """ "Parameter Types are encoded such that the highest-order 2 bits specify the action": sections 3.2, 3.2.1 and 3.2.2."""
 
     def test_parameters(self) -> None:
         raw = [(0x8123, b"\1"), (0xC123, b"\1\2"), (0xC000, b""), (0x4123, b"abc"), (0xC124, b"")]
-        numbers = {"initiate_tag": 1, "a_rwnd": 1500, "outbound_streams": 1, "inbound_streams": 1, "initial_tsn": 0}
-        init = davgyuti.Init(**numbers, parameters=[davgyuti.RawParameter(type, value) for type, value in raw])
+        init = davgyuti.Init(**NUMBERS, parameters=[davgyuti.RawParameter(type, value) for type, value in raw])
         front = "0008000a c1230006 0102"
         cases = (
             ([0xC000], 3, front + "0000 0008000b 41230007 616263"),
@@ -228,11 +243,88 @@ class Reported(unittest.TestCase):
         )
         for known, stop, expected in cases:
             builder = PacketBuilder(5000, 5001, 7)
-            writer = builder.init_ack(**numbers)
+            writer = builder.init_ack(**NUMBERS)
             before = len(builder)
             self.assertEqual(writer.unrecognized_parameters(init, known), stop)
             data = of_hex(expected)
             self.assertEqual(bytes(builder)[before:], data + bytes(-len(data) % 4))
+
+    def test_parameters_in_an_error(self) -> None:
+        """Of an INIT ACK, after the COOKIE ECHO: sections 3.2.2 and 3.3.10.8."""
+        listed = "80010004 c0010008 00000001 c0020005 aaffffff 40030006 bbcc0000 c0040004"
+        rows: tuple[tuple[str, list[int], str, int | None], ...] = (
+            (listed, [], "09000026 0008000c c0010008 00000001 00080009 c0020005 aa000000 0008000a 40030006 bbcc0000", 3),
+            (listed, [0xC001, 0x4003], "09000018 00080009 c0020005 aa000000 00080008 c0040004", None),
+            ("00010004 c0020004", [], "", 0),
+            ("", [], "", None),
+        )
+        for text, known, expected, stop in rows:
+            with self.subTest(text=text, known=known):
+                came, added = davgyuti.InitAck(**NUMBERS, parameters=parameters(text)), of_hex(expected)
+                builder = PacketBuilder(5000, 5001, 7, limit=20 + len(added))
+                builder.cookie_echo(b"abcd")
+                self.assertEqual(builder.unrecognized_parameters_error(came, known), stop)
+                self.assertEqual(bytes(builder)[12:], of_hex("0a000008 61626364") + added)
+                if added:
+                    builder = PacketBuilder(5000, 5001, 7, limit=11 + len(added))
+                    with self.assertRaises(davgyuti.NoRoom):
+                        builder.unrecognized_parameters_error(came, known)
+                    self.assertEqual(len(builder), 12)
+        builder = PacketBuilder(5000, 5001, 7)
+        with self.assertRaises(ValueError):
+            builder.unrecognized_parameters_error(came, [65536])
+        with self.assertRaises(AttributeError):
+            builder.unrecognized_parameters_error(davgyuti.CookieAck(), [])  # type: ignore[arg-type]
+        self.assertEqual(len(builder), 12)
+
+    def test_new_addresses(self) -> None:
+        """ "An exact copy of the TLV that was found in the INIT chunk", in an ABORT: sections 5.2.2 and 3.3.10.11."""
+        one, other = "00050008 0a000001", "06000010 000b000c 00050008 0a000001"
+        for known, text, expected in (
+            (one, one, ""),
+            (one, "00050008 0a000002", "06000010 000b000c 00050008 0a000002"),
+            (
+                *(one, "00050008 0a000001 00060014 20010db8 00000000 00000000 00000001 00050008 0a000003"),
+                "06000024 000b0020 00060014 20010db8 00000000 00000000 00000001 00050008 0a000003",
+            ),
+            # none is known; what is no address isn't listed
+            ("", one, other),
+            ("", "00090008 00000001 000c0006 00050000", ""),
+            ("", "01050008 0a000001 01060014 20010db8 00000000 00000000 00000001", ""),
+            ("", "00050007 0a000000 00050009 0a000001 02000000 00060008 0a000001 00050014 20010db8 00000000 00000000 00000001", ""),
+            # one that is known by another type isn't the same; one that is known behind what is no address is
+            ("00060014 00000000 00000000 0000ffff 0a000001", one, other),
+            ("000c0006 00050000 00050008 0a000001", one, ""),
+            # what comes behind an impossible length of the known ones
+            ("00000000 000c0000 00050008 0a000001", one, other),
+            (one, "", ""),
+            ("", "", ""),
+        ):
+            with self.subTest(known=known, text=text):
+                init = davgyuti.Init(**NUMBERS, parameters=parameters(text))
+                self.assertIs(davgyuti.adds_addresses(init, of_hex(known)), bool(expected))
+                if not expected:
+                    continue
+                builder = PacketBuilder(5000, 5001, 7, limit=12 + len(of_hex(expected)))
+                writer = builder.abort()
+                self.assertIs(writer.new_addresses(init, of_hex(known)), writer)
+                self.assertEqual(bytes(builder)[12:], of_hex(expected))
+                builder = PacketBuilder(5000, 5001, 7, limit=11 + len(of_hex(expected)))
+                with self.assertRaises(davgyuti.NoRoom):
+                    builder.abort().new_addresses(init, of_hex(known))
+                self.assertEqual(len(builder), 16)
+        # as addresses, and as `addresses` reads them again
+        own, new = IPv4Address("192.0.2.1"), IPv6Address("2001:db8::1")
+        init = davgyuti.Init(**NUMBERS, parameters=[registered.Ipv4Address(own), registered.Ipv6Address(new)])
+        builder = PacketBuilder(5000, 5001, 7)
+        builder.abort().new_addresses(init, bytes(registered.Ipv4Address(own)))
+        (abort,) = davgyuti.Packet(builder.seal())
+        assert isinstance(abort, davgyuti.Abort)
+        cause = abort.causes[0].registered()
+        assert isinstance(cause, registered.RestartWithNewAddresses)
+        self.assertEqual(davgyuti.addresses(cause.parameters), (new,))
+        with self.assertRaises(AttributeError):
+            davgyuti.adds_addresses(davgyuti.CookieAck(), b"")  # type: ignore[arg-type]
 
     def test_chunks(self) -> None:
         came = packet(7, (0, 3), (0xFE, 0), (0xBF, 0), (0x41, 5), (0xFD, 0))

@@ -150,7 +150,27 @@ def conversation() -> list[str]:
         (init(PEER_TAG, PEER_TSN, bare), init_ack(PEER_TAG, TAG, TSN, owns[0], cookie)),
         (question(TAG, chunk(10, cookie) + signed(key, data(PEER_TSN))), answer(PEER_TAG, cookie_ack)),
     )
-    return ["# sha-256", *begin(0), *first, *draw(1), *again, *begin(0), *without]
+    # A peer that begins anew has some of its addresses again, in another order than in the cookie; and another one, in an ABORT with
+    # the cause Restart of an Association with New Addresses (RFC 9260 sections 5.2.2 and 3.3.10.11).
+    v4, v6, new = item(5, bytes((10, 0, 0, 1))), item(6, bytes.fromhex("20010db8") + bytes(11) + b"\1"), item(5, bytes((10, 0, 0, 3)))
+    cookie = sealed(TAG, TSN, PEER_TAG, PEER_TSN, *owns[0], *peer, v4, v6)
+    named = rows(
+        (init(PEER_TAG, PEER_TSN, (v6, *peer, v4)), init_ack(PEER_TAG, TAG, TSN, owns[0], cookie)),
+        (
+            question(TAG, chunk(10, cookie) + signed(keys[0], data(PEER_TSN))),
+            answer(PEER_TAG, cookie_ack + signed(keys[0], sack(PEER_TSN))),
+        ),
+    )
+    cookie = sealed(TAG + 1, TSN + 1, PEER_TAG + 1, PEER_TSN + 9, ties, *owns[1], *peer, v6)
+    added = rows(
+        (init(PEER_TAG + 1, PEER_TSN + 9, (v4, new, *peer, v6)), answer(PEER_TAG + 1, chunk(6, item(11, new)))),
+        (init(PEER_TAG + 1, PEER_TSN + 9, (v6, *peer)), init_ack(PEER_TAG + 1, TAG + 1, TSN + 1, owns[1], cookie)),
+        (
+            question(TAG + 1, chunk(10, cookie) + signed(keys[1], data(PEER_TSN + 9))),
+            answer(PEER_TAG + 1, cookie_ack + signed(keys[1], sack(PEER_TSN + 9))),
+        ),
+    )
+    return ["# sha-256", *begin(0), *first, *draw(1), *again, *begin(0), *without, *begin(0), *named, *draw(1), *added]
 
 
 def of_word(word: str) -> bytes:

@@ -8,8 +8,9 @@
 //!
 //! No byte is written by hand, and [`Responder`] has no I/O and no clock: packets and the time go
 //! in, and packets come out. Left out: user data that is sent, and with it timers; messages put
-//! together, and streams in order; addresses. There is one association at a time.
-//! `examples/c/responder.c` in the repository is the same, and answers the same.
+//! together, and streams in order; paths. There is one association at a time.
+//! `examples/c/responder.c` in the repository answers the same; it calls as well, and takes COOKIE
+//! ECHO behind an AUTH, which gets no answer here.
 
 use State::{Closed, Established, ShutdownAckSent};
 use davgyuti::{
@@ -29,6 +30,7 @@ const SHA_256: u16 = 3;
 const WINDOW: u32 = 1 << 20;
 const OUTBOUND_STREAMS: u16 = 1;
 const INBOUND_STREAMS: u16 = 64;
+const ADDRESSES: [ParameterType; 2] = [ParameterType::IPV4_ADDRESS, ParameterType::IPV6_ADDRESS];
 const KNOWN: [ParameterType; 6] = [
     ParameterType::IPV4_ADDRESS,
     ParameterType::IPV6_ADDRESS,
@@ -86,6 +88,8 @@ struct Association {
     peer_port: u16,
     /// What a cookie has in the place of its tags, which nobody else may learn (section 5.2.2).
     tie_tags: [u8; 8],
+    /// Of the peer: the parameters in which it named them.
+    addresses: Vec<u8>,
     shared_key: Vec<u8>,
     peer_listed: Vec<u8>,
     hmac: u16,
@@ -223,6 +227,12 @@ impl Responder {
         };
         let mut packet =
             PacketBuilder::begin(&mut buffer, local_port, peer_port, init.initiate_tag)?;
+        let known = &self.association.addresses;
+        if is_there && davgyuti::adds_addresses(parameters, known) {
+            // Section 5.2.2.
+            packet.chunk(ChunkType::ABORT, 0, &[])?.new_addresses(parameters, known)?;
+            return Ok(packet.seal().to_vec());
+        }
         let is_wrong =
             |it: Parameter| it.parameter_type() == ParameterType::RANDOM && it.value().len() != 32;
         if has_auth && parameters.clone().any(is_wrong) {
@@ -263,7 +273,7 @@ impl Responder {
     }
 
     /// What the cookie for an INIT holds after its numbers, a list of parameters: the Tie-Tags, if
-    /// there is an association, and the parameters of AUTH of both ends.
+    /// there is an association; the parameters of AUTH of both ends; and the peer's addresses.
     fn kept(&self, parameters: &Parameters) -> Result<Vec<u8>, WriteError> {
         let mut buffer = vec![0; MAX_PACKET];
         let mut packet = PacketBuilder::begin(&mut buffer, 0, 0, 0)?;
@@ -273,12 +283,9 @@ impl Responder {
         }
         if !self.settings.listed.is_empty() {
             self.add_own_auth(&mut list)?;
-            for kind in OF_AUTH {
-                for it in parameters.clone().filter(|it| it.parameter_type() == kind) {
-                    list.parameter(kind, it.value())?;
-                }
-            }
+            copy(parameters, &OF_AUTH, &mut list)?;
         }
+        copy(parameters, &ADDRESSES, &mut list)?;
         let list = Chunk::at(packet.as_bytes(), FIRST_CHUNK).ok_or(WriteError::BadPlace)?;
         Ok(list.value().to_vec())
     }
@@ -344,6 +351,7 @@ impl Responder {
             tie_tags: if is_next { self.next.tie_tags } else { it.tie_tags },
             cumulative_tsn: cookie.peer_initial_tsn.wrapping_sub(1),
             next_request: cookie.peer_initial_tsn, // RFC 6525 section 5.1.1
+            addresses: kept.clone().filter_map(address).flatten().copied().collect(),
             ..Association::default()
         };
         self.open_auth(kept)?;
@@ -353,8 +361,11 @@ impl Responder {
     /// Takes the parameters of AUTH, first the three of this end: without padding they are the key
     /// vectors (RFC 4895 section 6.1).
     fn open_auth(&mut self, kept: Parameters) -> Result<(), WriteError> {
-        let kept: Vec<Parameter> =
-            kept.filter(|it| it.parameter_type() != ParameterType::HEARTBEAT_INFO).collect();
+        let is_of_auth = |it: &Parameter| {
+            let kind = it.parameter_type();
+            kind != ParameterType::HEARTBEAT_INFO && !ADDRESSES.contains(&kind)
+        };
+        let kept: Vec<Parameter> = kept.filter(is_of_auth).collect();
         let (own, peer) = kept.split_at(kept.len().min(3));
         let it = &mut self.association;
         for parameter in peer {
@@ -631,6 +642,30 @@ impl Association {
             }
         }
         Ok(())
+    }
+}
+
+/// Adds the parameters of the first type to a list, then those of the next one.
+fn copy(
+    parameters: &Parameters,
+    types: &[ParameterType],
+    list: &mut ChunkBuilder,
+) -> Result<(), WriteError> {
+    for &kind in types {
+        for it in parameters.clone().filter(|it| it.parameter_type() == kind) {
+            list.parameter(kind, it.value())?;
+        }
+    }
+    Ok(())
+}
+
+/// The bytes of a parameter, if it is an address.
+fn address(parameter: Parameter<'_>) -> Option<&[u8]> {
+    match parameter.registered()? {
+        RegisteredParameter::Ipv4Address { .. } | RegisteredParameter::Ipv6Address { .. } => {
+            Some(parameter.as_bytes())
+        }
+        _ => None,
     }
 }
 

@@ -712,6 +712,52 @@ impl<'a> PacketBuilder<'a> {
         Ok((end < count).then_some(end))
     }
 
+    /// Adds an ERROR with a cause Unrecognized Parameters (RFC 9260 section 3.3.10.8) for each
+    /// parameter of an INIT ACK that came, or of another chunk but INIT, as
+    /// [`ChunkBuilder::unrecognized_parameters`] does; no ERROR if there is none. The packet is the
+    /// one that answers: that of an INIT ACK begins with COOKIE ECHO.
+    ///
+    /// ```
+    /// use davgyuti::{Parameters, ParameterType};
+    ///
+    /// # let mut buffer = [0; 100];
+    /// # let mut packet = davgyuti::PacketBuilder::begin(&mut buffer, 5000, 5001, 7)?;
+    /// // A State Cookie, and one whose type has the highest-order bits 01.
+    /// let parameters = Parameters::of(b"\0\x07\0\x08abcd\x40\0\0\x05!\0\0\0");
+    /// packet.cookie_echo(b"abcd")?;
+    /// let known = [ParameterType::STATE_COOKIE];
+    /// assert_eq!(packet.unrecognized_parameters_error(&parameters, &known)?, Some(8));
+    /// assert_eq!(packet.as_bytes()[20..], *b"\x09\0\0\x0d\0\x08\0\x09\x40\0\0\x05!\0\0\0");
+    /// # Ok::<(), davgyuti::WriteError>(())
+    /// ```
+    ///
+    /// # Errors
+    /// [`WriteError::NoRoom`] where the packet has no room for all.
+    #[doc(alias = "dcsctp_add_unrecognized_parameters_error")]
+    pub fn unrecognized_parameters_error(
+        &mut self,
+        parameters: &Parameters,
+        known: &[ParameterType],
+    ) -> Result<Option<usize>, WriteError> {
+        let (list, offset) = parameters.placed();
+        let (start, first, count, mut end) = (self.size, list.as_ptr(), list.len(), 0);
+        // `ParameterType` is `#[repr(transparent)]`: the types lie there as numbers of two bytes.
+        let (types, types_count) = (known.as_ptr().cast(), known.len());
+        add!(
+            self,
+            dcsctp_add_unrecognized_parameters_error,
+            first,
+            count,
+            types,
+            types_count,
+            &raw mut end
+        )?;
+        if self.size > start {
+            self.last = start;
+        }
+        Ok((end < count).then_some(offset + end))
+    }
+
     /// Adds SHUTDOWN COMPLETE (RFC 9260 section 3.3.13). `tag_reflected` is its T bit: whether the
     /// verification tag is the one that the receiver sends (section 8.5.1).
     ///
@@ -1147,6 +1193,37 @@ impl ChunkBuilder<'_, '_> {
             &raw mut end
         )?;
         Ok((end < count).then_some(offset + end))
+    }
+
+    /// Adds to an ABORT the cause Restart of an Association with New Addresses (RFC 9260 section
+    /// 3.3.10.11), with the addresses that an INIT adds to those of an association, as they are in
+    /// the INIT. `parameters` and `known` are as of [`adds_addresses`](crate::adds_addresses).
+    ///
+    /// ```
+    /// # let mut buffer = [0; 100];
+    /// # let mut packet = davgyuti::PacketBuilder::begin(&mut buffer, 5000, 5001, 7)?;
+    /// // 192.0.2.1, which is known, and 192.0.2.2.
+    /// let bytes = *b"\0\x05\0\x08\xc0\0\x02\x01\0\x05\0\x08\xc0\0\x02\x02";
+    /// let mut abort = packet.chunk(davgyuti::ChunkType::ABORT, 0, &[])?;
+    /// abort.new_addresses(&davgyuti::Parameters::of(&bytes), &bytes[..8])?;
+    /// assert_eq!(packet.as_bytes()[16..], *b"\0\x0b\0\x0c\0\x05\0\x08\xc0\0\x02\x02");
+    /// # Ok::<(), davgyuti::WriteError>(())
+    /// ```
+    ///
+    /// # Errors
+    /// Any [`WriteError`].
+    #[doc(alias = "dcsctp_add_new_addresses")]
+    pub fn new_addresses(
+        &mut self,
+        parameters: &Parameters,
+        known: &[u8],
+    ) -> Result<&mut Self, WriteError> {
+        let (list, _) = parameters.placed();
+        let ((first, count), (bytes, size)) =
+            ((list.as_ptr(), list.len()), (known.as_ptr(), known.len()));
+        let start = self.packet.last;
+        add!(self.packet, dcsctp_add_new_addresses, start, first, count, bytes, size)?;
+        Ok(self)
     }
 
     /// Adds an error cause of the rest of IANA's registry by its fields.

@@ -455,6 +455,16 @@ unsafe extern "C" {
         known_count: usize,
         end: *mut usize,
     ) -> u32;
+    pub fn dcsctp_add_unrecognized_parameters_error(
+        packet: *mut u8,
+        room: usize,
+        size: *mut usize,
+        list: *const u8,
+        list_size: usize,
+        known: *const u16,
+        known_count: usize,
+        end: *mut usize,
+    ) -> u32;
     pub fn dcsctp_add_unrecognized_chunks(
         packet: *mut u8,
         room: usize,
@@ -487,6 +497,22 @@ unsafe extern "C" {
         header: *const Header,
         initiate_tag: u32,
         fault: u32,
+    ) -> u32;
+    pub fn dcsctp_adds_addresses(
+        list: *const u8,
+        list_size: usize,
+        known: *const u8,
+        known_size: usize,
+    ) -> bool;
+    pub fn dcsctp_add_new_addresses(
+        packet: *mut u8,
+        room: usize,
+        size: *mut usize,
+        start: usize,
+        list: *const u8,
+        list_size: usize,
+        known: *const u8,
+        known_size: usize,
     ) -> u32;
     pub fn dcsctp_broken_rules(packet: *const u8, length: usize, known: *const Known) -> u32;
 

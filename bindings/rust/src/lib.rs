@@ -41,8 +41,8 @@ pub use list::{
 pub use owned::OwnedChunk;
 pub use packet::{Packet, check, clean_blocks, first_fault, needs_checksum, seal, set_tag, word};
 pub use receive::{
-    Action, Answer, Association, InitFault, Refusal, TagVerdict, init_fault, init_refusal,
-    out_of_the_blue, unrecognized_chunk, unrecognized_parameter, verify_tag,
+    Action, Answer, Association, InitFault, Refusal, TagVerdict, adds_addresses, init_fault,
+    init_refusal, out_of_the_blue, unrecognized_chunk, unrecognized_parameter, verify_tag,
 };
 pub use registered::{RegisteredCause, RegisteredChunk, RegisteredParameter};
 pub use rule::{Rule, Rules, broken_rules};

@@ -2,6 +2,7 @@
 //! What RFC 9260 asks of whoever receives a packet, before an association's state matters.
 
 use crate::ffi;
+use crate::list::Parameters;
 use crate::types::{ChunkType, ParameterType};
 
 /// Defines an enum of what the C API returns as a number.
@@ -85,7 +86,8 @@ numbered! {
     TagVerdict;
     /// The tag is right: the packet is processed.
     Accept = 0,
-    /// An INIT alone under the tag 0, or COOKIE ECHO first: section 5 says what is done.
+    /// An INIT alone under the tag 0, or COOKIE ECHO first or behind AUTH: section 5 says what is
+    /// done.
     Establish = 1,
     /// The packet is treated as if it belonged to no association: see [`out_of_the_blue`].
     OutOfTheBlue = 2,
@@ -101,7 +103,7 @@ numbered! {
     Discard = 0,
     /// Its INIT is processed (section 5.1).
     Init = 1,
-    /// Its COOKIE ECHO is processed (section 5.1).
+    /// Its COOKIE ECHO, first or behind AUTH, is processed (section 5.1).
     CookieEcho = 2,
     /// [`PacketBuilder::reply`](crate::PacketBuilder::reply) writes what is sent back.
     ShutdownComplete = 3,
@@ -277,4 +279,31 @@ pub fn init_refusal(fault: InitFault, is_ack: bool, in_cookie_wait: bool) -> Ref
     let number = fault.number();
     // SAFETY: it takes numbers, and bools that are Rust's.
     Refusal::of(unsafe { ffi::dcsctp_init_refusal(number, is_ack, in_cookie_wait) })
+}
+
+/// Returns whether an INIT adds addresses to an association that is there already (RFC 9260 section
+/// 5.2.2): an ABORT under its initiate tag answers it, with
+/// [`ChunkBuilder::new_addresses`](crate::ChunkBuilder::new_addresses), and the association stays as
+/// it is.
+///
+/// `parameters` are the INIT's, and `known` the association's addresses, as parameters: the bytes of
+/// each IPv4 Address and IPv6 Address, one after the other. The address that the packet came from is
+/// not in the INIT: look at it yourself.
+///
+/// ```
+/// use davgyuti::Parameters;
+///
+/// let known = *b"\0\x05\0\x08\xc0\0\x02\x01"; // 192.0.2.1
+/// assert!(!davgyuti::adds_addresses(&Parameters::of(&known), &known));
+/// let other = Parameters::of(b"\0\x05\0\x08\xc0\0\x02\x02"); // 192.0.2.2
+/// assert!(davgyuti::adds_addresses(&other, &known));
+/// ```
+#[doc(alias = "dcsctp_adds_addresses")]
+#[must_use]
+pub fn adds_addresses(parameters: &Parameters, known: &[u8]) -> bool {
+    let (list, _) = parameters.placed();
+    let ((first, count), (start, length)) =
+        ((list.as_ptr(), list.len()), (known.as_ptr(), known.len()));
+    // SAFETY: `list` and `known` are slices.
+    unsafe { ffi::dcsctp_adds_addresses(first, count, start, length) }
 }

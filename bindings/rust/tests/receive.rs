@@ -8,8 +8,8 @@ use common::bytes;
 use davgyuti::{
     Action, Answer, Association, Chunk, ChunkType, Header, Init, InitFault, Known, PacketBuilder,
     ParameterType, Parameters, Refusal, RegisteredCause, Rule, TAG_REFLECTED, TagVerdict,
-    WriteError, broken_rules, init_fault, init_refusal, out_of_the_blue, unrecognized_chunk,
-    unrecognized_parameter, verify_tag,
+    WriteError, adds_addresses, broken_rules, init_fault, init_refusal, out_of_the_blue,
+    unrecognized_chunk, unrecognized_parameter, verify_tag,
 };
 
 const OWN: u32 = 0x0102_0304;
@@ -78,6 +78,9 @@ fn each_rule_of_tags() {
         (PEER, vec![complete(0)], Discard),
         // D: COOKIE ECHO, by section 5
         (OTHER, vec![ECHO, (ChunkType::SACK, 0)], Establish),
+        // or behind an AUTH, RFC 4895 section 6.3
+        (OTHER, vec![(ChunkType::AUTH, 0), ECHO], Establish),
+        (OTHER, vec![(ChunkType::AUTH, 0), (ChunkType::AUTH, 0), ECHO], Discard),
         // E: SHUTDOWN ACK, out of the blue where a cookie is awaited
         (OWN, vec![(ChunkType::SHUTDOWN_ACK, 0)], Accept),
     ] {
@@ -110,6 +113,7 @@ fn each_step_out_of_the_blue() {
         (of(0, &[ChunkType::INIT, ChunkType::SHUTDOWN_ACK]), Init),
         (of(OTHER, &[ChunkType::INIT]), Abort),
         (of(OTHER, &[ChunkType::COOKIE_ECHO, ChunkType::SHUTDOWN_ACK]), CookieEcho),
+        (of(OTHER, &[ChunkType::AUTH, ChunkType::COOKIE_ECHO]), CookieEcho),
         (of(OTHER, &[ChunkType::SACK, ChunkType::COOKIE_ECHO]), Abort),
         (of(OTHER, &[ChunkType::SHUTDOWN_COMPLETE, ChunkType::SHUTDOWN_ACK]), ShutdownComplete),
         (of(OTHER, &[ChunkType::SHUTDOWN_COMPLETE]), Discard),
@@ -283,13 +287,15 @@ fn broken_rules_by_what_is_known() {
     assert_eq!(of(&data[..11], true, true, true), []);
 }
 
+/// The numbers of an INIT or INIT ACK.
+const NUMBERS: &str = "00000007 00020000 00010001 00000001";
+
 /// An INIT ACK of an INIT (RFC 9260 section 3.2.2): an Unrecognized Parameter (section 3.3.3.1.2) for
 /// each type with the highest-order bits 01 or 11, up to the first with 00 or 01.
 #[test]
 fn unrecognized_parameters_of_an_init() {
-    let numbers = "00000007 00020000 00010001 00000001";
     let ack = |items: &str, length: u16| {
-        let front = format!("13891388 00000007 00000000 0200{length:04x} {numbers} {items}");
+        let front = format!("13891388 00000007 00000000 0200{length:04x} {NUMBERS} {items}");
         bytes(&front)
     };
     for (list, known, items, length, stop) in [
@@ -313,7 +319,7 @@ fn unrecognized_parameters_of_an_init() {
         ("80000004 00ff0004 c0000004", &[], "", 20, Some(4)),
     ] {
         let known: Vec<_> = known.iter().map(|it| ParameterType(*it)).collect();
-        let (init, expected) = (bytes(&format!("{numbers} {list}")), ack(items, length));
+        let (init, expected) = (bytes(&format!("{NUMBERS} {list}")), ack(items, length));
         let mut came = [0; 128];
         let mut came = PacketBuilder::begin(&mut came, 5000, 5001, 0).unwrap();
         came.chunk(ChunkType::INIT, 0, &init).unwrap();
@@ -321,19 +327,132 @@ fn unrecognized_parameters_of_an_init() {
         for (parameters, base) in [(chunk.parameters(), 32), (Parameters::of(&init[16..]), 0)] {
             let mut buffer = [0; 128];
             let mut packet = PacketBuilder::begin(&mut buffer, 5001, 5000, 7).unwrap();
-            let mut written = packet.chunk(ChunkType::INIT_ACK, 0, &bytes(numbers)).unwrap();
+            let mut written = packet.chunk(ChunkType::INIT_ACK, 0, &bytes(NUMBERS)).unwrap();
             let found = written.unrecognized_parameters(&parameters, &known).unwrap();
             assert_eq!(found, stop.map(|it: usize| base + it), "{list}");
             assert_eq!(packet.as_bytes(), expected, "{list}");
             if expected.len() > 32 {
                 let room = &mut buffer[..expected.len() - 1];
                 let mut packet = PacketBuilder::begin(room, 5001, 5000, 7).unwrap();
-                let mut written = packet.chunk(ChunkType::INIT_ACK, 0, &bytes(numbers)).unwrap();
+                let mut written = packet.chunk(ChunkType::INIT_ACK, 0, &bytes(NUMBERS)).unwrap();
                 let error = written.unrecognized_parameters(&parameters, &known).unwrap_err();
                 assert_eq!((error, packet.as_bytes()), (WriteError::NoRoom, &ack("", 20)[..]));
             }
         }
     }
+}
+
+/// The same parameters of an INIT ACK, in an ERROR after the COOKIE ECHO (RFC 9260 sections 3.2.2 and
+/// 3.3.10.8).
+#[test]
+fn unrecognized_parameters_of_an_init_ack() {
+    let list = "80010004 c0010008 00000001 c0020005 aaffffff 40030006 bbcc0000 c0040004";
+    let front = "13891388 00000007 00000000 0a000008 61626364";
+    for (list, known, added, stop) in [
+        (
+            list,
+            &[][..],
+            "09000026 0008000c c0010008 00000001 00080009 c0020005 aa000000 0008000a 40030006 bbcc0000",
+            Some(20),
+        ),
+        (list, &[0xc001, 0x4003], "09000018 00080009 c0020005 aa000000 00080008 c0040004", None),
+        ("00010004 c0020004", &[], "", Some(0)),
+        ("", &[], "", None),
+    ] {
+        let known: Vec<_> = known.iter().map(|it| ParameterType(*it)).collect();
+        let expected = bytes(&format!("{front} {added}"));
+        let mut came = [0; 128];
+        let mut came = PacketBuilder::begin(&mut came, 5000, 5001, 0).unwrap();
+        let value = bytes(&format!("{NUMBERS} {list}"));
+        came.chunk(ChunkType::INIT_ACK, 0, &value).unwrap();
+        let chunk = Chunk::at(came.as_bytes(), 12).unwrap();
+        let mut buffer = [0; 128];
+        let mut packet = PacketBuilder::begin(&mut buffer, 5001, 5000, 7).unwrap();
+        packet.cookie_echo(b"abcd").unwrap();
+        let found = packet.unrecognized_parameters_error(&chunk.parameters(), &known).unwrap();
+        assert_eq!(found, stop.map(|it: usize| 32 + it), "{list}");
+        assert_eq!(packet.as_bytes(), expected, "{list}");
+        // (what is added to is the ERROR, if there is one)
+        assert_eq!(packet.last_chunk().unwrap().offset(), if added.is_empty() { 12 } else { 20 });
+        if !added.is_empty() {
+            let room = &mut buffer[..expected.len() - 1];
+            let mut packet = PacketBuilder::begin(room, 5001, 5000, 7).unwrap();
+            packet.cookie_echo(b"abcd").unwrap();
+            let error = packet.unrecognized_parameters_error(&chunk.parameters(), &known);
+            assert_eq!((error, packet.as_bytes()), (Err(WriteError::NoRoom), &bytes(front)[..]));
+        }
+    }
+    // A chunk that has no list.
+    let came = packet(OWN, &[(ChunkType::COOKIE_ACK, 0)]);
+    let mut buffer = [0; 128];
+    let mut packet = PacketBuilder::begin(&mut buffer, 5001, 5000, 7).unwrap();
+    let none = Chunk::at(&came, 12).unwrap().parameters();
+    assert_eq!(packet.unrecognized_parameters_error(&none, &[]), Ok(None));
+    assert_eq!(packet.as_bytes().len(), 12);
+}
+
+/// Addresses that an INIT adds (RFC 9260 section 5.2.2), "an exact copy of the TLV that was found in
+/// the INIT chunk" of each, in an ABORT with the cause Restart of an Association with New Addresses
+/// (section 3.3.10.11).
+#[test]
+fn new_addresses_of_an_init() {
+    let (one, other) = ("00050008 0a000001", "06000010 000b000c 00050008 0a000001");
+    let front = "13891388 00000007 00000000";
+    for (known, list, abort) in [
+        (one, one, ""),
+        (one, "00050008 0a000002", "06000010 000b000c 00050008 0a000002"),
+        (
+            one,
+            "00050008 0a000001 00060014 20010db8 00000000 00000000 00000001 00050008 0a000003",
+            "06000024 000b0020 00060014 20010db8 00000000 00000000 00000001 00050008 0a000003",
+        ),
+        // none is known; what is no address isn't listed
+        ("", one, other),
+        ("", "00090008 00000001 000c0006 00050000", ""),
+        ("", "01050008 0a000001 01060014 20010db8 00000000 00000000 00000001", ""),
+        (
+            "",
+            "00050007 0a000000 00050009 0a000001 02000000 00060008 0a000001 \
+             00050014 20010db8 00000000 00000000 00000001",
+            "",
+        ),
+        // one that is known by another type isn't the same; one that is known behind what is no
+        // address is
+        ("00060014 00000000 00000000 0000ffff 0a000001", one, other),
+        ("000c0006 00050000 00050008 0a000001", one, ""),
+        // what comes behind an impossible length, of the known ones and of the INIT's
+        ("00000000 000c0000 00050008 0a000001", one, other),
+        ("", "00050003 00050008 0a000002", ""),
+        (one, "", ""),
+        ("", "", ""),
+    ] {
+        let (init, known) = (bytes(&format!("{NUMBERS} {list}")), bytes(known));
+        let mut came = [0; 128];
+        let mut came = PacketBuilder::begin(&mut came, 5000, 5001, 0).unwrap();
+        came.chunk(ChunkType::INIT, 0, &init).unwrap();
+        let chunk = Chunk::at(came.as_bytes(), 12).unwrap();
+        for parameters in [chunk.parameters(), Parameters::of(&init[16..])] {
+            assert_eq!(adds_addresses(&parameters, &known), !abort.is_empty(), "{list}");
+            if abort.is_empty() {
+                continue;
+            }
+            let expected = bytes(&format!("{front} {abort}"));
+            let mut buffer = [0; 128];
+            let mut packet = PacketBuilder::begin(&mut buffer, 5001, 5000, 7).unwrap();
+            let mut written = packet.chunk(ChunkType::ABORT, 0, &[]).unwrap();
+            written.new_addresses(&parameters, &known).unwrap();
+            assert_eq!(packet.as_bytes(), expected, "{list}");
+            let room = &mut buffer[..expected.len() - 1];
+            let mut packet = PacketBuilder::begin(room, 5001, 5000, 7).unwrap();
+            let mut written = packet.chunk(ChunkType::ABORT, 0, &[]).unwrap();
+            let error = written.new_addresses(&parameters, &known).unwrap_err();
+            let before = bytes(&format!("{front} 06000004"));
+            assert_eq!((error, packet.as_bytes()), (WriteError::NoRoom, &before[..]));
+        }
+    }
+    // A chunk that has no list.
+    let came = packet(OWN, &[(ChunkType::COOKIE_ACK, 0)]);
+    assert!(!adds_addresses(&Chunk::at(&came, 12).unwrap().parameters(), &[]));
 }
 
 /// An ERROR (RFC 9260 section 3.2) with a cause Unrecognized Chunk Type (section 3.3.10.6) for each

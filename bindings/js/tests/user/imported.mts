@@ -2,9 +2,9 @@
 // What TypeScript knows of the package: this compiles, but for each line below a @ts-expect-error, which must not.
 import {
   Builder, CauseCode, Chunk, ChunkType, CookieState, Fault, FaultCode, Packet, Parameter, ParameterType, ReConfigResult, ReConfigType, Result,
-  Rule, UncheckedChunk, WriteError, brokenRules, cause as causeOf, causes, check, chunks, dataFlags, firstFault, header, isKnownChunk,
-  needsChecksum, openCookie, outOfTheBlue, parameter, parameters, read, readChunk, registeredCause, registeredChunk, registeredParameter,
-  ruleName, withFlags,
+  Rule, UncheckedChunk, WriteError, addsAddresses, brokenRules, cause as causeOf, causes, check, chunks, dataFlags, firstFault, header,
+  isKnownChunk, needsChecksum, openCookie, outOfTheBlue, parameter, parameters, read, readChunk, registeredCause, registeredChunk,
+  registeredParameter, ruleName, withFlags,
 } from 'davgyuti';
 // @ts-expect-error it is no part of the interface
 import { Needed } from 'davgyuti';
@@ -144,6 +144,9 @@ for (const chunk of [readChunk(bytes), ...read(bytes).chunks])
   numbers.push(builder.addUnrecognizedParameters(chunk, [ParameterType.STATE_COOKIE]) ?? builder.addUnrecognizedChunks(bytes, new Set([0])) ?? 0);
 // @ts-expect-error it may stop nowhere
 numbers.push(builder.addUnrecognizedChunks(bytes, []));
+for (const chunk of [readChunk(bytes), ...read(bytes).chunks, ...chunks(bytes)])
+  if (chunk.type === ChunkType.INIT && addsAddresses(chunk, bytes))
+    numbers.push(builder.addChunk(ChunkType.ABORT).addNewAddresses(chunk, bytes).addUnrecognizedParametersError(chunk, []) ?? 0);
 
 // The rest of the registry: a type says which fields there are.
 for (const chunk of chunks(packet)) {

@@ -8,7 +8,7 @@ from . import _library as c
 from . import _values as v
 from ._library import functions
 from ._reading import Buffer, number, to_bytes
-from ._writing import _u8, _u16, _u32, seal, written
+from ._writing import _bytes, _listed, _u8, _u16, _u32, seal, written
 
 
 class Action(v.Documented):
@@ -34,7 +34,7 @@ class TagVerdict(v.Documented):
     """What is done with a packet, by its verification tag (RFC 9260 sections 8.5 and 8.5.1)."""
 
     ACCEPT = 0, "The tag is right: the packet is processed."
-    ESTABLISH = 1, "An INIT alone under the tag 0, or COOKIE ECHO first: section 5 says what is done."
+    ESTABLISH = 1, "An INIT alone under the tag 0, or COOKIE ECHO first or behind AUTH: section 5 says what is done."
     OUT_OF_THE_BLUE = 2, "The packet is treated as if it belonged to no association: see `out_of_the_blue`."
     DISCARD = 3, "The packet is discarded, without an answer."
 
@@ -44,7 +44,7 @@ class Answer(v.Documented):
 
     DISCARD = 0, "It is discarded, without an answer."
     INIT = 1, "Its INIT is processed (section 5.1)."
-    COOKIE_ECHO = 2, "Its COOKIE ECHO is processed (section 5.1)."
+    COOKIE_ECHO = 2, "Its COOKIE ECHO, first or behind AUTH, is processed (section 5.1)."
     SHUTDOWN_COMPLETE = 3, "`reply` returns the SHUTDOWN COMPLETE that is sent back."
     ABORT = 4, "`reply` returns the ABORT that is sent back."
 
@@ -156,6 +156,14 @@ def init_abort(header: v.Header, initiate_tag: int, fault: InitFault) -> bytes:
     (section 8.5.1). Raises BadValue for what is no fault."""
     fault_number = number(fault, 0xFFFFFFFF, "fault")
     return _sealed(functions.dcsctp_init_abort, 28, header, _u32(initiate_tag, "initiate_tag"), fault_number)
+
+
+def adds_addresses(init: v.Init, known: Buffer) -> bool:
+    """Returns whether an INIT adds addresses to an association that is there already (RFC 9260 section 5.2.2): an ABORT under its
+    initiate tag answers it, with `ChunkWriter.new_addresses`, and the association stays as it is. `known` are the association's
+    addresses, as parameters: the bytes of each IPv4 Address and IPv6 Address, one after the other. The address that the packet
+    came from isn't in the INIT: look at it yourself."""
+    return bool(functions.dcsctp_adds_addresses(*_bytes(_listed(init)[0]), *_bytes(known)))
 
 
 def broken_rules(data: Buffer, *, refuses_zero: bool = False, has_data: bool = False, has_i_data: bool = False) -> tuple[Rule, ...]:

@@ -93,6 +93,13 @@ def _parts(kind: type, name: str, parts: Iterable[Any]) -> bytes:
     return bytes(data)
 
 
+def _listed(chunk: Any) -> tuple[bytes, dict[int, int]]:
+    """The parameters of a chunk, all with their padding, and the place of each by its offset among these bytes."""
+    parts = [it + bytes(-len(it) % 4) for it in map(bytes_of, chunk.parameters)]
+    offsets = accumulate(map(len, parts), initial=0)
+    return b"".join(parts), dict(zip(offsets, range(len(parts))))
+
+
 _REST: dict[str, Callable[[Any], bytes]] = {
     "parameters": lambda it: _parts(v._ParameterPart, "parameter", it),
     "causes": lambda it: _parts(v._CausePart, "error cause", it),
@@ -446,6 +453,17 @@ class PacketBuilder:
         """Adds ERROR (RFC 9260 section 3.3.10), to which at least one error cause has to be added."""
         return self.chunk(v.ChunkType.ERROR)
 
+    def unrecognized_parameters_error(
+        self, chunk: v.InitAck | v.Heartbeat | v.HeartbeatAck | v.ReConfig, known: Iterable[int]
+    ) -> int | None:
+        """Adds an ERROR with a cause Unrecognized Parameters (RFC 9260 section 3.3.10.8) for each parameter of an INIT ACK that
+        came, or of another chunk but INIT, as `ChunkWriter.unrecognized_parameters` does; no ERROR if there is none. The packet is
+        the one that answers: that of an INIT ACK begins with COOKIE ECHO."""
+        (data, places), end = _listed(chunk), c_size_t()
+        types = _numbers(c_uint16, _u16, known, "a type")
+        self._call(bare.dcsctp_add_unrecognized_parameters_error, *_bytes(data), *types, byref(end))
+        return places.get(end.value)
+
     def unrecognized_chunks(self, data: Buffer, known: Iterable[int]) -> int | None:
         """Adds an ERROR with a cause Unrecognized Chunk Type (RFC 9260 section 3.3.10.6) for each chunk of a packet that came whose
         type isn't known, and is to be reported (section 3.2), whole and in order, up to the first at which processing stops, and
@@ -594,13 +612,17 @@ class ChunkWriter:
         """Adds to an INIT ACK an Unrecognized Parameter (RFC 9260 section 3.3.3.1.2) for each parameter of an INIT that came whose
         type isn't known, and is to be reported (section 3.2.2), whole and in order, up to the first at which processing stops, and
         with it. All, or nothing. Returns the place of the parameter at which processing stops, among `init.parameters`, or None."""
-        parts = [bytes_of(it) for it in init.parameters]
-        offsets = list(accumulate((-(-len(it) // 4) * 4 for it in parts), initial=0))
-        data, end = b"".join(it + bytes(-len(it) % 4) for it in parts), c_size_t()
+        (data, places), end = _listed(init), c_size_t()
         self._add(
             bare.dcsctp_add_unrecognized_parameters, *_bytes(data), *_numbers(c_uint16, _u16, known, "a type"), byref(end)
         )
-        return offsets.index(end.value) if end.value < len(data) else None
+        return places.get(end.value)
+
+    def new_addresses(self, init: v.Init, known: Buffer) -> "ChunkWriter":
+        """Adds to an ABORT the cause Restart of an Association with New Addresses (RFC 9260 section 3.3.10.11), with the addresses
+        that an INIT adds to those of an association, `known`, as they are in the INIT, and returns this: see `adds_addresses`."""
+        self._add(bare.dcsctp_add_new_addresses, *_bytes(_listed(init)[0]), *_bytes(known))
+        return self
 
     def parameter(self, parameter: v.Parameter) -> "ChunkWriter":
         """Adds a parameter (RFC 9260 section 3.2.1), and returns this."""
