@@ -184,11 +184,11 @@ pub fn push_association(
 
 /// Adds the channels of an association of which a packet passed, and those that found no room as
 /// one.
-pub fn push_channels(
+pub fn push_channels<'a>(
     options: &Options,
     style: TimeStyle,
-    files: &Files,
-    channels: &Channels,
+    files: &'a Files,
+    channels: &'a Channels,
     text: &mut String,
 ) -> Result<(), AllocError> {
     let mut report = ChannelReport {
