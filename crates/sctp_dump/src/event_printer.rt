@@ -21,10 +21,11 @@ use crate::tracker::Tracker;
 use crate::when::Clock;
 use dcsctp_borrowed::checksum::Checksum;
 use dcsctp_wire::packet::sctp_packet::FirstFault;
-use dump_analysis::rule::RULES;
+use dump_analysis::rule::{BrokenRules, Known, RULES};
 use dump_analysis::warnings::Warnings;
 use dump_analysis::{
-    Authentication, AuthenticationCounts, Message, Noted, ResentBrief, SeenPacket,
+    Association, Authentication, AuthenticationCounts, Membership, Message, Noted, ResentBrief,
+    SeenPacket,
 };
 use dump_capture::event::{Part, Seen, Sink, Skipped, Time};
 use dump_capture::frame::{FoundPacket, packet_in};
@@ -163,40 +164,10 @@ impl<W: Write> EventPrinter<W> {
         self.tracker
             .note_labels(&self.options, member, &packet, offset)?;
         let ended = self.tracker.take_messages()?;
-        match left {
-            Some(association) => {
-                if let Some(channels) = self.tracker.take_channels(association.number) {
-                    push_channels(
-                        &self.options,
-                        self.clock.style(),
-                        &self.files,
-                        &channels,
-                        &mut self.output.text,
-                    )?;
-                }
-                let paths = self.tracker.take_paths(association.number);
-                push_association(
-                    &self.options,
-                    self.clock.style(),
-                    &self.files,
-                    &association,
-                    paths.as_ref(),
-                    &mut self.output.text,
-                )?
-            }
-            None => {}
-        }
-        let authentication = match (&self.options.auth_key, member) {
-            (None, _) => Authentication::NOTHING,
-            (Some(_), Some(member)) => member.authentication,
-            (Some(_), None) => Authentication::of_none(&packet),
-        };
-        self.authentication.count(authentication);
+        self.print_left(left)?;
+        let authentication = self.authenticate(member, &packet);
         let known = self.tracker.known_of(&packet);
-        let is_judged = is_judged(&self.options, judged.verdict);
-        let broken = self
-            .warnings
-            .judge(is_judged, found.packet, found.length, word, known);
+        let broken = self.judge(found, judged, known);
         let is_faulty = fault.is_some() || broken.is_some();
         let is_printed = passes
             && self.options.prints_packets()
@@ -225,6 +196,69 @@ impl<W: Write> EventPrinter<W> {
         };
         push_packet(&self.options, shown, &mut self.output.text)?;
         self.print_messages(ended.as_slice())
+    }
+
+    /// Prints an association that left the table, and its channels.
+    fn print_left(&mut self, left: Option<Box<Association>>) -> Result<(), AllocError>
+        ensures options { self.new.options ≡ self.old.options }
+        ensures counts { self.new.counts ≡ self.old.counts }
+        ensures failure { self.new.failure ≡ self.old.failure }
+        ensures warnings { self.new.warnings ≡ self.old.warnings }
+    {
+        let Some(association) = left else {
+            return Ok(());
+        };
+        if let Some(channels) = self.tracker.take_channels(association.number) {
+            push_channels(
+                &self.options,
+                self.clock.style(),
+                &self.files,
+                &channels,
+                &mut self.output.text,
+            )?;
+        }
+        let paths = self.tracker.take_paths(association.number);
+        push_association(
+            &self.options,
+            self.clock.style(),
+            &self.files,
+            &association,
+            paths.as_ref(),
+            &mut self.output.text,
+        )
+    }
+
+    /// Returns what is found of a packet's AUTH, if a key is given, and counts it.
+    fn authenticate(
+        &mut self,
+        member: Option<Membership>,
+        packet: &SeenPacket<'_>,
+    ) -> Authentication
+        ensures options { self.new.options ≡ self.old.options }
+        ensures counts { self.new.counts ≡ self.old.counts }
+        ensures failure { self.new.failure ≡ self.old.failure }
+        ensures warnings { self.new.warnings ≡ self.old.warnings }
+    {
+        let authentication = match (&self.options.auth_key, member) {
+            (None, _) => Authentication::NOTHING,
+            (Some(_), Some(member)) => member.authentication,
+            (Some(_), None) => Authentication::of_none(packet),
+        };
+        self.authentication.count(authentication);
+        authentication
+    }
+
+    /// Returns which rules a packet breaks, if they are asked for, and counts them.
+    fn judge(&mut self, found: &FoundPacket<'_>, judged: &Judged, known: Known) -> BrokenRules
+        ensures options { self.new.options ≡ self.old.options }
+        ensures counts { self.new.counts ≡ self.old.counts }
+        ensures failure { self.new.failure ≡ self.old.failure }
+        ensures warnings { WarnsOf self.old.options (packet_of found.now) judged.now.verdict
+            judged.now.word self.old.warnings.counts self.new.warnings.counts }
+    {
+        let is_judged = is_judged(&self.options, judged.verdict);
+        self.warnings
+            .judge(is_judged, found.packet, found.length, judged.word, known)
     }
 
     /// Returns a packet with what is known of it, and whether it is asked for.
