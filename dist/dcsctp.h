@@ -673,6 +673,12 @@ uint32_t dcsctp_unrecognized_parameter(uint16_t type);
 uint32_t dcsctp_add_unrecognized_parameters(uint8_t *packet, size_t room, size_t *size, size_t start, const uint8_t *list,
                                             size_t list_size, const uint16_t *known, size_t known_count, size_t *end);
 
+/* Adds an ERROR with a cause Unrecognized Parameters (section 3.3.10.8) for each parameter of an INIT ACK, or of another chunk
+   but INIT, that is reported (section 3.2.2); no ERROR if there is none. `list` are the chunk's parameters. The packet is the one
+   that answers: that of an INIT ACK begins with COOKIE ECHO. */
+uint32_t dcsctp_add_unrecognized_parameters_error(uint8_t *packet, size_t room, size_t *size, const uint8_t *list,
+                                                  size_t list_size, const uint16_t *known, size_t known_count, size_t *end);
+
 /* Adds an ERROR with a cause Unrecognized Chunk Type (section 3.3.10.6) for each chunk of a packet that is reported (section
    3.2); no ERROR if there is none. `bytes` are the packet that came. */
 uint32_t dcsctp_add_unrecognized_chunks(uint8_t *packet, size_t room, size_t *size, const uint8_t *bytes, size_t length,
@@ -689,7 +695,7 @@ struct dcsctp_association {
 /* What is done with a packet, by its verification tag. */
 enum dcsctp_tag_verdict {
     DCSCTP_TAG_ACCEPT = 0,          /* the tag is right: the packet is processed */
-    DCSCTP_TAG_ESTABLISH = 1,       /* an INIT alone under the tag 0, or COOKIE ECHO first: section 5 says what is done */
+    DCSCTP_TAG_ESTABLISH = 1,       /* an INIT alone under the tag 0, or COOKIE ECHO first or behind AUTH: see section 5 */
     DCSCTP_TAG_OUT_OF_THE_BLUE = 2, /* the packet is treated as if it belonged to no association */
     DCSCTP_TAG_DISCARD = 3          /* the packet is discarded, without an answer */
 };
@@ -706,7 +712,8 @@ enum dcsctp_answer {
     DCSCTP_ANSWER_ABORT = 4              /* the same */
 };
 
-/* Returns a dcsctp_answer (section 8.4). `is_unicast` says whether the packet is to and from unicast addresses. */
+/* Returns a dcsctp_answer (section 8.4). `is_unicast` says whether the packet is to and from unicast addresses. COOKIE ECHO is
+   the first chunk behind an AUTH too (RFC 4895 section 6.3), whose keys are then those that its cookie says. */
 uint32_t dcsctp_out_of_the_blue(const uint8_t *packet, size_t length, bool is_unicast);
 
 /* Writes what DCSCTP_ANSWER_SHUTDOWN_COMPLETE or DCSCTP_ANSWER_ABORT sends back to the sender of a packet with this header:
@@ -749,6 +756,17 @@ uint32_t dcsctp_init_refusal(uint32_t fault, bool is_ack, bool in_cookie_wait);
    nothing, and returns DCSCTP_BAD_VALUE for a number that is no fault's, else DCSCTP_NO_ROOM. */
 uint32_t dcsctp_init_abort(uint8_t *packet, size_t room, size_t *size, const struct dcsctp_header *header,
                            uint32_t initiate_tag, uint32_t fault);
+
+/* Returns whether an INIT adds addresses to an association that is there already, or in COOKIE-ECHOED (sections 5.2.1 and 5.2.2): you
+   answer it by an ABORT under its initiate tag, and the association stays as it is. `list` are the INIT's parameters, and `known` the association's addresses,
+   as parameters too: IPv4 Address and IPv6 Address. What comes after the first whose length is impossible isn't looked at. The
+   address that the packet came from isn't in the list: look at it yourself. */
+bool dcsctp_adds_addresses(const uint8_t *list, size_t list_size, const uint8_t *known, size_t known_size);
+
+/* Adds to the ABORT that begins at `start` the cause Restart of an Association with New Addresses (section 3.3.10.11), with the
+   addresses that the INIT adds, as they are in it. Returns what dcsctp_add_parameter returns. */
+uint32_t dcsctp_add_new_addresses(uint8_t *packet, size_t room, size_t *size, size_t start, const uint8_t *list, size_t list_size,
+                                  const uint8_t *known, size_t known_size);
 
 /* ---- the rules that a packet breaks
 

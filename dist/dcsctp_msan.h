@@ -214,6 +214,10 @@ DCSCTP_MSAN_ADD(dcsctp_add_re_config,
 DCSCTP_MSAN_ADD(dcsctp_add_missing_parameters, (DCSCTP_MSAN_TO, size_t start, const uint16_t *types, size_t type_count),
                 (packet, room, size, start, types, type_count), DCSCTP_MSAN_READS_NUMBERS(start);
                 DCSCTP_MSAN_READS(types, type_count))
+DCSCTP_MSAN_ADD(dcsctp_add_new_addresses,
+                (DCSCTP_MSAN_TO, size_t start, const uint8_t *list, size_t list_size, const uint8_t *known, size_t known_size),
+                (packet, room, size, start, list, list_size, known, known_size), DCSCTP_MSAN_READS_NUMBERS(start);
+                DCSCTP_MSAN_READS(list, list_size); DCSCTP_MSAN_READS(known, known_size))
 
 /* (the struct has padding, which nobody writes; of the bytes, those in which its parts lie) */
 #define DCSCTP_MSAN_READS_PART(offset, size)                                                                             \
@@ -256,6 +260,13 @@ DCSCTP_MSAN_REPORT(dcsctp_add_unrecognized_chunks,
                    (DCSCTP_MSAN_TO, const uint8_t *bytes, size_t length, const uint8_t *known, size_t known_count, size_t *end),
                    (packet, room, size, bytes, length, known, known_count, end), DCSCTP_MSAN_READS_PACKET(bytes, length);
                    DCSCTP_MSAN_READS(known, known_count))
+DCSCTP_MSAN_REPORT(dcsctp_add_unrecognized_parameters_error,
+                   (DCSCTP_MSAN_TO, const uint8_t *list, size_t list_size, const uint16_t *known, size_t known_count, size_t *end),
+                   (packet, room, size, list, list_size, known, known_count, end), DCSCTP_MSAN_READS(list, list_size);
+                   DCSCTP_MSAN_READS(known, known_count))
+DCSCTP_MSAN(bool, dcsctp_adds_addresses, (const uint8_t *list, size_t list_size, const uint8_t *known, size_t known_size),
+            (list, list_size, known, known_size), DCSCTP_MSAN_READS(list, list_size); DCSCTP_MSAN_READS(known, known_size),
+            DCSCTP_MSAN_NOTHING)
 
 DCSCTP_MSAN(uint32_t, dcsctp_verify_tag,
             (const uint8_t *packet, size_t length, const struct dcsctp_association *association), (packet, length, association),
