@@ -11,8 +11,8 @@ Compares what sctp_dump says of a capture's user messages, as lines and as JSON,
 
 Without a CAPTURE it makes some, and compares these and some stored ones, of crates/sctp_dump/data and tests/dump/data. The model keeps
 all fragments, where the program forgets those that it needs no longer and finds no room for some. tshark has no field for a
-payload: that one was sent again with other bytes is compared where the sizes differ. A capture with packets that were cut off
-can't be compared. Status: 0 if all agree, 1 if not. Needed is tshark.
+payload: these are taken from the capture, a pcap file of this byte order, behind the common header that tshark found. One with
+packets that were cut off can't be compared. Status: 0 if all agree, 1 if not. Needed is tshark.
 """
 import argparse
 import json
@@ -39,8 +39,8 @@ STORED = ['crates/sctp_dump/data/associations.pcap', 'crates/sctp_dump/data/raw.
 class Fragment:
     """A DATA or an I-DATA, by its fields; `at` is its TSN, counted on beyond 2^32."""
 
-    def __init__(self, tsn, size, kind, take):
-        self.tsn, self.size, self.is_i_data = tsn, size, kind == I_DATA
+    def __init__(self, tsn, size, kind, take, payload=b''):
+        self.tsn, self.size, self.is_i_data, self.payload = tsn, size, kind == I_DATA, payload
         self.stream = next(take['sctp.data_sid'])
         self.begins, self.ends, self.unordered = (next(take['sctp.data_%s_bit' % bit]) for bit in 'beu')
         self.number = next(take['sctp.data_mid' if self.is_i_data else 'sctp.data_ssn'])
@@ -52,7 +52,7 @@ class Fragment:
         self.acknowledged = self.over = False
 
     def same(self, other):
-        return all(getattr(self, name) == getattr(other, name) for name in ('key', 'place', 'begins', 'ends', 'ppid', 'size'))
+        return all(getattr(self, name) == getattr(other, name) for name in ('key', 'place', 'begins', 'ends', 'ppid', 'payload'))
 
     def leads_to(self, other):
         """The other one is the next that was seen of the same message of DATA (RFC 9260 section 6.9)."""
@@ -193,14 +193,37 @@ class Sender:
         closed = [packet for one in group for packet in one.closed]
         if closed:
             line.update(closed_first=min(closed)[1], closed_last=max(closed)[1])
+        if is_whole(group):
+            line['payload'] = b''.join(one.payload for one in group).hex()
         for one in group:
             one.over = True
         return line
 
 
+def payloads(path):
+    """Returns a function that yields the payloads of the DATA and I-DATA of a packet, whose number, ports and tag are given."""
+    with open(path, 'rb') as file:
+        content, frames, at = file.read(), [], 24
+    while at < len(content):
+        size = struct.unpack_from('<I', content, at + 8)[0]
+        frames.append(content[at + 16:at + 16 + size])
+        at += 16 + size
+
+    def of_packet(number, *header):
+        frame = frames[number - 1]
+        at = frame.index(struct.pack('>HHI', *header)) + 12
+        while at + 4 <= len(frame):
+            kind, _, size = struct.unpack_from('>BBH', frame, at)
+            if kind in (DATA, I_DATA):
+                yield frame[at + (16 if kind == DATA else 20):at + size]
+            at += max(4, (size + 3) // 4 * 4)
+
+    return of_packet
+
+
 def modelled(path):
     """Returns the messages of a capture."""
-    model, senders, lines = base.Model(), {}, []
+    model, senders, lines, payloads_of = base.Model(), {}, [], payloads(path)
     for packet in base.packets(path, ()):
         model.see(packet)
         member = model.members[packet['number']]
@@ -210,9 +233,11 @@ def modelled(path):
                 for name, values in packet['fields'].items() if name.startswith('sctp.data_')}
         own, moment = (member['association'], member['end']), (packet['number'], packet['time'])
         other = own[0], 1 - own[1]
+        header = (base.number(packet['fields'][name][0]) for name in ('sctp.srcport', 'sctp.dstport', 'sctp.verification_tag'))
+        rest = payloads_of(packet['number'][1], *header)
         for kind, value in packet['chunks']:
             if kind in (DATA, I_DATA):
-                senders.setdefault(own, Sender(*own)).send(Fragment(*value, kind, take), moment)
+                senders.setdefault(own, Sender(*own)).send(Fragment(*value, kind, take, next(rest)), moment)
             elif kind in (FORWARD_TSN, I_FORWARD_TSN) and own in senders:
                 lines += senders[own].skip(value[0], kind, moment)
             elif kind in (SACK, NR_SACK) and other in senders:
@@ -276,13 +301,43 @@ def printed(program, path, *options):
     return subprocess.run([program, *options, path], stdout=subprocess.PIPE, text=True, check=False).stdout.splitlines()
 
 
+def utf8(digits):
+    """Returns the text of bytes; None where they are none, or not UTF-8."""
+    try:
+        return None if digits is None else bytes.fromhex(digits).decode()
+    except UnicodeDecodeError:
+        return None
+
+
+def rows_of(line):
+    """Returns the rows of an object's payload; of the text, which DUMP.md says how to quote, that of ASCII alone."""
+    if 'payload' not in line:
+        return ['  payload: not known']
+    payload = bytes.fromhex(line['payload'])
+    rows = ['  payload: %d bytes' % len(payload)]
+    for at in range(0, len(payload), 16):
+        row = payload[at:at + 16]
+        ascii_of = ''.join(chr(byte) if 32 <= byte < 127 else '.' for byte in row)
+        rows.append('    %04x: %-47s  |%s|' % (at % 65536, row.hex(' '), ascii_of))
+    if line.get('ppid') == 51:
+        shown = (chr(byte) if 32 <= byte < 127 and byte not in b'"\\' else '\\x%02x' % byte for byte in payload)
+        rows.append('  text: "%s"' % ''.join(shown))
+    return rows
+
+
 def compare(path, program):
     """Compares a capture, and returns the number of messages and of those that differ."""
     name, want = os.path.basename(path), modelled(path)
-    got = [json.loads(line, parse_float=str) for line in printed(program, path, '--json', '--messages', '--summary')]
+    got = [json.loads(line, parse_float=str) for line in printed(program, path, '--json', '--messages', '--payload', '--summary')]
     got, wrong = [line for line in got if 'message_of' in line], []
+    for line in got:
+        if line.get('ppid') == 51 and line.pop('text', None) != utf8(line.get('payload')):
+            wrong.append('the text of %s' % line)
     names = {line['ppid']: line.pop('ppid_name') for line in got if 'ppid_name' in line}
     texts = [line for line in printed(program, path, '--messages') if line.startswith('message of ')]
+    rows = [line for line in printed(program, path, '--messages', '--payload') if not line.startswith('packets ')]
+    if rows != [row for line, text in zip(got, texts) for row in (text, *rows_of(line))]:
+        wrong.append('rows that are not those of the objects')
     # in the order of the packets by which they were over
     packets = [over_by(line) for line in got if over_by(line)]
     if packets != sorted(packets) or texts != [text_of(line, names) for line in got]:
@@ -448,7 +503,8 @@ def next_fragment(draw, one, side):
         del streams[stream]
     if draw.random() < 0.02:
         bits ^= draw.choice((BEGINS, ENDS))
-    payload, ppid = bytes(draw.randrange(1, 50)), draw.choice((51, 53, 3_000_000))
+    count, ppid = draw.randrange(1, 50), draw.choice((51, 53, 3_000_000))
+    payload = bytes(draw.randrange(128) for _ in range(count))
     if one['i_data']:
         return tsn, i_piece(tsn, bits, stream, number, ppid if bits & BEGINS else fsn, payload)
     return tsn, piece(tsn, bits, stream, number % 2 ** 16, payload, ppid)

@@ -6,7 +6,9 @@ use crate::end::Closed;
 use crate::fragment::{Fragment, MessageKey};
 use crate::moment::Moment;
 use crate::packet_number::PacketNumber;
+use crate::payloads::Payloads;
 use crate::serial::is_after;
+use dcsctp_borrowed::part::Item;
 use std::alloc::{AllocError, Global};
 use std::mem;
 
@@ -210,29 +212,71 @@ fn joined(one: Option<Closed>, other: Option<Closed>) -> Option<Closed> {
     Some(Closed { first, last })
 }
 
+/// A message that is over.
+#[derive(Drop)]
+pub struct EndedMessage {
+    /// The message.
+    pub message: Message,
+    /// Its user data, if that was asked for, all of it was captured, and there was room.
+    pub payload: Option<Vec<u8>>,
+}
+
 /// Messages that are over.
 #[derive(Drop)]
 pub struct EndedMessages {
     alloc: Global,
-    list: Vec<Message>,
+    list: Vec<EndedMessage>,
+    // that of fragments that are outstanding, if it is asked for
+    payloads: Option<Payloads>,
     // how many DATA weren't followed, up to 2^64 - 1
     left_out: u64,
 }
 
 impl EndedMessages {
-    /// Returns none.
-    pub fn new(alloc: Global) -> EndedMessages {
+    /// Returns none. `keeps_payloads` says whether their user data is asked for.
+    pub fn new(alloc: Global, keeps_payloads: bool) -> EndedMessages {
         EndedMessages {
             alloc,
             list: Vec::new(alloc),
+            payloads: if keeps_payloads {
+                Some(Payloads::new(alloc))
+            } else {
+                None
+            },
             left_out: 0,
         }
     }
 
     /// Adds a message.
-    pub fn add(&mut self, message: Message) -> Result<(), AllocError> {
-        self.list.push(message)?;
+    pub fn add(&mut self, message: Message, payload: Option<Vec<u8>>) -> Result<(), AllocError> {
+        self.list.push(EndedMessage { message, payload })?;
         Ok(())
+    }
+
+    /// Keeps the user data of a DATA or an I-DATA that is followed, if it is asked for.
+    pub fn keep_payload(
+        &mut self,
+        association: u64,
+        sender: Side,
+        chunk: Item<'_>,
+    ) -> Result<(), AllocError> {
+        match &mut self.payloads {
+            Some(payloads) => payloads.keep(association, sender, chunk),
+            None => Ok(()),
+        }
+    }
+
+    /// Takes the user data of a message's fragments; `None` where not all of it is kept.
+    pub fn take_payload(
+        &mut self,
+        association: u64,
+        sender: Side,
+        pieces: &[Fragment],
+    ) -> Result<Option<Vec<u8>>, AllocError> {
+        match &mut self.payloads {
+            Some(payloads) => payloads.take(association, sender, pieces),
+            None => Ok(None),
+        }
     }
 
     /// Counts DATA that isn't followed.
@@ -246,7 +290,7 @@ impl EndedMessages {
     }
 
     /// Returns the messages, in the order in which they were over, and keeps none.
-    pub fn take(&mut self) -> Vec<Message> {
+    pub fn take(&mut self) -> Vec<EndedMessage> {
         mem::replace(&mut self.list, Vec::new(self.alloc))
     }
 }

@@ -6,16 +6,28 @@ use crate::message::{Fate, Message};
 use crate::moment::Moment;
 use crate::packet_number::{PacketKeys, PacketText};
 use crate::time::{TimeForm, TimeStyle};
+use dump_text::hexadecimal::{write_digits, write_row};
 use dump_text::json_text::JsonText;
 use dump_text::names::ChunkName;
+use dump_text::printed::Quoted;
 use dump_text::registry::payload_protocol;
 use std::fmt;
+
+/// The payload protocol identifier of a WebRTC string (RFC 8831 section 8).
+const STRING: u32 = 51;
+
+/// How many bytes a row shows.
+const ROW: usize = 16;
 
 /// A user message as a line, without its line break.
 #[derive(Clone, Copy)]
 pub struct MessageReport<'a> {
     /// The message.
     pub message: &'a Message,
+    /// Whether its user data is asked for.
+    pub shows_payload: bool,
+    /// Its user data, if that is known.
+    pub payload: Option<&'a [u8]>,
     /// How times are written.
     pub style: TimeStyle,
     /// The names of the files that were read: if there are several, a packet's number has its
@@ -45,7 +57,8 @@ impl<'a> fmt::Display for MessageReport<'a> {
             Fate::Unacknowledged => f.write_str(", not acknowledged")?,
         }
         self.write_fragments(f)?;
-        self.write_waits(f)
+        self.write_waits(f)?;
+        self.write_payload(f)
     }
 }
 
@@ -149,6 +162,23 @@ impl<'a> MessageReport<'a> {
         write!(f, "{text}")
     }
 
+    /// Writes its user data on lines of its own, if it is asked for.
+    fn write_payload<W: fmt::Write>(&self, f: &mut fmt::Formatter<W>) -> fmt::Result {
+        if !self.shows_payload {
+            return Ok(());
+        }
+        let Some(bytes) = self.payload else {
+            return f.write_str("\n  payload: not known");
+        };
+        let (size, rows) = (bytes.len(), Rows(bytes));
+        write!(f, "\n  payload: {size} bytes{rows}")?;
+        if self.message.ppid == Some(STRING) {
+            let text = Quoted(bytes);
+            write!(f, "\n  text: {text}")?;
+        }
+        Ok(())
+    }
+
     /// Writes a time, if it is known, and the packet's number.
     fn write_moment<W: fmt::Write>(
         &self,
@@ -169,6 +199,22 @@ impl<'a> MessageReport<'a> {
             packet: moment.packet,
             files: self.files,
         }
+    }
+}
+
+/// Bytes in rows of sixteen, each after a line break.
+#[derive(Clone, Copy)]
+struct Rows<'a>(&'a [u8]);
+
+impl<'a> fmt::Display for Rows<'a> {
+    fn fmt<W: fmt::Write>(&self, f: &mut fmt::Formatter<W>) -> fmt::Result {
+        let mut rest = self.0;
+        for i in 0..rest.len().div_ceil(ROW) {
+            let (row, after) = rest.split_at(rest.len().min(ROW));
+            write_row(ROW * i, row, f)?;
+            rest = after;
+        }
+        Ok(())
     }
 }
 
@@ -199,6 +245,9 @@ impl<'a> fmt::Display for MessageJson<'a> {
             write!(f, ",\"delay\":{seconds}")?;
         }
         self.write_reasons(f)?;
+        if let Some(bytes) = self.0.payload {
+            self.write_payload(bytes, f)?;
+        }
         f.write_str("}")
     }
 }
@@ -273,6 +322,20 @@ impl<'a> MessageJson<'a> {
             files: self.0.files,
         };
         write!(f, "{first}{last}")
+    }
+
+    /// Writes its user data.
+    fn write_payload<W: fmt::Write>(&self, bytes: &[u8], f: &mut fmt::Formatter<W>) -> fmt::Result {
+        f.write_str(",\"payload\":\"")?;
+        write_digits(bytes, f)?;
+        f.write_str("\"")?;
+        match str::from_utf8(bytes) {
+            Ok(text) if self.0.message.ppid == Some(STRING) => {
+                let text = JsonText(text);
+                write!(f, ",\"text\":{text}")
+            }
+            _ => Ok(()),
+        }
     }
 
     /// Writes a time, if it is known.

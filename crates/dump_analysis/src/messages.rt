@@ -8,7 +8,7 @@ use crate::chunk_type::{
 use crate::counts::SeenPacket;
 use crate::fragment::Fragment;
 use crate::membership::Membership;
-use crate::message::{EndedMessages, Message};
+use crate::message::{EndedMessage, EndedMessages};
 use crate::moment::Moment;
 use crate::outgoing::Outgoing;
 use dcsctp_borrowed::part::Item;
@@ -49,13 +49,14 @@ pub struct Messages {
 }
 
 impl Messages {
-    /// Returns those of a capture without packets.
-    pub fn new(alloc: Global) -> Messages {
+    /// Returns those of a capture without packets. `keeps_payloads` says whether their user data is
+    /// asked for: of all ends at most 16 MiB are kept at a time.
+    pub fn new(alloc: Global, keeps_payloads: bool) -> Messages {
         Messages {
             alloc,
             ends: HashMap::new(alloc),
             count: 0,
-            ended: EndedMessages::new(alloc),
+            ended: EndedMessages::new(alloc, keeps_payloads),
         }
     }
 
@@ -103,7 +104,7 @@ impl Messages {
 
     /// Returns the messages that are over since this was asked last, in the order in which they
     /// were.
-    pub fn take(&mut self) -> Vec<Message> {
+    pub fn take(&mut self) -> Vec<EndedMessage> {
         self.ended.take()
     }
 
@@ -173,10 +174,11 @@ impl Messages {
             Some(fragment) => {
                 let before = outgoing.count();
                 outgoing.send(&fragment, self.count < MOST, &mut self.ended)?;
-                self.count = self
-                    .count
-                    .saturating_sub(before)
-                    .saturating_add(outgoing.count());
+                let after = outgoing.count();
+                self.count = self.count.saturating_sub(before).saturating_add(after);
+                if after > before {
+                    self.ended.keep_payload(of.association, of.sender, chunk)?;
+                }
             }
             None => outgoing.note_lost(&mut self.ended),
         }

@@ -215,14 +215,16 @@ impl Outgoing {
                 fragment.is_over |= fragment.is_beside(&lead);
             }
         }
-        if self.has_lost && !is_whole(pieces.as_slice()) {
+        let payload = ended.take_payload(self.association, self.sender, pieces.as_slice())?;
+        let is_whole = is_whole(pieces.as_slice());
+        if self.has_lost && !is_whole {
             ended.leave_out(pieces.len());
             return Ok(());
         }
         let mut message = Message::new(self.association, self.sender, &lead, fate);
         message.assemble(pieces.as_slice(), self.passed);
         message.waited_for = waited_for;
-        ended.add(message)
+        ended.add(message, if is_whole { payload } else { None })
     }
 
     /// Returns the places in which the fragments of a message are: from the first one on, and up to

@@ -27,7 +27,8 @@ What is printed:
   --brief          a line a packet, blanks only between its fields
   --json           a JSON object a line, not with --brief
   --places         in JSON also the offset and size of each field
-  --payload        all bytes of values, in rows, not the first 16 (64 of a text)
+  --payload        all bytes of values, in rows, not the first 16 (64 of a text);
+                   with --messages those of each message, joined
   --time FORM      iso, utc, relative (to the first packet) or delta (to the
                    packet before)
   --associations   a block an association, in place of packets; with --brief or

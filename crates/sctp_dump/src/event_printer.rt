@@ -24,8 +24,8 @@ use dcsctp_wire::packet::sctp_packet::FirstFault;
 use dump_analysis::rule::{BrokenRules, Known, RULES};
 use dump_analysis::warnings::Warnings;
 use dump_analysis::{
-    Association, Authentication, AuthenticationCounts, Membership, Message, Noted, ResentBrief,
-    SeenPacket,
+    Association, Authentication, AuthenticationCounts, EndedMessage, Membership, Noted,
+    ResentBrief, SeenPacket,
 };
 use dump_capture::event::{Part, Seen, Sink, Skipped, Time};
 use dump_capture::frame::{FoundPacket, packet_in};
@@ -298,7 +298,7 @@ impl<W: Write> EventPrinter<W> {
     }
 
     /// Prints the messages that are over by the last packet.
-    fn print_messages(&mut self, messages: &[Message]) -> Result<(), AllocError>
+    fn print_messages(&mut self, messages: &[EndedMessage]) -> Result<(), AllocError>
         ensures options { self.new.options ≡ self.old.options }
         ensures counts { self.new.counts ≡ self.old.counts }
         ensures failure { self.new.failure ≡ self.old.failure }

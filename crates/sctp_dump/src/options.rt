@@ -134,8 +134,8 @@ impl Options {
         if self.places && self.output != OutputForm::Json {
             return Some("--places needs --json");
         }
-        if self.payload && !(is_blocks && self.prints_packets()) {
-            return Some("--payload needs blocks of packets, which aren't printed");
+        if self.payload && !(is_blocks && self.prints_packets()) && !self.shows_messages_payload() {
+            return Some("--payload needs blocks of packets, or --messages without --brief");
         }
         if self.filter.is_empty() {
             return Some("no packet is from --from on and up to --to");
@@ -179,6 +179,11 @@ impl Options {
     /// Returns whether it has to be known what becomes of user messages.
     pub fn follows_messages(&self) -> bool {
         self.messages || self.channels
+    }
+
+    /// Returns whether the user data of messages is printed.
+    pub fn shows_messages_payload(&self) -> bool {
+        self.messages && self.payload && self.output != OutputForm::Brief
     }
 
     /// Returns whether packets are printed: not where associations, messages, channels or counts

@@ -13,7 +13,7 @@ use dump_analysis::warnings::{WarningCounts, WarningLines, Warnings, WarningsBri
 use dump_analysis::{
     Association, AssociationJson, AssociationReport, Associations, Authentication,
     AuthenticationBrief, AuthenticationCounts, AuthenticationJson, AuthenticationLines,
-    ChannelJson, ChannelReport, Channels, Membership, MembershipJson, Message, MessageJson,
+    ChannelJson, ChannelReport, Channels, EndedMessage, Membership, MembershipJson, MessageJson,
     MessageReport, Paths, ResentBrief, TimeStyle,
 };
 use dump_report::{PacketBrief, PacketJson, PacketReport};
@@ -232,14 +232,20 @@ pub fn push_messages(
     options: &Options,
     style: TimeStyle,
     files: &Files,
-    messages: &[Message],
+    messages: &[EndedMessage],
     text: &mut String,
 ) -> Result<(), AllocError> {
     let files = files.named();
-    for message in messages {
-        if options.messages && message.passes {
+    for ended in messages {
+        if options.messages && ended.message.passes {
+            let payload = match &ended.payload {
+                Some(payload) => Some(payload.as_slice()),
+                None => None,
+            };
             let report = MessageReport {
-                message,
+                message: &ended.message,
+                shows_payload: options.shows_messages_payload(),
+                payload,
                 style,
                 files,
             };

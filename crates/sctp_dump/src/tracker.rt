@@ -6,8 +6,8 @@ use crate::options::{Options, OutputForm};
 use dump_analysis::filter::asks_nothing;
 use dump_analysis::rule::Known;
 use dump_analysis::{
-    Associations, ChannelTable, Channels, Membership, Message, Messages, Noted, PathTable, Paths,
-    Resent, SeenPacket, Sendings,
+    Associations, ChannelTable, Channels, EndedMessage, Membership, Messages, Noted, PathTable,
+    Paths, Resent, SeenPacket, Sendings,
 };
 use std::alloc::{AllocError, Global};
 
@@ -56,7 +56,7 @@ impl Tracker {
             _ => {}
         }
         if self.messages.is_none() && options.follows_messages() {
-            self.messages = Some(Messages::new(self.alloc));
+            self.messages = Some(Messages::new(self.alloc, options.shows_messages_payload()));
         }
         if let Some(messages) = &mut self.messages {
             if let Some(association) = &noted.left {
@@ -135,14 +135,14 @@ impl Tracker {
     }
 
     /// Returns the messages that are over since this was asked last, each counted of its channel.
-    pub fn take_messages(&mut self) -> Result<Vec<Message>, AllocError> {
+    pub fn take_messages(&mut self) -> Result<Vec<EndedMessage>, AllocError> {
         let Some(messages) = &mut self.messages else {
             return Ok(Vec::new(self.alloc));
         };
         let ended = messages.take();
         if let Some(channels) = &mut self.channels {
-            for message in &ended {
-                channels.add(message)?;
+            for one in &ended {
+                channels.add(&one.message)?;
             }
         }
         Ok(ended)
@@ -150,7 +150,7 @@ impl Tracker {
 
     /// Returns the messages that are outstanding at the end of the capture, and how many DATA
     /// weren't followed.
-    pub fn finish_messages(&mut self) -> Result<(Vec<Message>, u64), AllocError> {
+    pub fn finish_messages(&mut self) -> Result<(Vec<EndedMessage>, u64), AllocError> {
         let left_out = match &mut self.messages {
             Some(messages) => {
                 messages.finish()?;
