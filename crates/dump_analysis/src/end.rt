@@ -184,7 +184,6 @@ impl End {
     pub fn note_sent(&mut self, packet: &SeenPacket<'_>, chunk: Item<'_>) -> Option<Step>
         ensures { self.new.counts ≡ self.old.counts }
     {
-        self.announced.note_sent(packet, chunk);
         let value = chunk.value.bytes;
         match chunk.first {
             DATA | I_DATA if value.len() >= 4 => {
@@ -218,7 +217,6 @@ impl End {
                     .acknowledge(acknowledged, nanoseconds, packet.number);
             }
         }
-        self.announced.note_received(chunk);
         match chunk.first {
             HEARTBEAT_ACK => self.heartbeats.answer(digest(chunk.value.bytes)),
             RE_CONFIG => self.requests.note_received(chunk.value),

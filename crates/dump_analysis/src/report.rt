@@ -1,6 +1,6 @@
 //! An association, as text.
 
-use crate::announced::{Announced, Statement};
+use crate::announced::{Announced, Answer, Statement};
 use crate::association::{Association, Began, Ended, Established, Side};
 use crate::counts::Counts;
 use crate::end::End;
@@ -111,7 +111,7 @@ impl<'a> AssociationReport<'a> {
         Ok(())
     }
 
-    /// Writes the packet of a request, whether it was refused, and the end of the brackets.
+    /// Writes the packet of a request, how it was answered, and the end of the brackets.
     fn write_place<W: fmt::Write>(
         &self,
         statement: Statement,
@@ -119,11 +119,15 @@ impl<'a> AssociationReport<'a> {
     ) -> fmt::Result {
         let packet = self.packet(statement.packet);
         write!(f, "{packet}")?;
-        f.write_str(if statement.is_refused {
-            ", refused)"
-        } else {
-            ")"
-        })
+        match statement.answer {
+            Some(Answer::Accepted(packet)) => {
+                let packet = self.packet(packet);
+                write!(f, ", accepted in {packet})")
+            }
+            Some(Answer::Refused) => f.write_str(", refused)"),
+            None if statement.is_unanswered() => f.write_str(", never answered)"),
+            Some(Answer::Unclear) | None => f.write_str(")"),
+        }
     }
 
     /// Writes the line of the first packet.
