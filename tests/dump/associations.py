@@ -148,7 +148,7 @@ class End(Trips):
         self.seen, self.first, self.last, self.repeated, self.first_repeated = set(), None, None, 0, None
         self.sacks = self.gaps = 0
         self.window = self.cumulative = None
-        self.closed = []
+        self.closed, self.opened = [], None
         self.sent, self.pending = 0, []
         self.inits = self.i_data = self.forward_tsns = self.abandoned = self.requests = 0
         # skipped: how many TSNs, up to which, by which packet
@@ -426,6 +426,9 @@ class Model:
             sender.gaps += bool(value[2])
             if value[1] == 0:
                 sender.closed.append(number)
+                sender.opened = None
+            elif sender.closed:
+                sender.opened = sender.opened or number
             if sender.window is None or value[1] < sender.window[0]:
                 sender.window = value[1], number
             receiver.note_acknowledged(value[0], number)
@@ -656,6 +659,8 @@ def expected_end(end, digits, paths):
         one.update(least_a_rwnd=end.window[0], **at(end.window[1], 'least_a_rwnd_packet'))
     if end.closed:
         one.update(at(end.closed[0], 'closed_first'), **at(end.closed[-1], 'closed_last'))
+    if end.opened:
+        one.update(at(end.opened, 'opened_packet'))
     one.update(heartbeats=end.sent, heartbeats_unanswered=len(end.pending))
     if end.pending:
         one.update(at(max(packet for _, packet in end.pending), 'last_unanswered'))

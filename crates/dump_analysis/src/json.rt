@@ -328,6 +328,7 @@ impl<'a> AssociationJson<'a> {
         if let Some(closed) = end.closed {
             self.write_packet("closed_first", "closed_first_file", Some(closed.first), f)?;
             self.write_packet("closed_last", "closed_last_file", Some(closed.last), f)?;
+            self.write_packet("opened_packet", "opened_file", end.opened, f)?;
         }
         Ok(())
     }
