@@ -10,7 +10,7 @@ use crate::packet_number::{PacketKeys, PacketNumber, file_of};
 use crate::path::Path;
 use crate::paths::Paths;
 use crate::round_trips::RoundTrips;
-use crate::time::{TimeForm, TimeStyle};
+use crate::time::{TimeJson, TimeStyle};
 use crate::transport::Transport;
 use dump_text::json_text::JsonText;
 use dump_text::names::ChunkName;
@@ -396,7 +396,7 @@ impl<'a> AssociationJson<'a> {
         write!(f, "{keys}")
     }
 
-    /// Writes a time, if it is known: a number, unless it is a date or a clock's.
+    /// Writes a time, if it is known.
     fn write_time<W: fmt::Write>(
         &self,
         nanoseconds: Option<u64>,
@@ -405,11 +405,8 @@ impl<'a> AssociationJson<'a> {
         let Some(nanoseconds) = nanoseconds else {
             return Ok(());
         };
-        let time = self.style.time(nanoseconds);
-        match self.style.form {
-            TimeForm::Seconds => write!(f, ",\"time\":{time}"),
-            TimeForm::Iso | TimeForm::Utc => write!(f, ",\"time\":\"{time}\""),
-        }
+        let time = TimeJson(self.style.time(nanoseconds));
+        write!(f, ",\"time\":{time}")
     }
 
     /// Writes a span of time, in seconds.
