@@ -148,13 +148,15 @@ class End(Trips):
         self.seen, self.first, self.last, self.repeated, self.first_repeated = set(), None, None, 0, None
         self.sacks = self.gaps = 0
         self.window = self.cumulative = None
-        self.closed = []
+        self.closed, self.opened = [], None
         self.sent, self.pending = 0, []
         self.inits = self.i_data = self.forward_tsns = self.abandoned = self.requests = 0
         # skipped: how many TSNs, up to which, by which packet
         self.skipped, self.asked = None, []
         # what it said of its addresses, how much found no room, and the number of its last ASCONF; Stale Cookie causes
         self.announced, self.more_announced, self.sequence, self.stale = [], 0, None, []
+        # the correlation ids of its ASCONFs, in their order
+        self.correlations = {}
 
     def tsn(self, tsn, packet, time):
         """Counts a TSN. Returns the key and the number by which it counts for its packet."""
@@ -212,7 +214,7 @@ class End(Trips):
             one = {'address': address, 'used': False}
             self.announced.append(one)
         if topic != 'added' or one.get('added', {'refused': True})['refused']:
-            one[topic] = {'chunk': chunk, 'packet': packet, 'request': request, 'refused': False}
+            one[topic] = {'chunk': chunk, 'packet': packet, 'request': request, 'refused': False, 'accepted': None}
         return False
 
     def note_asconf(self, sequence, requests, source, packet):
@@ -220,6 +222,7 @@ class End(Trips):
         if sequence == self.sequence:
             return
         self.sequence = sequence
+        self.correlations[sequence] = [correlation for _, correlation, _ in requests]
         for topic, correlation, address in requests:
             request = sequence, correlation
             if address not in ('0.0.0.0', '::'):
@@ -229,13 +232,18 @@ class End(Trips):
             else:
                 for one in self.announced:
                     if one['address'] != source and one.get('deleted', {'refused': True})['refused']:
-                        one['deleted'] = {'packet': packet, 'request': request, 'refused': False}
+                        one['deleted'] = {'packet': packet, 'request': request, 'refused': False, 'accepted': None}
 
-    def refuse(self, request):
-        for one in self.announced:
-            for topic in TOPICS.values():
-                if topic in one and one[topic]['request'] == request:
-                    one[topic]['refused'] = True
+    def answer(self, sequence, refused, granted, packet):
+        """What an ASCONF ACK says of the requests of its ASCONF: those without a response succeeded, unless one before them failed (RFC
+        5061 section 5.1, A7 and A8)."""
+        has_failed = False
+        for correlation in self.correlations.get(sequence, ()):
+            fails = correlation in refused or has_failed and correlation not in granted
+            has_failed |= fails
+            for said in (one[topic] for one in self.announced for topic in TOPICS.values() if topic in one):
+                if said['request'] == (sequence, correlation) and not said['refused'] and not said['accepted']:
+                    said.update(refused=True) if fails else said.update(accepted=packet)
 
     def respond(self, response):
         for one in self.asked[-8:]:
@@ -418,6 +426,9 @@ class Model:
             sender.gaps += bool(value[2])
             if value[1] == 0:
                 sender.closed.append(number)
+                sender.opened = None
+            elif sender.closed:
+                sender.opened = sender.opened or number
             if sender.window is None or value[1] < sender.window[0]:
                 sender.window = value[1], number
             receiver.note_acknowledged(value[0], number)
@@ -438,8 +449,7 @@ class Model:
         elif kind == ASCONF:
             sender.note_asconf(*value, packet['route'][0][0], number)
         elif kind == ASCONF_ACK:
-            for correlation in value[1]:
-                receiver.refuse((value[0], correlation))
+            receiver.answer(*value, number)
         elif kind == ERROR:
             sender.stale += value
         elif kind == HEARTBEAT:
@@ -486,12 +496,13 @@ def asconf(take):
 
 
 def asconf_ack(take):
-    """Returns the number of an ASCONF ACK, which has its packet alone, and the correlation ids that it refuses."""
+    """Returns the number of an ASCONF ACK, which has its packet alone, and the correlation ids that it refuses, and
+    those that it grants."""
     sequence = number(next(take['sctp.asconf_ack_seq_nr_number']))
     # those of the requests in its causes, too
     kinds = [kind for kind in map(number, take['sctp.parameter_type']) if kind not in ADDRESSES]
     answers = [(kind, number(next(take['sctp.correlation_id']))) for kind in kinds]
-    return sequence, [correlation for kind, correlation in answers if kind == REFUSAL]
+    return (sequence, *([correlation for kind, correlation in answers if kind == one] for one in (REFUSAL, GRANT)))
 
 
 def packets(path, refused, file=0):
@@ -599,11 +610,18 @@ def expected_address(address, at, knows_sources):
         one.update(at(address['added']['packet'], 'packet', 'file'), chunk=NAMES[address['added']['chunk']])
         if not address['used'] and knows_sources:
             one['never_used'] = True
-    for topic, key in ('added', 'refused'), ('primary', 'primary_refused'), ('deleted', 'deleted_refused'):
+    for topic in 'added', 'primary', 'deleted':
         if topic in address and topic != 'added':
             one.update(at(address[topic]['packet'], topic + '_packet'))
-        if topic in address and address[topic]['refused']:
-            one[key] = True
+        if topic not in address or not address[topic]['request']:
+            continue
+        front = '' if topic == 'added' else topic + '_'
+        if address[topic]['refused']:
+            one[front + 'refused'] = True
+        elif address[topic]['accepted']:
+            one.update(at(address[topic]['accepted'], front + 'accepted_packet'))
+        else:
+            one[front + 'unanswered'] = True
     return one
 
 
@@ -641,6 +659,8 @@ def expected_end(end, digits, paths):
         one.update(least_a_rwnd=end.window[0], **at(end.window[1], 'least_a_rwnd_packet'))
     if end.closed:
         one.update(at(end.closed[0], 'closed_first'), **at(end.closed[-1], 'closed_last'))
+    if end.opened:
+        one.update(at(end.opened, 'opened_packet'))
     one.update(heartbeats=end.sent, heartbeats_unanswered=len(end.pending))
     if end.pending:
         one.update(at(max(packet for _, packet in end.pending), 'last_unanswered'))

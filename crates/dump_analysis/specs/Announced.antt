@@ -1,15 +1,30 @@
 -- What an end says of its addresses (RFC 9260 section 3.3.2.1, RFC 5061 section 4.2), and what the
--- other end refuses (RFC 5061 section 4.2.3).
+-- other end answers (RFC 5061 sections 4.2.3 and 4.2.5).
 use Rattle.std.specs.Prelude.{◌≡◌, ◌<◌, ◌==◌, ◌&&◌, not, Bool, true, false, ℕ, if◌then◌else◌, List, get_or, length, Option, Some, None, IsSome, option_map}
 use Rattle.dump_analysis.specs.declared.announced.Announced.{Announced}
+use Rattle.dump_analysis.specs.declared.announced.Answer.{Answer}
+use Rattle.dump_analysis.specs.declared.announced.Answer.TheVariants.{Accepted, Refused, Unclear}
 use Rattle.dump_analysis.specs.declared.announced.RequestId.{RequestId}
 use Rattle.dump_analysis.specs.declared.announced.Statement.{Statement}
 use Rattle.dump_analysis.specs.declared.announced.Topic.{Topic}
 use Rattle.dump_analysis.specs.declared.announced.Topic.TheVariants.{Added, Primary, Deleted}
 
+abbrev pub is_refused : Option Answer → Bool
+is_refused (Some Refused) = true
+is_refused (Some (Accepted _)) = false
+is_refused (Some Unclear) = false
+is_refused None = false
+
+-- whether it succeeded is known
+abbrev pub is_settled : Option Answer → Bool
+is_settled (Some Refused) = true
+is_settled (Some (Accepted _)) = true
+is_settled (Some Unclear) = false
+is_settled None = false
+
 -- it was said, and not refused
 abbrev pub holds : Option Statement → Bool
-holds (Some s) = not s.is_refused
+holds (Some s) = not (is_refused s.answer)
 holds None = false
 
 abbrev pub is_deleted : Announced → Bool
@@ -27,22 +42,24 @@ is_request id (Some r) =
     (r.sequence_number == id.sequence_number) && (r.correlation_id == id.correlation_id)
 is_request id None = false
 
-abbrev pub refuse : RequestId → Statement → Statement
-refuse id s = if is_request id s.request then record s { is_refused = true } else s
+-- The first answer that says whether it succeeded stays.
+abbrev pub with_answer : RequestId → Answer → Statement → Statement
+with_answer id answer s =
+    if is_request id s.request && not (is_settled s.answer) then record s { answer = Some answer } else s
 
 -- whatever it says of an address
-abbrev pub refused : RequestId → Announced → Announced
-refused id a = record a {
-  added = option_map (refuse id) a.added;
-  primary = option_map (refuse id) a.primary;
-  deleted = option_map (refuse id) a.deleted;
+abbrev pub answered : RequestId → Answer → Announced → Announced
+answered id answer a = record a {
+  added = option_map (with_answer id answer) a.added;
+  primary = option_map (with_answer id answer) a.primary;
+  deleted = option_map (with_answer id answer) a.deleted;
 }
 
 -- of each address that is kept
-abbrev pub AreRefused : RequestId → List (Option Announced) → List (Option Announced) → Type 0
-AreRefused id before after =
+abbrev pub AreAnswered : RequestId → Answer → List (Option Announced) → List (Option Announced) → Type 0
+AreAnswered id answer before after =
     (i : ℕ) → i < length before
-    → get_or after i None ≡ option_map (refused id) (get_or before i None)
+    → get_or after i None ≡ option_map (answered id answer) (get_or before i None)
 
 -- Eight addresses are kept, and there is no room for another one.
 abbrev pub IsFull : List (Option Announced) → Type 0

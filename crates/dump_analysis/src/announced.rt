@@ -1,14 +1,17 @@
 //! The addresses that one end announced: by INIT and INIT ACK (RFC 9260 section 3.3.2.1), and by
 //! ASCONF (RFC 5061 section 4.2).
 
-ghost use Rattle.std.specs.Prelude.{◌≡◌, false, IsSome, option_map};
-ghost use Rattle.dump_analysis.specs.Announced.{is_deleted, with_statement, refuse, refused, AreRefused, IsFull};
+ghost use Rattle.std.specs.Prelude.{◌≡◌, false, not, IsSome, option_map};
+ghost use Rattle.dump_analysis.specs.Announced.{is_deleted, is_refused, is_settled, with_statement, with_answer, answered, AreAnswered, IsFull};
 
 use crate::chunk_type::{ASCONF, ASCONF_ACK, INIT, INIT_ACK};
 use crate::counts::{SeenPacket, increase};
 use crate::packet_number::PacketNumber;
 use dcsctp_borrowed::part::{Item, Part};
-use dcsctp_registry::registered_parameter::{ERROR_CAUSE_INDICATION, RegisteredParameter};
+use dcsctp_registry::address::{IPV4_ADDRESS, IPV6_ADDRESS};
+use dcsctp_registry::registered_parameter::{
+    ERROR_CAUSE_INDICATION, RegisteredParameter, SUCCESS_INDICATION,
+};
 use dcsctp_wire::packet::init_chunk::InitNumbers;
 use dcsctp_wire::packet::parameter::RawParameter;
 use dcsctp_wire::packet::read_u32_be;
@@ -17,21 +20,35 @@ use std::net::IpAddr;
 /// How many addresses of an end are kept.
 const MOST: usize = 8;
 
+/// How many requests of an end are kept in their order.
+const MOST_REQUESTS: usize = 16;
+
 /// Bytes of the Sequence Number of an ASCONF and of an ASCONF ACK, before their parameters (RFC
 /// 5061 sections 4.1.1 and 4.1.2).
 const SEQUENCE_NUMBER_SIZE: usize = 4;
 
-/// Bytes of the ASCONF-Response Correlation ID at the front of an Error Cause Indication (RFC 5061
-/// section 4.2.3).
+/// Bytes of the correlation id at the front of a request and of a response (RFC 5061 section 4.2).
 const CORRELATION_ID_SIZE: usize = 4;
 
-/// By what an ASCONF ACK refuses a request.
+/// By what an ASCONF ACK answers a request.
 #[derive(Clone, Copy, Debug)]
 pub struct RequestId {
     /// The Sequence Number of its ASCONF (RFC 5061 section 4.1.1).
     pub sequence_number: u32,
     /// Its own ASCONF-Request Correlation ID (RFC 5061 section 4.2).
     pub correlation_id: u32,
+}
+
+/// What an ASCONF ACK says of a request.
+#[derive(Clone, Copy, Debug)]
+pub enum Answer {
+    /// It succeeded: the number of the ASCONF ACK's packet.
+    Accepted(PacketNumber),
+    /// It failed.
+    Refused,
+    /// That isn't known: not all of the ASCONF ACK was captured or can be read, or its packet is
+    /// refused.
+    Unclear,
 }
 
 /// Where an end said something of an address of its own.
@@ -43,8 +60,29 @@ pub struct Statement {
     pub packet: PacketNumber,
     /// Which request it is, in an ASCONF.
     pub request: Option<RequestId>,
-    /// Whether the other end refused it.
-    pub is_refused: bool,
+    /// What the first ASCONF ACK of which it is known says of a request; `None` if there was none.
+    pub answer: Option<Answer>,
+}
+
+impl Statement {
+    /// Returns whether it is a request that the other end refused.
+    pub fn is_refused(self) -> bool
+        ensures { result ≡ is_refused self.answer }
+    {
+        matches!(self.answer, Some(Answer::Refused))
+    }
+
+    /// Returns whether it is a request of which no ASCONF ACK was seen.
+    pub fn is_unanswered(self) -> bool {
+        self.request.is_some() && self.answer.is_none()
+    }
+
+    /// Returns whether what was asked succeeded or failed isn't known.
+    fn is_open(self) -> bool
+        ensures { result ≡ not (is_settled self.answer) }
+    {
+        matches!(self.answer, None | Some(Answer::Unclear))
+    }
 }
 
 /// What an end says of an address of its own.
@@ -91,7 +129,7 @@ impl Announced {
         ensures { result ≡ is_deleted self.now }
     {
         match self.deleted {
-            Some(deleted) => !deleted.is_refused,
+            Some(deleted) => !deleted.is_refused(),
             None => false,
         }
     }
@@ -118,7 +156,7 @@ impl Announced {
         ensures { result ≡ with_statement Topic.Added statement self }
     {
         match self.added {
-            Some(added) if !added.is_refused => self,
+            Some(added) if !added.is_refused() => self,
             _ => Announced {
                 added: Some(statement),
                 ..self
@@ -126,14 +164,14 @@ impl Announced {
         }
     }
 
-    /// Returns it once the other end refused a request.
-    fn refused(self, id: RequestId) -> Announced
-        ensures { result ≡ refused id self }
+    /// Returns it once the other end answered a request.
+    fn answered(self, id: RequestId, answer: Answer) -> Announced
+        ensures { result ≡ answered id answer self }
     {
         Announced {
-            added: refused_by(self.added, id),
-            primary: refused_by(self.primary, id),
-            deleted: refused_by(self.deleted, id),
+            added: answered_statement(self.added, id, answer),
+            primary: answered_statement(self.primary, id, answer),
+            deleted: answered_statement(self.deleted, id, answer),
             ..self
         }
     }
@@ -154,24 +192,29 @@ fn room_for(address: IpAddr, slot: Option<Announced>) -> Option<Announced>
     }
 }
 
-/// Returns an address, if there is one, once the other end refused a request.
-fn refused_address(known: Option<Announced>, id: RequestId) -> Option<Announced>
-    ensures { result ≡ option_map (refused id) known }
+/// Returns an address, if there is one, once the other end answered a request.
+fn answered_address(known: Option<Announced>, id: RequestId, answer: Answer) -> Option<Announced>
+    ensures { result ≡ option_map (answered id answer) known }
 {
-    Some(known?.refused(id))
+    Some(known?.answered(id, answer))
 }
 
-/// Returns a statement once the other end refused a request.
-fn refused_by(statement: Option<Statement>, id: RequestId) -> Option<Statement>
-    ensures { result ≡ option_map (refuse id) statement }
+/// Returns a statement once the other end answered a request.
+fn answered_statement(
+    statement: Option<Statement>,
+    id: RequestId,
+    answer: Answer,
+) -> Option<Statement>
+    ensures { result ≡ option_map (with_answer id answer) statement }
 {
     let statement = statement?;
     match statement.request {
         Some(request)
             if request.sequence_number == id.sequence_number
-                && request.correlation_id == id.correlation_id => {
+                && request.correlation_id == id.correlation_id
+                && statement.is_open() => {
             Some(Statement {
-                is_refused: true,
+                answer: Some(answer),
                 ..statement
             })
         }
@@ -189,6 +232,8 @@ pub struct Announcements {
     pub more: u64,
     // the number of the last ASCONF
     sequence_number: Option<u32>,
+    // the last requests, of any type, in their order
+    requests: [Option<RequestId>; MOST_REQUESTS],
 }
 
 impl Announcements {
@@ -198,6 +243,7 @@ impl Announcements {
             list: [None; MOST],
             more: 0,
             sequence_number: None,
+            requests: [None; MOST_REQUESTS],
         }
     }
 
@@ -213,19 +259,28 @@ impl Announcements {
         }
     }
 
-    /// Notes what a chunk that the other end sent refuses.
-    pub fn note_received(&mut self, chunk: Item<'_>) {
+    /// Notes what a chunk that the other end sent answers. Where an ASCONF ACK has no response to a
+    /// request, this succeeded, unless one before it failed (RFC 5061 section 5.1, rules A7 and A8).
+    pub fn note_received(&mut self, packet: &SeenPacket<'_>, chunk: Item<'_>) {
         if chunk.first != ASCONF_ACK || chunk.value.bytes.len() < SEQUENCE_NUMBER_SIZE {
             return;
         }
         let sequence_number = read_u32_be(chunk.value.bytes);
-        for parameter in chunk.value.after(SEQUENCE_NUMBER_SIZE).items() {
-            let value = parameter.value.bytes;
-            if parameter.code() == ERROR_CAUSE_INDICATION && value.len() >= CORRELATION_ID_SIZE {
-                self.refuse(RequestId {
-                    sequence_number,
-                    correlation_id: read_u32_be(value),
-                });
+        let responses = chunk.value.after(SEQUENCE_NUMBER_SIZE);
+        let is_clear = are_readable(responses) && !packet.is_refused;
+        let mut has_failed = false;
+        for request in self.requests {
+            if let Some(id) = request
+                && id.sequence_number == sequence_number
+            {
+                let answer = match response_to(id, responses, packet.number) {
+                    Some(answer) => answer,
+                    None if !is_clear => Answer::Unclear,
+                    None if has_failed => Answer::Refused,
+                    None => Answer::Accepted(packet.number),
+                };
+                has_failed |= matches!(answer, Answer::Refused);
+                self.answer(id, answer);
             }
         }
     }
@@ -248,7 +303,7 @@ impl Announcements {
             chunk: chunk.first,
             packet,
             request: None,
-            is_refused: false,
+            answer: None,
         };
         let mut left_out = 0;
         for parameter in chunk.value.after(InitNumbers::SIZE).items() {
@@ -273,19 +328,31 @@ impl Announcements {
         }
         self.sequence_number = Some(sequence_number);
         for parameter in value.after(SEQUENCE_NUMBER_SIZE).items() {
-            if let Some((topic, correlation_id, address)) = request(parameter) {
-                let statement = Statement {
-                    chunk: ASCONF,
-                    packet,
-                    request: Some(RequestId {
-                        sequence_number,
-                        correlation_id,
-                    }),
-                    is_refused: false,
+            if let Some(correlation_id) = correlation_id_of(parameter) {
+                let id = RequestId {
+                    sequence_number,
+                    correlation_id,
                 };
-                self.note_request(address, topic, statement, source);
+                self.keep_request(id);
+                if let Some((topic, address)) = request(parameter) {
+                    let statement = Statement {
+                        chunk: ASCONF,
+                        packet,
+                        request: Some(id),
+                        answer: None,
+                    };
+                    self.note_request(address, topic, statement, source);
+                }
             }
         }
+    }
+
+    /// Keeps a request as the last one.
+    fn keep_request(&mut self, id: RequestId) {
+        for i in 1..MOST_REQUESTS {
+            self.requests[i - 1] = self.requests[i];
+        }
+        self.requests[MOST_REQUESTS - 1] = Some(id);
     }
 
     /// Notes a request in a packet from this source. An address of all zeros stands for the source,
@@ -334,14 +401,49 @@ impl Announcements {
         }
     }
 
-    /// Notes that the other end refused a request.
-    fn refuse(&mut self, id: RequestId)
-        ensures { AreRefused id self.old.list self.new.list }
+    /// Notes that the other end answered a request.
+    fn answer(&mut self, id: RequestId, answer: Answer)
+        ensures { AreAnswered id answer self.old.list self.new.list }
     {
         for i in 0..MOST {
-            self.list[i] = refused_address(self.list[i], id);
+            self.list[i] = answered_address(self.list[i], id, answer);
         }
     }
+}
+
+/// Returns the correlation id of a parameter of an ASCONF; `None` if it is no request, but the
+/// address by which the association is found (RFC 5061 section 4.1.1), or if it wasn't captured.
+fn correlation_id_of(parameter: Item<'_>) -> Option<u32> {
+    let value = parameter.value.bytes;
+    let is_address = matches!(parameter.code(), IPV4_ADDRESS | IPV6_ADDRESS);
+    if is_address || value.len() < CORRELATION_ID_SIZE {
+        return None;
+    }
+    Some(read_u32_be(value))
+}
+
+/// Returns whether all of these responses were captured, and lie one after the other to the end.
+fn are_readable(responses: Part<'_>) -> bool {
+    let mut size = 0usize;
+    for response in responses.items() {
+        size = size.saturating_add(response.padded);
+    }
+    responses.is_whole() && size >= responses.size
+}
+
+/// Returns what the responses in an ASCONF ACK, in a packet with this number, say of a request.
+fn response_to(id: RequestId, responses: Part<'_>, packet: PacketNumber) -> Option<Answer> {
+    for response in responses.items() {
+        let value = response.value.bytes;
+        if value.len() >= CORRELATION_ID_SIZE && read_u32_be(value) == id.correlation_id {
+            match response.code() {
+                ERROR_CAUSE_INDICATION => return Some(Answer::Refused),
+                SUCCESS_INDICATION => return Some(Answer::Accepted(packet)),
+                _ => {}
+            }
+        }
+    }
+    None
 }
 
 /// Returns what a parameter means, if all of it was captured.
@@ -355,22 +457,17 @@ fn meaning(parameter: Item<'_>) -> Option<RegisteredParameter<'_>> {
     })
 }
 
-/// Returns what a parameter of an ASCONF asks, its correlation id, and the address; `None` if it
-/// asks nothing of an address.
-fn request(parameter: Item<'_>) -> Option<(Topic, u32, IpAddr)> {
+/// Returns what a parameter of an ASCONF asks, and the address; `None` if it asks nothing of an
+/// address.
+fn request(parameter: Item<'_>) -> Option<(Topic, IpAddr)> {
     match meaning(parameter)? {
-        RegisteredParameter::AddIpAddress {
-            correlation_id,
-            address,
-        } => Some((Topic::Added, correlation_id, address.ip())),
-        RegisteredParameter::DeleteIpAddress {
-            correlation_id,
-            address,
-        } => Some((Topic::Deleted, correlation_id, address.ip())),
-        RegisteredParameter::SetPrimaryAddress {
-            correlation_id,
-            address,
-        } => Some((Topic::Primary, correlation_id, address.ip())),
+        RegisteredParameter::AddIpAddress { address, .. } => Some((Topic::Added, address.ip())),
+        RegisteredParameter::DeleteIpAddress { address, .. } => {
+            Some((Topic::Deleted, address.ip()))
+        }
+        RegisteredParameter::SetPrimaryAddress { address, .. } => {
+            Some((Topic::Primary, address.ip()))
+        }
         _ => None,
     }
 }

@@ -5,8 +5,10 @@ ghost use Rattle.dump_capture.specs.Number.{one_more};
 ghost use Rattle.dump_analysis.specs.Counts.{CountsPacket, packet_of};
 ghost use Rattle.dump_analysis.specs.Sides.{counts_of, end_of, other};
 
-use crate::authentication::Authentication;
-use crate::chunk_type::{ABORT, COOKIE_ACK, INIT, NR_SACK, SACK, SHUTDOWN_COMPLETE};
+use crate::authentication::{AuthVerdict, Authentication};
+use crate::chunk_type::{
+    ABORT, ASCONF, ASCONF_ACK, COOKIE_ACK, INIT, NR_SACK, SACK, SHUTDOWN_COMPLETE,
+};
 use crate::counts::SeenPacket;
 use crate::end::{End, Learned};
 use crate::key::Route;
@@ -165,8 +167,9 @@ impl Association {
         }
     }
 
-    /// Counts a packet that an end sent. Returns how its TSNs follow those before.
-    pub fn note(&mut self, sender: Side, packet: &SeenPacket<'_>) -> Sequence
+    /// Counts a packet that an end sent, and in which this is found of AUTH. Returns how its TSNs
+    /// follow those before.
+    pub fn note(&mut self, sender: Side, packet: &SeenPacket<'_>, found: Authentication) -> Sequence
         ensures sender { CountsPacket (counts_of sender self.old) (packet_of packet.now)
             (counts_of sender self.new) }
         ensures receiver { counts_of (other sender) self.new ≡ counts_of (other sender) self.old }
@@ -174,8 +177,8 @@ impl Association {
             ≡ one_more (counts_of sender self.old).packets }
     {
         let sequence = match sender {
-            Side::First => note_between(&mut self.first, &mut self.second, packet),
-            Side::Second => note_between(&mut self.second, &mut self.first, packet),
+            Side::First => note_between(&mut self.first, &mut self.second, packet, found),
+            Side::Second => note_between(&mut self.second, &mut self.first, packet, found),
         };
         self.passes |= packet.passes;
         if self.established.is_none() {
@@ -210,8 +213,14 @@ fn authenticate_between(sender: &mut End, receiver: &End, packet: &SeenPacket<'_
     found
 }
 
-/// Counts a packet that one end sent to another. Returns how its TSNs follow those before.
-fn note_between(sender: &mut End, receiver: &mut End, packet: &SeenPacket<'_>) -> Sequence
+/// Counts a packet that one end sent to another, and in which this is found of AUTH. Returns how its
+/// TSNs follow those before.
+fn note_between(
+    sender: &mut End,
+    receiver: &mut End,
+    packet: &SeenPacket<'_>,
+    found: Authentication,
+) -> Sequence
     ensures sender { CountsPacket sender.old.counts (packet_of packet.now) sender.new.counts }
     ensures receiver { receiver.new.counts ≡ receiver.old.counts }
     ensures packets { sender.new.counts.packets ≡ one_more sender.old.counts.packets }
@@ -226,9 +235,19 @@ fn note_between(sender: &mut End, receiver: &mut End, packet: &SeenPacket<'_>) -
             sequence.count(step);
         }
         receiver.note_received(packet, chunk);
+        if !is_discarded(chunk, found) {
+            sender.announced.note_sent(packet, chunk);
+            receiver.announced.note_received(packet, chunk);
+        }
     }
     sender.announced.note_source(source);
     sequence
+}
+
+/// Returns whether a chunk is an ASCONF or an ASCONF ACK in a packet whose AUTH is wrong: its
+/// receiver discards it (RFC 4895 section 6.3, RFC 5061 section 5.2).
+fn is_discarded(chunk: Item<'_>, found: Authentication) -> bool {
+    matches!(found.verdict, Some(AuthVerdict::Wrong)) && matches!(chunk.first, ASCONF | ASCONF_ACK)
 }
 
 /// Returns how a packet shows that the association is established, if it does: by a COOKIE ACK, or

@@ -445,8 +445,8 @@ fn count_of(
         ≡ packets_in table.old.items + (if is_some result then 1 else 0) }
 {
     let association = table.get_mut(flow.slot)?;
-    let sequence = association.note(flow.sender, packet);
     let authentication = association.authenticate(flow.sender, packet);
+    let sequence = association.note(flow.sender, packet, authentication);
     Some(Membership {
         association: association.number,
         sender: flow.sender,

@@ -7,7 +7,7 @@ use crate::json::index_of;
 use crate::moment::Moment;
 use crate::packet_number::{PacketKeys, PacketNumber, PacketText};
 use crate::round_trips::RoundTrips;
-use crate::time::{TimeForm, TimeStyle};
+use crate::time::{TimeJson, TimeStyle};
 use dump_text::hexadecimal::write_digits;
 use dump_text::json_text::JsonText;
 use dump_text::printed::Quoted;
@@ -350,11 +350,8 @@ impl<'a> ChannelJson<'a> {
         let Some(nanoseconds) = moment.nanoseconds else {
             return Ok(());
         };
-        let time = self.0.style.time(nanoseconds);
-        match self.0.style.form {
-            TimeForm::Seconds => write!(f, ",\"{key}\":{time}"),
-            TimeForm::Iso | TimeForm::Utc => write!(f, ",\"{key}\":\"{time}\""),
-        }
+        let time = TimeJson(self.0.style.time(nanoseconds));
+        write!(f, ",\"{key}\":{time}")
     }
 
     /// Writes a packet's number, and its file's name.

@@ -93,6 +93,9 @@ pub struct End {
     pub skipped: Option<Skipped>,
     /// When it had no room, if it ever said so.
     pub closed: Option<Closed>,
+    /// The number of the packet of its first SACK with an a_rwnd that isn't 0 after the last one with
+    /// 0, if there was one.
+    pub opened: Option<PacketNumber>,
     /// Its HEARTBEATs that weren't answered.
     pub heartbeats: Unanswered,
     /// Its requests to reconfigure streams.
@@ -133,6 +136,7 @@ impl End {
             acknowledged: None,
             skipped: None,
             closed: None,
+            opened: None,
             heartbeats: Unanswered::new(),
             requests: Requests::new(),
             round_trips: RoundTrips::new(),
@@ -184,7 +188,6 @@ impl End {
     pub fn note_sent(&mut self, packet: &SeenPacket<'_>, chunk: Item<'_>) -> Option<Step>
         ensures { self.new.counts ≡ self.old.counts }
     {
-        self.announced.note_sent(packet, chunk);
         let value = chunk.value.bytes;
         match chunk.first {
             DATA | I_DATA if value.len() >= 4 => {
@@ -218,7 +221,6 @@ impl End {
                     .acknowledge(acknowledged, nanoseconds, packet.number);
             }
         }
-        self.announced.note_received(chunk);
         match chunk.first {
             HEARTBEAT_ACK => self.heartbeats.answer(digest(chunk.value.bytes)),
             RE_CONFIG => self.requests.note_received(chunk.value),
@@ -231,8 +233,12 @@ impl End {
         ensures { self.new.counts ≡ self.old.counts }
     {
         if a_rwnd > 0 {
+            if self.closed.is_some() {
+                self.opened = self.opened.or(Some(packet));
+            }
             return;
         }
+        self.opened = None;
         let first = match self.closed {
             Some(closed) => closed.first,
             None => packet,

@@ -1,6 +1,6 @@
 //! An association, as JSON.
 
-use crate::announced::{Announced, Statement};
+use crate::announced::{Announced, Answer, Statement};
 use crate::association::{Association, Began, Ended, Established, Side};
 use crate::authentication_text::AuthenticationCountsJson;
 use crate::counts::Counts;
@@ -10,7 +10,7 @@ use crate::packet_number::{PacketKeys, PacketNumber, file_of};
 use crate::path::Path;
 use crate::paths::Paths;
 use crate::round_trips::RoundTrips;
-use crate::time::{TimeForm, TimeStyle};
+use crate::time::{TimeJson, TimeStyle};
 use crate::transport::Transport;
 use dump_text::json_text::JsonText;
 use dump_text::names::ChunkName;
@@ -231,31 +231,33 @@ impl<'a> AssociationJson<'a> {
         write!(f, "{{\"address\":\"{address}\"")?;
         if let Some(added) = announced.added {
             write_chunk(added.chunk, f)?;
-            self.write_statement(("packet", "file", "refused"), added, f)?;
+            self.write_statement(&ADDED_KEYS, added, f)?;
         }
         if let Some(primary) = announced.primary {
-            let keys = ("primary_packet", "primary_file", "primary_refused");
-            self.write_statement(keys, primary, f)?;
+            self.write_statement(&PRIMARY_KEYS, primary, f)?;
         }
         if let Some(deleted) = announced.deleted {
-            let keys = ("deleted_packet", "deleted_file", "deleted_refused");
-            self.write_statement(keys, deleted, f)?;
+            self.write_statement(&DELETED_KEYS, deleted, f)?;
         }
         Ok(())
     }
 
-    /// Writes the packet of a statement, its file, and whether it was refused.
+    /// Writes the packet of a statement, its file, and how it was answered.
     fn write_statement<W: fmt::Write>(
         &self,
-        (key, file_key, refused_key): (&'static str, &'static str, &'static str),
+        keys: &StatementKeys,
         statement: Statement,
         f: &mut fmt::Formatter<W>,
     ) -> fmt::Result {
-        self.write_packet(key, file_key, Some(statement.packet), f)?;
-        if !statement.is_refused {
-            return Ok(());
+        self.write_packet(keys.packet, keys.file, Some(statement.packet), f)?;
+        match statement.answer {
+            Some(Answer::Accepted(packet)) => {
+                self.write_packet(keys.accepted_packet, keys.accepted_file, Some(packet), f)
+            }
+            Some(Answer::Refused) => write_true(keys.refused, f),
+            None if statement.is_unanswered() => write_true(keys.unanswered, f),
+            Some(Answer::Unclear) | None => Ok(()),
         }
-        write!(f, ",\"{refused_key}\":true")
     }
 
     /// Writes the round trips of an end's DATA.
@@ -326,6 +328,7 @@ impl<'a> AssociationJson<'a> {
         if let Some(closed) = end.closed {
             self.write_packet("closed_first", "closed_first_file", Some(closed.first), f)?;
             self.write_packet("closed_last", "closed_last_file", Some(closed.last), f)?;
+            self.write_packet("opened_packet", "opened_file", end.opened, f)?;
         }
         Ok(())
     }
@@ -393,7 +396,7 @@ impl<'a> AssociationJson<'a> {
         write!(f, "{keys}")
     }
 
-    /// Writes a time, if it is known: a number, unless it is a date or a clock's.
+    /// Writes a time, if it is known.
     fn write_time<W: fmt::Write>(
         &self,
         nanoseconds: Option<u64>,
@@ -402,11 +405,8 @@ impl<'a> AssociationJson<'a> {
         let Some(nanoseconds) = nanoseconds else {
             return Ok(());
         };
-        let time = self.style.time(nanoseconds);
-        match self.style.form {
-            TimeForm::Seconds => write!(f, ",\"time\":{time}"),
-            TimeForm::Iso | TimeForm::Utc => write!(f, ",\"time\":\"{time}\""),
-        }
+        let time = TimeJson(self.style.time(nanoseconds));
+        write!(f, ",\"time\":{time}")
     }
 
     /// Writes a span of time, in seconds.
@@ -419,6 +419,51 @@ impl<'a> AssociationJson<'a> {
         let seconds = self.style.seconds(nanoseconds);
         write!(f, ",\"{key}\":{seconds}")
     }
+}
+
+/// The keys of a statement about an address.
+struct StatementKeys {
+    packet: &'static str,
+    file: &'static str,
+    accepted_packet: &'static str,
+    accepted_file: &'static str,
+    refused: &'static str,
+    unanswered: &'static str,
+}
+
+/// Those of what added it.
+const ADDED_KEYS: StatementKeys = StatementKeys {
+    packet: "packet",
+    file: "file",
+    accepted_packet: "accepted_packet",
+    accepted_file: "accepted_file",
+    refused: "refused",
+    unanswered: "unanswered",
+};
+
+/// Those of what asked to send to it.
+const PRIMARY_KEYS: StatementKeys = StatementKeys {
+    packet: "primary_packet",
+    file: "primary_file",
+    accepted_packet: "primary_accepted_packet",
+    accepted_file: "primary_accepted_file",
+    refused: "primary_refused",
+    unanswered: "primary_unanswered",
+};
+
+/// Those of what deleted it.
+const DELETED_KEYS: StatementKeys = StatementKeys {
+    packet: "deleted_packet",
+    file: "deleted_file",
+    accepted_packet: "deleted_accepted_packet",
+    accepted_file: "deleted_accepted_file",
+    refused: "deleted_refused",
+    unanswered: "deleted_unanswered",
+};
+
+/// Writes a key that is true.
+fn write_true<W: fmt::Write>(key: &'static str, f: &mut fmt::Formatter<W>) -> fmt::Result {
+    write!(f, ",\"{key}\":true")
 }
 
 /// Returns the place of an end in the list of both.

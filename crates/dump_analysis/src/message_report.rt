@@ -5,7 +5,7 @@ use crate::end::Closed;
 use crate::message::{Fate, Message};
 use crate::moment::Moment;
 use crate::packet_number::{PacketKeys, PacketText};
-use crate::time::{TimeForm, TimeStyle};
+use crate::time::{TimeJson, TimeStyle};
 use dump_text::hexadecimal::{write_digits, write_row};
 use dump_text::json_text::JsonText;
 use dump_text::names::ChunkName;
@@ -348,11 +348,8 @@ impl<'a> MessageJson<'a> {
         let Some(nanoseconds) = moment.nanoseconds else {
             return Ok(());
         };
-        let time = self.0.style.time(nanoseconds);
-        match self.0.style.form {
-            TimeForm::Seconds => write!(f, ",\"{key}\":{time}"),
-            TimeForm::Iso | TimeForm::Utc => write!(f, ",\"{key}\":\"{time}\""),
-        }
+        let time = TimeJson(self.0.style.time(nanoseconds));
+        write!(f, ",\"{key}\":{time}")
     }
 
     /// Writes a packet's number, and its file's name.

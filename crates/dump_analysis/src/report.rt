@@ -1,6 +1,6 @@
 //! An association, as text.
 
-use crate::announced::{Announced, Statement};
+use crate::announced::{Announced, Answer, Statement};
 use crate::association::{Association, Began, Ended, Established, Side};
 use crate::counts::Counts;
 use crate::end::End;
@@ -111,7 +111,7 @@ impl<'a> AssociationReport<'a> {
         Ok(())
     }
 
-    /// Writes the packet of a request, whether it was refused, and the end of the brackets.
+    /// Writes the packet of a request, how it was answered, and the end of the brackets.
     fn write_place<W: fmt::Write>(
         &self,
         statement: Statement,
@@ -119,11 +119,15 @@ impl<'a> AssociationReport<'a> {
     ) -> fmt::Result {
         let packet = self.packet(statement.packet);
         write!(f, "{packet}")?;
-        f.write_str(if statement.is_refused {
-            ", refused)"
-        } else {
-            ")"
-        })
+        match statement.answer {
+            Some(Answer::Accepted(packet)) => {
+                let packet = self.packet(packet);
+                write!(f, ", accepted in {packet})")
+            }
+            Some(Answer::Refused) => f.write_str(", refused)"),
+            None if statement.is_unanswered() => f.write_str(", never answered)"),
+            Some(Answer::Unclear) | None => f.write_str(")"),
+        }
     }
 
     /// Writes the line of the first packet.
@@ -330,17 +334,20 @@ impl<'a> AssociationReport<'a> {
         if let Some(closed) = end.closed {
             let (first, last) = (self.packet(closed.first), closed.last);
             write!(f, ", a_rwnd 0 from {first} to ")?;
-            return self.write_last(closed.first, last, f);
-        }
-        if let Some(window) = end.counts.least_window {
+            self.write_last(closed.first, last, f)?;
+            if let Some(opened) = end.opened {
+                let packet = self.packet(opened);
+                write!(f, ", open in {packet}")?;
+            }
+        } else if let Some(window) = end.counts.least_window {
             let (a_rwnd, packet) = (window.a_rwnd, self.packet(window.packet));
             write!(f, ", least a_rwnd {a_rwnd} ({packet})")?;
         }
         f.write_str("\n")
     }
 
-    /// Writes the last packet of a span to the end of the line: its number alone, if it is of the
-    /// same file as the first one.
+    /// Writes the last packet of a span: its number alone, if it is of the same file as the first
+    /// one.
     fn write_last<W: fmt::Write>(
         &self,
         first: PacketNumber,
@@ -349,10 +356,10 @@ impl<'a> AssociationReport<'a> {
     ) -> fmt::Result {
         if first.file == last.file {
             let number = last.number;
-            return writeln!(f, "{number}");
+            return write!(f, "{number}");
         }
         let packet = self.packet(last);
-        writeln!(f, "{packet}")
+        write!(f, "{packet}")
     }
 
     /// Writes the line of HEARTBEATs.

@@ -23,6 +23,9 @@ pub enum TimeForm {
     Iso,
     /// Time of day in UTC, as `12:34:56.000120`.
     Utc,
+    /// Seconds since this time, given in nanoseconds since 1970-01-01 00:00:00 UTC, as `1.000120`;
+    /// of an earlier one as `-1.000120`.
+    Relative(u64),
 }
 
 /// How the times of a capture are written.
@@ -85,6 +88,31 @@ impl fmt::Display for TimeReport {
                 write_clock(seconds % DAY, f)?;
                 write_fraction(fraction, self.digits, f)
             }
+            TimeForm::Relative(since) => {
+                if self.nanoseconds < since {
+                    f.write_str("-")?;
+                }
+                let nanoseconds = self.nanoseconds.abs_diff(since);
+                let seconds = SecondsReport {
+                    nanoseconds,
+                    digits: self.digits,
+                };
+                write!(f, "{seconds}")
+            }
+        }
+    }
+}
+
+/// A time as a value of JSON: a number of seconds; a string where it is a date or a time of day.
+#[derive(Clone, Copy, Debug)]
+pub struct TimeJson(pub TimeReport);
+
+impl fmt::Display for TimeJson {
+    fn fmt<W: fmt::Write>(&self, f: &mut fmt::Formatter<W>) -> fmt::Result {
+        let time = self.0;
+        match time.form {
+            TimeForm::Seconds | TimeForm::Relative(_) => write!(f, "{time}"),
+            TimeForm::Iso | TimeForm::Utc => write!(f, "\"{time}\""),
         }
     }
 }

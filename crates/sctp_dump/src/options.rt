@@ -158,8 +158,14 @@ impl Options {
         if self.faults && !self.prints_packets() {
             return Some("--faults needs packets, which aren't printed");
         }
-        if self.prints_packets() || self.associations || self.follows_messages() {
+        if self.prints_packets() {
             return None;
+        }
+        if self.associations || self.follows_messages() {
+            return match self.time {
+                TimeOption::Delta => Some("--time delta needs packets, which aren't printed"),
+                _ => None,
+            };
         }
         if self.is_filtered {
             return Some("a filter has no effect beside --summary: all packets are counted");

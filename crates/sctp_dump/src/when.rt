@@ -96,12 +96,14 @@ impl Clock {
         since
     }
 
-    /// Returns how the times of an association are printed.
+    /// Returns how the times of associations, messages and channels are printed: those from the
+    /// packet before on are as the capture has them.
     pub fn style(&self) -> TimeStyle {
-        let form = match self.form {
+        let form = match (self.form, self.first) {
+            (TimeOption::Relative, Some(first)) => TimeForm::Relative(first),
             _ if self.is_log => TimeForm::Utc,
-            TimeOption::Iso => TimeForm::Iso,
-            TimeOption::Utc => TimeForm::Utc,
+            (TimeOption::Iso, _) => TimeForm::Iso,
+            (TimeOption::Utc, _) => TimeForm::Utc,
             _ => TimeForm::Seconds,
         };
         TimeStyle { form, digits: 6 }
