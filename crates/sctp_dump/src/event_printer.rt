@@ -18,7 +18,7 @@ use crate::sheet::{
 };
 use crate::skipped::{Said, SkippedLine, frame_reason_of};
 use crate::tracker::Tracker;
-use crate::when::Clock;
+use crate::when::{Clock, direction_of};
 use dcsctp_borrowed::checksum::Checksum;
 use dcsctp_wire::packet::sctp_packet::FirstFault;
 use dump_analysis::rule::{BrokenRules, Known, RULES};
@@ -29,7 +29,6 @@ use dump_analysis::{
 };
 use dump_capture::event::{Part, Seen, Sink, Skipped, Time};
 use dump_capture::frame::{FoundPacket, packet_in};
-use dump_capture::line::Direction;
 use dump_io::output::Output;
 use dump_io::watched::Watched;
 use std::alloc::{AllocError, Global};
@@ -275,12 +274,12 @@ impl<W: Write> EventPrinter<W> {
         ensures warnings { self.new.warnings ≡ self.old.warnings }
     {
         let (word, fault) = (judged.word, offset_of(judged.fault.as_ref()));
-        let (direction, transport) = log_of(&seen.time);
+        let transport = transport_of(&seen.time);
         let mut packet = SeenPacket {
             number: self.files.number_of(seen.number),
             nanoseconds,
             found: *found,
-            direction,
+            direction: direction_of(&seen.time),
             transport,
             checksum: Checksum::of_packet(found.packet, found.length, word),
             is_refused: judged.verdict == Verdict::Refused,
@@ -420,15 +419,11 @@ fn failure_of(error: &io::Error) -> Failure {
     }
 }
 
-/// Returns which way a packet of a log went, and the name of its transport.
-fn log_of<'a>(time: &Time<'a>) -> (Option<Direction>, &'a [u8]) {
+/// Returns the name of the transport of a packet of a log; empty of other packets.
+fn transport_of<'a>(time: &Time<'a>) -> &'a [u8] {
     match time {
-        Time::OfDay {
-            direction,
-            transport,
-            ..
-        } => (Some(*direction), transport.as_bytes()),
-        _ => (None, b""),
+        Time::OfDay { transport, .. } => transport.as_bytes(),
+        _ => b"",
     }
 }
 
