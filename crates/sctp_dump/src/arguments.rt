@@ -27,6 +27,7 @@ Wireshark. Without a FILE, or where it is -, it reads standard input.
 What is printed:
   --brief          a line a packet, blanks only between its fields
   --json           a JSON object a line, not with --brief
+  --pcapng         a pcapng file of these packets alone, as Wireshark reads it
   --places         in JSON also the offset and size of each field
   --payload        all bytes of values, in rows, not the first 16 (64 of a text)
   --time FORM      iso, utc, relative (to the first packet) or delta (to the
@@ -178,6 +179,7 @@ impl<'a> Request<'a> {
         match word {
             "--brief" => options.take_output(OutputForm::Brief)?,
             "--json" => options.take_output(OutputForm::Json)?,
+            "--pcapng" => options.take_output(OutputForm::Pcapng)?,
             "--places" => options.places = true,
             "--payload" => options.payload = true,
             "--associations" => options.associations = true,
@@ -211,7 +213,7 @@ impl Options {
     /// Takes a form of output, if no other one was asked for.
     fn take_output(&mut self, form: OutputForm) -> Result<(), Failure> {
         if self.output != OutputForm::Blocks && self.output != form {
-            return Err(Failure::Usage("--brief and --json are two forms: give one"));
+            return Err(Failure::Usage("--brief, --json and --pcapng are forms: give one"));
         }
         self.output = form;
         Ok(())

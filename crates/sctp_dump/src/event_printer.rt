@@ -9,7 +9,8 @@ ghost use Rattle.sctp_dump.specs.Warnings.{WarnsOf, is_judged};
 use crate::counts::{Counts, Judged, Verdict};
 use crate::failure::Failure;
 use crate::files::Files;
-use crate::options::Options;
+use crate::options::{Options, OutputForm};
+use crate::pcapng_blocks::{Frame, PcapngBlocks};
 use crate::printer::Printer;
 use crate::seen::SeenLines;
 use crate::sheet::{
@@ -54,6 +55,7 @@ pub struct EventPrinter<W> {
     tracker: Tracker,
     clock: Clock,
     said: Said,
+    blocks: PcapngBlocks,
     output: Output<W>,
 }
 
@@ -75,6 +77,7 @@ impl<W: Write> EventPrinter<W> {
             tracker: Tracker::new(alloc),
             clock: Clock::new(options.time),
             said: Said::NOTHING,
+            blocks: PcapngBlocks::new(alloc),
             output: Output::new(alloc, writer),
         }
     }
@@ -133,7 +136,14 @@ impl<W: Write> EventPrinter<W> {
             &self.authentication,
             text,
         )?;
-        match self.output.finish() {
+        if self.options.output == OutputForm::Pcapng {
+            self.blocks.begin()?;
+        }
+        let written = match self.write_blocks(0) {
+            Ok(()) => self.output.finish(),
+            Err(error) => Err(error),
+        };
+        match written {
             Ok(()) => Ok(()),
             Err(error) => Err(failure_of(&error)),
         }
@@ -145,6 +155,7 @@ impl<W: Write> EventPrinter<W> {
         seen: &Seen<'a>,
         found: &FoundPacket<'a>,
         judged: &Judged,
+        frame: Frame<'_>,
     ) -> Result<(), AllocError>
         ensures options { self.new.options ≡ self.old.options }
         ensures counts { self.new.counts ≡ self.old.counts }
@@ -174,6 +185,9 @@ impl<W: Write> EventPrinter<W> {
         let since = self.clock.see(nanoseconds, is_printed);
         if !is_printed {
             return self.print_messages(ended.as_slice());
+        }
+        if self.options.output == OutputForm::Pcapng {
+            return self.blocks.push(frame, &seen.time, nanoseconds);
         }
         let shown = Shown {
             seen: SeenLines {
@@ -348,9 +362,28 @@ impl<W: Write> EventPrinter<W> {
             self.failure = Some(Failure::OutOfMemory);
             return;
         }
-        if let Err(error) = self.output.write_from(LONG) {
+        let written = match self.write_blocks(LONG) {
+            Ok(()) => self.output.write_from(LONG),
+            Err(error) => Err(error),
+        };
+        if let Err(error) = written {
             self.failure = Some(failure_of(&error));
         }
+    }
+
+    /// Writes the blocks of pcapng, if they have at least `least` bytes.
+    fn write_blocks(&mut self, least: usize) -> io::Result<()>
+        ensures options { self.new.options ≡ self.old.options }
+        ensures counts { self.new.counts ≡ self.old.counts }
+        ensures failure { self.new.failure ≡ self.old.failure }
+        ensures warnings { self.new.warnings ≡ self.old.warnings }
+    {
+        if self.blocks.bytes.len() < least {
+            return Ok(());
+        }
+        self.output.write_bytes(&self.blocks.bytes)?;
+        self.blocks.bytes.clear();
+        Ok(())
     }
 }
 
@@ -369,7 +402,12 @@ impl<W: Write> Sink for EventPrinter<W> {
         match packet_in(self.options.udp_port, link_type, original_length, bytes) {
             Ok(found) => {
                 let judged = self.counts.count_packet(&self.options, &found);
-                let outcome = self.print_packet(seen, &found, &judged);
+                let frame = Frame {
+                    link_type,
+                    original_length,
+                    bytes,
+                };
+                let outcome = self.print_packet(seen, &found, &judged, frame);
                 self.note(outcome);
             }
             Err(why) => {
@@ -404,7 +442,11 @@ impl<W: Write> Printer for EventPrinter<W> {
         if self.failure.is_some() {
             return;
         }
-        if let Err(error) = self.output.write() {
+        let written = match self.write_blocks(0) {
+            Ok(()) => self.output.write(),
+            Err(error) => Err(error),
+        };
+        if let Err(error) = written {
             self.failure = Some(failure_of(&error));
         }
     }
