@@ -186,7 +186,8 @@ impl<W: Write> EventPrinter<W> {
         if !is_printed {
             return self.print_messages(ended.as_slice());
         }
-        if self.options.output == OutputForm::Pcapng {
+        let is_file = self.options.output == OutputForm::Pcapng;
+        if is_file {
             return self.blocks.push(frame, &seen.time, nanoseconds);
         }
         let shown = Shown {

@@ -1,5 +1,7 @@
 //! Packets as the blocks of a pcapng file (draft-ietf-opsawg-pcapng), in little-endian byte order.
 
+ghost use Rattle.std.specs.Prelude.{◌≤◌, length};
+
 use crate::log_clock::DAY;
 use crate::when::direction_of;
 use dump_capture::event::Time;
@@ -71,53 +73,58 @@ impl PcapngBlocks {
     ) -> Result<(), AllocError> {
         self.begin()?;
         let interface = self.interface_of(frame.link_type)?;
-        let size = frame
-            .bytes
-            .len()
-            .min(frame.original_length as usize)
-            .min(LONGEST);
-        let padding = (4 - size % 4) % 4;
         let flags = match direction_of(time) {
             Some(Direction::Incoming) => Some(1),
             Some(Direction::Outgoing) => Some(2),
             None => None,
         };
-        let options_size = if flags.is_some() { 12 } else { 0 };
-        let length = (32 + size + padding + options_size) as u32;
-        let time = since_1970(time, nanoseconds);
-        let words = [
-            6,
-            length,
-            interface,
-            (time >> 32) as u32,
-            (time & 0xffff_ffff) as u32,
-            size as u32,
-            frame.original_length,
-        ];
-        push_words(&words, &mut self.bytes)?;
-        self.bytes.extend_from_slice(&frame.bytes[..size])?;
-        self.bytes.extend_from_slice(&[0; 3][..padding])?;
+        let time = since_1970(time, nanoseconds).to_le_bytes();
+        let captured = captured_of(&frame);
+        let padding = &[0; 3][..(4 - captured.len() % 4) % 4];
+        let data = (captured.len() + padding.len()) as u32;
+        let length = if flags.is_some() {
+            data + 44
+        } else {
+            data + 32
+        };
+        let bytes = &mut self.bytes;
+        push_words(&[6, length, interface], bytes)?;
+        bytes.extend_from_slice(&time[4..])?;
+        bytes.extend_from_slice(&time[..4])?;
+        push_words(&[captured.len() as u32, frame.original_length], bytes)?;
+        bytes.extend_from_slice(captured)?;
+        bytes.extend_from_slice(padding)?;
         if let Some(flags) = flags {
-            push_words(&[0x0004_0002, flags, 0], &mut self.bytes)?;
+            push_words(&[0x0004_0002, flags, 0], bytes)?;
         }
-        push_words(&[length], &mut self.bytes)
+        push_words(&[length], bytes)
     }
 
     /// Returns the number of the interface of a link type. Its Interface Description Block (section
     /// 4.2) is added if there is none: without a snapshot length, and with `if_tsresol` 9, which
     /// says that times are in nanoseconds.
     fn interface_of(&mut self, link_type: u16) -> Result<u32, AllocError> {
-        for i in 0..self.link_types.len() {
-            if self.link_types[i] == link_type {
-                return Ok(i as u32);
+        let mut interface: u32 = 0;
+        for known in &self.link_types {
+            if *known == link_type {
+                return Ok(interface);
             }
+            interface = interface.saturating_add(1);
         }
-        let interface = self.link_types.len() as u32;
         self.link_types.push(link_type)?;
         let words = [1, 32, u32::from(link_type), 0, 0x0001_0009, 9, 0, 32];
         push_words(&words, &mut self.bytes)?;
         Ok(interface)
     }
+}
+
+/// Returns the bytes of a frame that are written: those that were captured, up to its original
+/// length.
+fn captured_of<'a>(frame: &Frame<'a>) -> &'a [u8]
+    ensures { length result.now ≤ LONGEST }
+{
+    let size = frame.bytes.len().min(LONGEST);
+    &frame.bytes[..size.min(frame.original_length as usize)]
 }
 
 /// Returns nanoseconds since 1970-01-01 00:00:00 UTC of a time that was read as these. Of a log,
