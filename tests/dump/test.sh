@@ -9,7 +9,7 @@ Runs the program over the rows of runs.txt, and compares all that it prints, and
 of its manual page, docs/sctp_dump.1, at which mandoc, if it is there, finds nothing wrong. Then tools/rules.py has it
 ask the rules of the packets of rules.txt in examples/, it has the chunks of refused.txt and the captures in data/, reports.py compares
 what it prints of the packets of reports.txt, faults.py looks at lengths that are refused, objects.py at its JSON, forms.py
-at its three forms, logs.py at associations of logs, auth.py at AUTH, times.py at times; where tshark is, associations.py at
+at its three forms, logs.py at associations of logs, auth.py at AUTH, times.py at times, pcapng.py at the files that it writes; where tshark is, associations.py at
 associations of captures, messages.py at their messages, channels.py at their channels, and tshark.py at packets; where scapy is, scapy.py at the same; fields.py
 compares the JSON and the Python package, of each field of a real stack'\''s packets, with tshark and scapy; and it has a table that is full, and inputs and
 outputs that fail. The last line is: dump: N passed, M failed. --quick leaves out the scripts, a word that isn'\''t UTF-8, and
@@ -192,11 +192,14 @@ judge 'lines that are too long' "${PIPESTATUS[1]}" 1
 # ---- JSON
 
 # Each line is an object, and each place holds the value of its key. Lines and blocks say the same. A log has the associations of
-# its capture, and captures have those of a model over tshark. AUTH is right where Python's HMAC is.
+# its capture, and captures have those of a model over tshark. AUTH is right where Python's HMAC is. What --pcapng writes holds
+# the packets of the input, also for tshark.
 look "$root/tests/dump/objects.py" "$program"
 look "$root/tests/dump/forms.py" "$program"
 look "$root/tests/dump/logs.py" "$program"
 look "$root/tests/dump/auth.py" "$program"
+look "$root/tests/dump/pcapng.py" "$program"
+look_with 'tshark capinfos' "$root/tests/dump/pcapng.py" "$program" --tshark
 look_with tshark "$root/tests/dump/associations.py" "$program"
 look_with tshark "$root/tests/dump/messages.py" "$program"
 look_with tshark "$root/tests/dump/channels.py" "$program"
@@ -414,6 +417,8 @@ echo 'sctp_dump: a write failed' >"$work/wanted_errors"
 judge 'a full disk' $? 2
 "$program" --summary cooked.pcap >/dev/full 2>"$work/errors"
 judge 'a full disk at the end of the run' $? 2
+"$program" --pcapng cooked.pcap >/dev/full 2>"$work/errors"
+judge 'a full disk, and a pcapng file' $? 2
 "$program" --help >/dev/full 2>"$work/errors"
 judge 'a full disk, and no packets' $? 2
 long | timeout 60 "$program" - cooked.pcap >/dev/full 2>"$work/errors"

@@ -4,7 +4,7 @@ use Rattle.std.specs.List.{list_any}
 use Rattle.dcsctp_borrowed.specs.Part.{Item, part_of}
 use Rattle.dcsctp_borrowed.specs.declared.part.Part as code
 use Rattle.dcsctp_receive.specs.Chunks.{items_of, is_of_type}
-use Rattle.dcsctp_receive.specs.Fields.{after_first, is_user_data, is_control, is_on_stream, has_ppid, has_no_user_data, stands_alone, has_no_initiate_tag, has_no_streams, has_small_window, needs_checksum, has_wrong_blocks, has_reserved_flag, has_no_cookie, has_no_heartbeat_info, is_stale_cookie_error}
+use Rattle.dcsctp_receive.specs.Fields.{after_first, is_user_data, is_control, is_on_stream, has_tsn, has_ppid, has_no_user_data, stands_alone, has_no_initiate_tag, has_no_streams, has_small_window, needs_checksum, has_wrong_blocks, has_reserved_flag, has_no_cookie, has_no_heartbeat_info, is_stale_cookie_error}
 use Rattle.dcsctp_receive.specs.declared.chunk_test.ChunkTest.{ChunkTest}
 use Rattle.dcsctp_receive.specs.declared.chunk_test.ChunkTest.TheVariants as test
 
@@ -13,6 +13,7 @@ meets_test test.Any c = true
 meets_test (test.Type typ) c = is_of_type typ c
 meets_test (test.OtherThan typ) c = not (is_of_type typ c)
 meets_test (test.Stream stream) c = is_on_stream stream c
+meets_test (test.Tsn tsn) c = has_tsn tsn c
 meets_test (test.Ppid ppid) c = has_ppid ppid c
 meets_test test.UserData c = is_user_data c
 meets_test test.Control c = is_control c

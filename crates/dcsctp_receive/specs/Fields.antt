@@ -75,6 +75,9 @@ is_control c = not (is_user_data c || is_pad c)
 abbrev pub is_on_stream : ℕ → Item → Bool
 is_on_stream stream c = is_user_data c && begins_with16 stream (after 4 c.value)
 
+abbrev pub has_tsn : ℕ → Item → Bool
+has_tsn tsn c = is_user_data c && begins_with32 tsn c.value
+
 -- Flag B is set, the second lowest: the first fragment, which has the identifier (RFC 8260 section
 -- 2.1).
 abbrev pub is_first_idata : Item → Bool

@@ -29,6 +29,8 @@ pub enum ChunkTest {
     OtherThan(u8),
     /// User data of this stream.
     Stream(u16),
+    /// User data with this TSN.
+    Tsn(u32),
     /// User data with this payload protocol identifier.
     Ppid(u32),
     /// DATA or I-DATA.
@@ -74,6 +76,7 @@ impl ChunkTest {
             ChunkTest::Stream(stream) => {
                 is_user_data(typ) && is_u16(value.after(DataNumbers::STREAM_ID), stream)
             }
+            ChunkTest::Tsn(tsn) => is_user_data(typ) && is_u32(value.after(DataNumbers::TSN), tsn),
             ChunkTest::Ppid(ppid) => has_ppid(chunk, ppid),
             ChunkTest::UserData => is_user_data(typ),
             ChunkTest::Control => !(is_user_data(typ) || typ == chunk_type::PAD),

@@ -5,15 +5,16 @@ ghost use Rattle.std.specs.List.{list_any};
 ghost use Rattle.dump_capture.specs.Found.{packet_of};
 ghost use Rattle.dcsctp_borrowed.specs.Part.{Item as AnItem, part_of};
 ghost use Rattle.dump_analysis.specs.Seen.{AreSeen, chunks_seen};
-ghost use Rattle.dump_analysis.specs.Filter.{part_in, meets, passes, has_all, is_before, is_after, passes_headers, passes_chunks, has_host, has_wrong_checksum};
+ghost use Rattle.dump_analysis.specs.Filter.{part_in, meets, passes, has_all, is_before, is_after, is_way, goes, passes_addresses, passes_headers, passes_chunks, has_host, is_source, is_destination, has_wrong_checksum};
 ghost use Rattle.dcsctp_receive.specs.Chunks.{is_of_type};
-ghost use Rattle.dcsctp_receive.specs.Fields.{has_port, has_tag, is_on_stream, has_ppid};
+ghost use Rattle.dcsctp_receive.specs.Fields.{has_port, has_tag, is_on_stream, has_tsn, has_ppid};
 
 use crate::seen::some_seen;
 use dcsctp_borrowed::part::Part;
 use dcsctp_receive::chunk_test::ChunkTest;
 use dcsctp_receive::fields::{has_port, is_u32};
 use dump_capture::frame::{Addresses, FoundPacket};
+use dump_capture::line::Direction;
 
 /// An address of an IP packet, as its octets.
 #[derive(Clone, Copy, Debug, PartialEq, Eq)]
@@ -35,7 +36,7 @@ pub enum Bound {
     Since(u64),
 }
 
-/// When a packet was seen.
+/// When a packet was seen, and which way it went.
 #[derive(Clone, Copy, Debug, PartialEq, Eq)]
 pub struct Arrival {
     /// Its number.
@@ -47,6 +48,8 @@ pub struct Arrival {
     pub first: Option<u64>,
     /// Whether its date is known, with the year.
     pub has_date: bool,
+    /// Which way it went, if a log says it.
+    pub direction: Option<Direction>,
 }
 
 /// How many values may be asked for of each kind.
@@ -61,10 +64,18 @@ pub struct Filter {
     pub tags: [Option<u32>; VALUES],
     /// The source address or the destination address of the IP packet that carries it.
     pub hosts: [Option<Host>; VALUES],
+    /// The source address of the IP packet that carries it.
+    pub sources: [Option<Host>; VALUES],
+    /// The destination address of the IP packet that carries it.
+    pub destinations: [Option<Host>; VALUES],
+    /// Which way it went, as a log says it.
+    pub directions: [Option<Direction>; VALUES],
     /// The type of a chunk that is looked at (RFC 9260 section 3.2).
     pub chunks: [Option<u8>; VALUES],
     /// The stream of a DATA (RFC 9260 section 3.3.1) or an I-DATA (RFC 8260 section 2.1).
     pub streams: [Option<u16>; VALUES],
+    /// The TSN of a DATA or an I-DATA, in the same sections.
+    pub tsns: [Option<u32>; VALUES],
     /// The payload protocol identifier of a DATA or of the first fragment of an I-DATA message.
     pub ppids: [Option<u32>; VALUES],
     /// Whether its checksum field is neither what is expected nor 0, and all of it was captured.
@@ -83,8 +94,12 @@ impl Filter {
         ports: [None; VALUES],
         tags: [None; VALUES],
         hosts: [None; VALUES],
+        sources: [None; VALUES],
+        destinations: [None; VALUES],
+        directions: [None; VALUES],
         chunks: [None; VALUES],
         streams: [None; VALUES],
+        tsns: [None; VALUES],
         ppids: [None; VALUES],
         wrong: false,
         inverts: false,
@@ -119,8 +134,12 @@ impl Filter {
         asks_nothing(&self.ports)
             && asks_nothing(&self.tags)
             && asks_nothing(&self.hosts)
+            && asks_nothing(&self.sources)
+            && asks_nothing(&self.destinations)
+            && asks_nothing(&self.directions)
             && asks_nothing(&self.chunks)
             && asks_nothing(&self.streams)
+            && asks_nothing(&self.tsns)
             && asks_nothing(&self.ppids)
             && !self.wrong
     }
@@ -150,11 +169,22 @@ impl Filter {
         if !(self.from.is_before(arrival) && self.to.is_after(arrival)) {
             return false;
         }
-        let is_met = others && self.is_met(found, word, fault);
+        let is_met = others && self.meets_direction(arrival) && self.is_met(found, word, fault);
         if self.inverts { !is_met } else { is_met }
     }
 
-    /// Returns whether the packet has all that is asked for, whenever it was seen.
+    /// Returns whether the packet went one of the ways, if any are asked for.
+    fn meets_direction(&self, arrival: Arrival) -> bool
+        ensures { result ≡ goes self.now arrival }
+    {
+        asks_nothing(&self.directions)
+            || self.directions.iter().any(|asked| match asked {
+                Some(direction) => is_way(*direction, arrival.direction),
+                None => false,
+            })
+    }
+
+    /// Returns whether the packet has all else that is asked for, whenever it was seen.
     fn is_met(&self, found: &FoundPacket<'_>, word: u32, fault: Option<usize>) -> bool
         ensures { let p = packet_of found.now in
             result ≡ has_all self.now p word (chunks_seen fault (part_in p)) }
@@ -189,7 +219,16 @@ impl Filter {
     fn is_met_by_headers(&self, packet: Part<'_>, addresses: Option<Addresses>) -> bool
         ensures { result ≡ passes_headers self.now (part_of packet.entry) addresses }
     {
-        self.meets_ports(packet) && self.meets_tags(packet) && self.meets_hosts(addresses)
+        self.meets_ports(packet) && self.meets_tags(packet) && self.meets_addresses(addresses)
+    }
+
+    /// Returns whether the addresses are among those that are asked for.
+    fn meets_addresses(&self, addresses: Option<Addresses>) -> bool
+        ensures { result ≡ passes_addresses self.now addresses }
+    {
+        self.meets_hosts(addresses)
+            && self.meets_sources(addresses)
+            && self.meets_destinations(addresses)
     }
 
     /// Returns whether one of the ports is the source or the destination, if any are asked for.
@@ -225,12 +264,35 @@ impl Filter {
             })
     }
 
+    /// Returns whether one of the sources is the source address, if any are asked for.
+    fn meets_sources(&self, addresses: Option<Addresses>) -> bool
+        ensures { result ≡ meets self.now.sources (λ host. is_source host addresses) }
+    {
+        asks_nothing(&self.sources)
+            || self.sources.iter().any(|asked| match asked {
+                Some(host) => host.is_source_of(addresses),
+                None => false,
+            })
+    }
+
+    /// Returns whether one of the destinations is the destination address, if any are asked for.
+    fn meets_destinations(&self, addresses: Option<Addresses>) -> bool
+        ensures { result ≡ meets self.now.destinations (λ host. is_destination host addresses) }
+    {
+        asks_nothing(&self.destinations)
+            || self.destinations.iter().any(|asked| match asked {
+                Some(host) => host.is_destination_of(addresses),
+                None => false,
+            })
+    }
+
     /// Returns whether there are chunks that are asked for.
     fn is_met_by_chunks(&self, packet: Part<'_>, fault: Option<usize>) -> bool
         ensures { result ≡ passes_chunks self.now (chunks_seen fault (part_of packet.entry)) }
     {
         self.meets_types(packet, fault)
             && self.meets_streams(packet, fault)
+            && self.meets_tsns(packet, fault)
             && self.meets_ppids(packet, fault)
     }
 
@@ -254,6 +316,18 @@ impl Filter {
         asks_nothing(&self.streams)
             || self.streams.iter().any(|asked| match asked {
                 Some(stream) => some_seen(packet, fault, ChunkTest::Stream(*stream)),
+                None => false,
+            })
+    }
+
+    /// Returns whether user data has one of the TSNs, if any are asked for.
+    fn meets_tsns(&self, packet: Part<'_>, fault: Option<usize>) -> bool
+        ensures { result ≡ meets self.now.tsns (λ tsn. list_any (has_tsn tsn)
+            (chunks_seen fault (part_of packet.entry))) }
+    {
+        asks_nothing(&self.tsns)
+            || self.tsns.iter().any(|asked| match asked {
+                Some(tsn) => some_seen(packet, fault, ChunkTest::Tsn(*tsn)),
                 None => false,
             })
     }
@@ -313,22 +387,40 @@ impl Host {
     fn is_of(self, addresses: Option<Addresses>) -> bool
         ensures { result ≡ has_host self addresses }
     {
-        let (source, destination) = match addresses {
-            Some(
-                Addresses::V4 {
-                    source,
-                    destination,
-                },
-            ) => (Host::V4(source), Host::V4(destination)),
-            Some(
-                Addresses::V6 {
-                    source,
-                    destination,
-                },
-            ) => (Host::V6(source), Host::V6(destination)),
-            None => return false,
-        };
-        self == source || self == destination
+        self.is_source_of(addresses) || self.is_destination_of(addresses)
+    }
+
+    /// Returns whether an IP packet with these addresses comes from it.
+    fn is_source_of(self, addresses: Option<Addresses>) -> bool
+        ensures { result ≡ is_source self addresses }
+    {
+        match addresses {
+            Some(Addresses::V4 { source, .. }) => self == Host::V4(source),
+            Some(Addresses::V6 { source, .. }) => self == Host::V6(source),
+            None => false,
+        }
+    }
+
+    /// Returns whether an IP packet with these addresses goes to it.
+    fn is_destination_of(self, addresses: Option<Addresses>) -> bool
+        ensures { result ≡ is_destination self addresses }
+    {
+        match addresses {
+            Some(Addresses::V4 { destination, .. }) => self == Host::V4(destination),
+            Some(Addresses::V6 { destination, .. }) => self == Host::V6(destination),
+            None => false,
+        }
+    }
+}
+
+/// Returns whether a packet went this way.
+fn is_way(wanted: Direction, direction: Option<Direction>) -> bool
+    ensures { result ≡ is_way wanted direction }
+{
+    match (wanted, direction) {
+        (Direction::Incoming, Some(Direction::Incoming)) => true,
+        (Direction::Outgoing, Some(Direction::Outgoing)) => true,
+        _ => false,
     }
 }
 

@@ -69,6 +69,21 @@ impl<W: Write> Output<W> {
         self.write()
     }
 
+    /// Writes bytes, not the text, and doesn't flush. Where the writer fails, it took a beginning of
+    /// them.
+    pub fn write_bytes(&mut self, bytes: &[u8]) -> io::Result<()>
+        ensures whole { OnOk result (Appends (W.contents (device_of (writer_of self.old)))
+            (W.contents (device_of (writer_of self.new))) bytes.now) }
+        ensures cut { OnErr result (AppendsBeginning (W.contents (device_of (writer_of self.old)))
+            (W.contents (device_of (writer_of self.new))) bytes.now) }
+        ensures none { bytes.now ≡ [] → IsOk result }
+        ensures kept { pending self.new ≡ pending self.old }
+        ensures failed { has_failed (writer_of self.new)
+            ≡ (has_failed (writer_of self.old) || is_err result) }
+    {
+        write_bytes(&mut self.writer, bytes)
+    }
+
     /// Writes the text, and flushes.
     pub fn finish(&mut self) -> io::Result<()>
         ensures whole { OnOk result (Appends (W.contents (device_of (writer_of self.old)))

@@ -8,6 +8,7 @@ use crate::failure::Failure;
 use crate::name::Name;
 use crate::options::{FormatOption, Options, OutputForm, TimeOption};
 use dump_analysis::filter::{Bound, Host, VALUES};
+use dump_capture::line::Direction;
 use dump_text::registry::chunk_name;
 use std::alloc::Global;
 use std::net::IpAddr;
@@ -26,6 +27,7 @@ Wireshark. Without a FILE, or where it is -, it reads standard input.
 What is printed:
   --brief          a line a packet, blanks only between its fields
   --json           a JSON object a line, not with --brief
+  --pcapng         a pcapng file of these packets alone, as Wireshark reads it
   --places         in JSON also the offset and size of each field
   --payload        all bytes of values, in rows, not the first 16 (64 of a text);
                    with --messages those of each message, joined
@@ -55,11 +57,15 @@ one has to; a NAME may hold commas.
   --port PORT      of either end
   --tag TAG        with this verification tag, as 0x0da73798 or a number
   --host ADDRESS   to or from this IP address
+  --source ADDRESS, --destination ADDRESS
+                   from this IP address, to this one
   --chunk TYPE     with a chunk of this type, as SACK, HEARTBEAT_ACK or 3
   --stream NUMBER  with user data of this stream
+  --tsn TSN        with user data of this TSN, as 106 or 0x6a
   --ppid NUMBER    with user data of this payload protocol
   --label NAME     with user data of the stream of a channel with this label
   --transport NAME of this transport of a log, as DcSctpTransport0
+  --direction WAY  of a log: incoming or outgoing
   --wrong          whose checksum is wrong
   --not            which the options above leave out
   --from BOUND     from this packet on: its number, a time in UTC as
@@ -174,6 +180,7 @@ impl<'a> Request<'a> {
         match word {
             "--brief" => options.take_output(OutputForm::Brief)?,
             "--json" => options.take_output(OutputForm::Json)?,
+            "--pcapng" => options.take_output(OutputForm::Pcapng)?,
             "--places" => options.places = true,
             "--payload" => options.payload = true,
             "--associations" => options.associations = true,
@@ -207,7 +214,7 @@ impl Options {
     /// Takes a form of output, if no other one was asked for.
     fn take_output(&mut self, form: OutputForm) -> Result<(), Failure> {
         if self.output != OutputForm::Blocks && self.output != form {
-            return Err(Failure::Usage("--brief and --json are two forms: give one"));
+            return Err(Failure::Usage("--brief, --json and --pcapng are forms: give one"));
         }
         self.output = form;
         Ok(())
@@ -289,7 +296,26 @@ impl Options {
                     number_of(value, 0, LARGEST, usage)? as u32,
                 )
             }
-            "--host" => add(&mut filter.hosts, host_of(value)?),
+            "--tsn" => {
+                let usage = "--tsn takes a number of four bytes";
+                add(
+                    &mut filter.tsns,
+                    number_of(value, 0, LARGEST, usage)? as u32,
+                )
+            }
+            "--host" => {
+                let usage = "--host takes an IPv4 or IPv6 address";
+                add(&mut filter.hosts, host_of(value, usage)?)
+            }
+            "--source" => {
+                let usage = "--source takes an IPv4 or IPv6 address";
+                add(&mut filter.sources, host_of(value, usage)?)
+            }
+            "--destination" => {
+                let usage = "--destination takes an IPv4 or IPv6 address";
+                add(&mut filter.destinations, host_of(value, usage)?)
+            }
+            "--direction" => add(&mut filter.directions, direction_of(value)?),
             "--chunk" => add(&mut filter.chunks, type_of(value)?),
             _ => Err(Failure::Usage("unknown option (try --help)")),
         }
@@ -370,11 +396,20 @@ fn name_of(text: &str, usage: &'static str) -> Result<Name, Failure> {
 }
 
 /// Returns the host of an IP address.
-fn host_of(text: &str) -> Result<Host, Failure> {
+fn host_of(text: &str, usage: &'static str) -> Result<Host, Failure> {
     match text.parse::<IpAddr>() {
         Ok(IpAddr::V4(address)) => Ok(Host::V4(address.octets())),
         Ok(IpAddr::V6(address)) => Ok(Host::V6(address.octets())),
-        Err(_) => Err(Failure::Usage("--host takes an IPv4 or IPv6 address")),
+        Err(_) => Err(Failure::Usage(usage)),
+    }
+}
+
+/// Returns the way of this name.
+fn direction_of(name: &str) -> Result<Direction, Failure> {
+    match name {
+        "incoming" => Ok(Direction::Incoming),
+        "outgoing" => Ok(Direction::Outgoing),
+        _ => Err(Failure::Usage("--direction takes incoming or outgoing")),
     }
 }
 

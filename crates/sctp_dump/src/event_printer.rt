@@ -9,7 +9,8 @@ ghost use Rattle.sctp_dump.specs.Warnings.{WarnsOf, is_judged};
 use crate::counts::{Counts, Judged, Verdict};
 use crate::failure::Failure;
 use crate::files::Files;
-use crate::options::Options;
+use crate::options::{Options, OutputForm};
+use crate::pcapng_blocks::{Frame, PcapngBlocks};
 use crate::printer::Printer;
 use crate::seen::SeenLines;
 use crate::sheet::{
@@ -18,7 +19,7 @@ use crate::sheet::{
 };
 use crate::skipped::{Said, SkippedLine, frame_reason_of};
 use crate::tracker::Tracker;
-use crate::when::Clock;
+use crate::when::{Clock, direction_of};
 use dcsctp_borrowed::checksum::Checksum;
 use dcsctp_wire::packet::sctp_packet::FirstFault;
 use dump_analysis::rule::{BrokenRules, Known, RULES};
@@ -29,7 +30,6 @@ use dump_analysis::{
 };
 use dump_capture::event::{Part, Seen, Sink, Skipped, Time};
 use dump_capture::frame::{FoundPacket, packet_in};
-use dump_capture::line::Direction;
 use dump_io::output::Output;
 use dump_io::watched::Watched;
 use std::alloc::{AllocError, Global};
@@ -55,6 +55,7 @@ pub struct EventPrinter<W> {
     tracker: Tracker,
     clock: Clock,
     said: Said,
+    blocks: PcapngBlocks,
     output: Output<W>,
 }
 
@@ -76,6 +77,7 @@ impl<W: Write> EventPrinter<W> {
             tracker: Tracker::new(alloc),
             clock: Clock::new(options.time),
             said: Said::NOTHING,
+            blocks: PcapngBlocks::new(alloc),
             output: Output::new(alloc, writer),
         }
     }
@@ -134,7 +136,14 @@ impl<W: Write> EventPrinter<W> {
             &self.authentication,
             text,
         )?;
-        match self.output.finish() {
+        if self.options.output == OutputForm::Pcapng {
+            self.blocks.begin()?;
+        }
+        let written = match self.write_blocks(0) {
+            Ok(()) => self.output.finish(),
+            Err(error) => Err(error),
+        };
+        match written {
             Ok(()) => Ok(()),
             Err(error) => Err(failure_of(&error)),
         }
@@ -146,6 +155,7 @@ impl<W: Write> EventPrinter<W> {
         seen: &Seen<'a>,
         found: &FoundPacket<'a>,
         judged: &Judged,
+        frame: Frame<'_>,
     ) -> Result<(), AllocError>
         ensures options { self.new.options ≡ self.old.options }
         ensures counts { self.new.counts ≡ self.old.counts }
@@ -175,6 +185,10 @@ impl<W: Write> EventPrinter<W> {
         let since = self.clock.see(nanoseconds, is_printed);
         if !is_printed {
             return self.print_messages(ended.as_slice());
+        }
+        let is_file = self.options.output == OutputForm::Pcapng;
+        if is_file {
+            return self.blocks.push(frame, &seen.time, nanoseconds);
         }
         let shown = Shown {
             seen: SeenLines {
@@ -275,12 +289,12 @@ impl<W: Write> EventPrinter<W> {
         ensures warnings { self.new.warnings ≡ self.old.warnings }
     {
         let (word, fault) = (judged.word, offset_of(judged.fault.as_ref()));
-        let (direction, transport) = log_of(&seen.time);
+        let transport = transport_of(&seen.time);
         let mut packet = SeenPacket {
             number: self.files.number_of(seen.number),
             nanoseconds,
             found: *found,
-            direction,
+            direction: direction_of(&seen.time),
             transport,
             checksum: Checksum::of_packet(found.packet, found.length, word),
             is_refused: judged.verdict == Verdict::Refused,
@@ -349,9 +363,28 @@ impl<W: Write> EventPrinter<W> {
             self.failure = Some(Failure::OutOfMemory);
             return;
         }
-        if let Err(error) = self.output.write_from(LONG) {
+        let written = match self.write_blocks(LONG) {
+            Ok(()) => self.output.write_from(LONG),
+            Err(error) => Err(error),
+        };
+        if let Err(error) = written {
             self.failure = Some(failure_of(&error));
         }
+    }
+
+    /// Writes the blocks of pcapng, if they have at least `least` bytes.
+    fn write_blocks(&mut self, least: usize) -> io::Result<()>
+        ensures options { self.new.options ≡ self.old.options }
+        ensures counts { self.new.counts ≡ self.old.counts }
+        ensures failure { self.new.failure ≡ self.old.failure }
+        ensures warnings { self.new.warnings ≡ self.old.warnings }
+    {
+        if self.blocks.bytes.len() < least {
+            return Ok(());
+        }
+        self.output.write_bytes(&self.blocks.bytes)?;
+        self.blocks.bytes.clear();
+        Ok(())
     }
 }
 
@@ -370,7 +403,12 @@ impl<W: Write> Sink for EventPrinter<W> {
         match packet_in(self.options.udp_port, link_type, original_length, bytes) {
             Ok(found) => {
                 let judged = self.counts.count_packet(&self.options, &found);
-                let outcome = self.print_packet(seen, &found, &judged);
+                let frame = Frame {
+                    link_type,
+                    original_length,
+                    bytes,
+                };
+                let outcome = self.print_packet(seen, &found, &judged, frame);
                 self.note(outcome);
             }
             Err(why) => {
@@ -405,7 +443,11 @@ impl<W: Write> Printer for EventPrinter<W> {
         if self.failure.is_some() {
             return;
         }
-        if let Err(error) = self.output.write() {
+        let written = match self.write_blocks(0) {
+            Ok(()) => self.output.write(),
+            Err(error) => Err(error),
+        };
+        if let Err(error) = written {
             self.failure = Some(failure_of(&error));
         }
     }
@@ -420,15 +462,11 @@ fn failure_of(error: &io::Error) -> Failure {
     }
 }
 
-/// Returns which way a packet of a log went, and the name of its transport.
-fn log_of<'a>(time: &Time<'a>) -> (Option<Direction>, &'a [u8]) {
+/// Returns the name of the transport of a packet of a log; empty of other packets.
+fn transport_of<'a>(time: &Time<'a>) -> &'a [u8] {
     match time {
-        Time::OfDay {
-            direction,
-            transport,
-            ..
-        } => (Some(*direction), transport.as_bytes()),
-        _ => (None, b""),
+        Time::OfDay { transport, .. } => transport.as_bytes(),
+        _ => b"",
     }
 }
 

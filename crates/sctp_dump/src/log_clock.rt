@@ -10,7 +10,7 @@ use std::fmt;
 const MINUTE: u64 = 60 * SECOND;
 
 /// Nanoseconds of a day.
-const DAY: u64 = 86_400 * SECOND;
+pub const DAY: u64 = 86_400 * SECOND;
 
 /// The days before each month of a leap year.
 const DAYS_BEFORE: [u64; 12] = [0, 31, 60, 91, 121, 152, 182, 213, 244, 274, 305, 335];

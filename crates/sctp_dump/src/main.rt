@@ -18,6 +18,7 @@ mod labels;
 mod log_clock;
 mod name;
 mod options;
+mod pcapng_blocks;
 mod printer;
 mod seen;
 mod sheet;

@@ -31,6 +31,8 @@ pub enum OutputForm {
     Brief,
     /// A JSON object a line.
     Json,
+    /// A pcapng file.
+    Pcapng,
 }
 
 /// The form of times.
@@ -137,6 +139,9 @@ impl Options {
         if self.payload && !(is_blocks && self.prints_packets()) && !self.shows_messages_payload() {
             return Some("--payload needs blocks of packets, or --messages without --brief");
         }
+        if self.output == OutputForm::Pcapng && self.says_more() {
+            return Some("an option that says more than --pcapng writes has no effect beside it");
+        }
         if self.filter.is_empty() {
             return Some("no packet is from --from on and up to --to");
         }
@@ -174,6 +179,16 @@ impl Options {
             TimeOption::Captured => None,
             _ => Some("--time has no effect beside --summary"),
         }
+    }
+
+    /// Returns whether more is asked for than the packets themselves.
+    fn says_more(&self) -> bool {
+        self.summary
+            || self.associations
+            || self.follows_messages()
+            || self.auth_key.is_some()
+            || self.check && !self.faults
+            || self.time != TimeOption::Captured
     }
 
     /// Returns whether it has to be known of which association a packet is.

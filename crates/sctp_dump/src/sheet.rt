@@ -51,6 +51,7 @@ pub fn push_file(options: &Options, name: &str, text: &mut String) -> Result<(),
             let name = JsonText(name);
             writeln!(text, "{{\"file\":{name}}}")
         }
+        OutputForm::Pcapng => Ok(()),
     }
 }
 
@@ -103,6 +104,7 @@ pub fn push_packet(
             });
             writeln!(text, "{{{seen}{member},{report}{found}{warnings}}}")
         }
+        OutputForm::Pcapng => Ok(()),
     }
 }
 
@@ -119,6 +121,7 @@ pub fn push_skipped(
             let object = SkippedJson(line);
             write!(text, "{object}")
         }
+        OutputForm::Pcapng => Ok(()),
     }
 }
 
@@ -283,6 +286,9 @@ pub fn push_counts(
     authentication: &AuthenticationCounts,
     text: &mut String,
 ) -> Result<(), AllocError> {
+    if options.output == OutputForm::Pcapng {
+        return Ok(());
+    }
     let authentication = match options.auth_key {
         Some(_) => Some(*authentication),
         None => None,

@@ -116,7 +116,7 @@ impl Tracker {
     ) -> Result<Vec<Resent>, AllocError> {
         match options.output {
             OutputForm::Brief => self.sendings.see(packet, fault),
-            OutputForm::Blocks | OutputForm::Json => Ok(Vec::new(self.alloc)),
+            OutputForm::Blocks | OutputForm::Json | OutputForm::Pcapng => Ok(Vec::new(self.alloc)),
         }
     }
 

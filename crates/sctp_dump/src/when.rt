@@ -82,6 +82,7 @@ impl Clock {
             time: nanoseconds,
             first: self.first,
             has_date: !matches!(seen.time, Time::OfDay { .. }),
+            direction: direction_of(&seen.time),
         }
     }
 
@@ -145,10 +146,7 @@ impl<'a> When<'a> {
 
     /// Returns which way the packet went, if a log says it.
     pub fn direction(&self) -> Option<Direction> {
-        match self.time {
-            Time::OfDay { direction, .. } => Some(*direction),
-            _ => None,
-        }
+        direction_of(self.time)
     }
 
     /// Returns the name of the transport whose packet it is, if a log says it; else nothing.
@@ -241,6 +239,14 @@ impl<'a> fmt::Display for WhenJson<'a> {
             }
             _ => write!(f, ",\"time\":{when}"),
         }
+    }
+}
+
+/// Returns which way a packet went, if a log says it.
+pub fn direction_of(time: &Time<'_>) -> Option<Direction> {
+    match time {
+        Time::OfDay { direction, .. } => Some(*direction),
+        _ => None,
     }
 }
 

@@ -1,4 +1,4 @@
-use Rattle.std.proofs.Common.{◌≡◌, ◌∙◌, ℕ, Result, Ok, Err, IfOk, sym, subst}
+use Rattle.std.proofs.Common.{◌≡◌, ◌∙◌, ℕ, Result, Ok, Err, IfOk, refl, sym, subst}
 use Rattle.dump_capture.specs.{Frame.{Packet}, Found.{packet_of}}
 use Rattle.dump_analysis.specs.declared.warnings.Warnings.{Warnings}
 use Rattle.sctp_dump.specs.{Warnings.{WarnsOf}, declared.{options.Options.{Options}, counts.Verdict.{Verdict}}}
@@ -25,6 +25,15 @@ returns-then-not-is_printed-clause-warnings g c =
     (c.authenticate-authentication.ensures.warnings ∙ c.print_left.ensures.warnings
     ∙ c.packet_of.ensures.warnings)
     c.print_messages.ensures.warnings c.judge-broken.ensures.warnings)
+
+pub returns-then-is_file-clause-warnings : goal.returns-then-is_file-clause-warnings
+returns-then-is_file-clause-warnings g c =
+    if_ok c.push.result _ (carried _ _ (packet_of c.args.found.now) _ _ _ _ _ _
+    (c.authenticate-authentication.ensures.options ∙ c.print_left.ensures.options
+    ∙ c.packet_of.ensures.options)
+    (c.authenticate-authentication.ensures.warnings ∙ c.print_left.ensures.warnings
+    ∙ c.packet_of.ensures.warnings)
+    refl c.judge-broken.ensures.warnings)
 
 pub returns-clause-warnings : goal.returns-clause-warnings
 returns-clause-warnings g c =
