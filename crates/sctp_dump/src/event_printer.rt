@@ -18,6 +18,7 @@ use crate::sheet::{
 };
 use crate::skipped::{Said, SkippedLine, frame_reason_of};
 use crate::tracker::Tracker;
+use crate::tunnel_text::SeenFrame;
 use crate::when::Clock;
 use dcsctp_borrowed::checksum::Checksum;
 use dcsctp_wire::packet::sctp_packet::FirstFault;
@@ -144,6 +145,7 @@ impl<W: Write> EventPrinter<W> {
     fn print_packet<'a>(
         &mut self,
         seen: &Seen<'a>,
+        frame: SeenFrame<'a>,
         found: &FoundPacket<'a>,
         judged: &Judged,
     ) -> Result<(), AllocError>
@@ -182,6 +184,7 @@ impl<W: Write> EventPrinter<W> {
                 file: self.files.last(),
                 when: self.clock.when(&seen.time, nanoseconds, since),
                 found,
+                frame,
             },
             word,
             fault,
@@ -370,7 +373,13 @@ impl<W: Write> Sink for EventPrinter<W> {
         match packet_in(self.options.udp_port, link_type, original_length, bytes) {
             Ok(found) => {
                 let judged = self.counts.count_packet(&self.options, &found);
-                let outcome = self.print_packet(seen, &found, &judged);
+                let frame = SeenFrame {
+                    udp_port: self.options.udp_port,
+                    link_type,
+                    original_length,
+                    bytes,
+                };
+                let outcome = self.print_packet(seen, frame, &found, &judged);
                 self.note(outcome);
             }
             Err(why) => {
