@@ -235,11 +235,19 @@ def block_item(holder, level):
     return f"\n  {head}{text}"
 
 
+# what a block has of a tunnel's identifier
+IDENTIFIERS = {"GRE": ", key {identifier:#010x}", "ERSPAN": ", session ID {identifier}", "VXLAN": ", VNI {identifier}",
+               "Geneve": ", VNI {identifier}", "GTP-U": ", TEID {identifier:#010x}"}
+
+
 def block(seen):
     text = f"packet {seen['packet']}" + "".join(f", {word}{seen[key]}" for key, word in (("time", "time "), ("direction", ""), ("transport", "")) if key in seen)
     text += ", {captured} of {length} bytes".format(**seen) if "captured" in seen else ""
     text += "\nfrom {from} to {to}".format(**seen) if "from" in seen else ""
     text += "\nudp source {udp_source}, destination {udp_destination}".format(**seen) if "udp_source" in seen else ""
+    for tunnel in seen.get("tunnels", []):
+        text += "\nin {kind} from {from} to {to}".format(**tunnel)
+        text += IDENTIFIERS[tunnel["kind"]].format(**tunnel) if "identifier" in tunnel else ""
     text += "\nsource {source}, destination {destination}".format(**seen) if "source" in seen else ""
     text += f", tag {seen['tag']:#010x}" if "tag" in seen else ""
     if "verdict" in seen:

@@ -1,6 +1,6 @@
 #!/usr/bin/python3
 # SPDX-License-Identifier: Apache-2.0
-"""Compares the SCTP packets that sctp_dump finds in tunnels with those that tshark finds.
+"""Compares the SCTP packets that sctp_dump finds in tunnels, and what it says of these, with what tshark finds.
 
 usage: tests/dump/tunnels.py [PROGRAM]
 
@@ -31,12 +31,17 @@ INNER = (IP(proto=132, src=V4[0], dst=V4[1]) / SCTP, IP(src=V4[0], dst=V4[1]) / 
 MAC = Ether(src='02:00:00:00:00:01', dst='02:00:00:00:00:02')
 
 
+# of tshark's layers that are a tunnel the kind, and the field with the identifier
+KINDS = {'vxlan': ('VXLAN', 'vxlan.vni'), 'geneve': ('Geneve', 'geneve.vni'), 'gtp': ('GTP-U', 'gtp.teid'), 'gre': ('GRE', 'gre.key')}
+
+
 def by_version(packet, four, six):
     return four if isinstance(packet, IP) else six
 
 
-def in_ip(outer, number, payload):
-    return outer(**{by_version(outer(), 'proto', 'nh'): number}) / Raw(bytes(payload))
+def in_ip(outer, number, payload, place=1):
+    front = by_version(outer(), '192.0.2.', '2001:db8::')
+    return outer(**{by_version(outer(), 'proto', 'nh'): number}, src=front + str(place), dst=front + str(place + 1)) / Raw(bytes(payload))
 
 
 def tunnels(packet):
@@ -45,15 +50,17 @@ def tunnels(packet):
     frame, kind = bytes(MAC / packet), by_version(packet, 0x0800, 0x86dd)
     yield by_version(packet, 4, 41), packet
     for bits in range(8):  # a checksum, a key and a sequence number
-        yield 47, GRE(proto=kind, chksum_present=bits & 1, key_present=bits >> 1 & 1, seqnum_present=bits >> 2) / packet
-    yield from ((47, GRE(proto=kind, key_present=kind == 0x6558) / Raw(frame)) for kind in (0x6558, 0x88be))
-    for protocol, layer in (0x88be, ERSPAN_II(ver=1)), (0x22eb, ERSPAN_III()), (0x22eb, ERSPAN_III(o=1) / ERSPAN_PlatformSpecific()):
+        yield 47, GRE(proto=kind, chksum_present=bits & 1, key_present=bits >> 1 & 1, seqnum_present=bits >> 2, key=0x1020304) / packet
+    yield from ((47, GRE(proto=kind, key_present=kind == 0x6558, key=0xfffefd07) / Raw(frame)) for kind in (0x6558, 0x88be))
+    for protocol, layer in ((0x88be, ERSPAN_II(ver=1, session_id=677)), (0x22eb, ERSPAN_III(session_id=1023)),
+                            (0x22eb, ERSPAN_III(o=1, session_id=3) / ERSPAN_PlatformSpecific())):
         yield 47, GRE(proto=protocol, seqnum_present=1) / Raw(bytes(layer) + frame)
-    yield from (in_udp(4789, VXLAN(vni=5), it) for it in (frame, MAC / Dot1Q(vlan=7) / packet))
-    yield from (in_udp(6081, GENEVE(proto=0x6558, options=[GeneveOptions(data=b'1234')] * count), frame) for count in (0, 3))
-    yield in_udp(6081, GENEVE(proto=kind), packet)
+        yield 47, GRE(proto=protocol, seqnum_present=1, key_present=1, key=9) / Raw(bytes(layer) + frame)
+    yield from (in_udp(4789, VXLAN(vni=0x123456), it) for it in (frame, MAC / Dot1Q(vlan=7) / packet))
+    yield from (in_udp(6081, GENEVE(proto=0x6558, vni=0xfedcba, options=[GeneveOptions(data=b'1234')] * count), frame) for count in (0, 3))
+    yield in_udp(6081, GENEVE(proto=kind, vni=7), packet)
     for flags in {}, {'S': 1}, {'PN': 1}, {'S': 1, 'PN': 1}:
-        yield in_udp(2152, GTP_U_Header(gtp_type=255, teid=1, **flags) / packet)
+        yield in_udp(2152, GTP_U_Header(gtp_type=255, teid=0xa0b0c0d, **flags) / packet)
     yield in_udp(2152, GTP_U_Header(gtp_type=255, teid=1, E=1, next_ex=0x85) / GTPPDUSessionContainer(QFI=3) / packet)
 
 
@@ -69,7 +76,7 @@ def frames():
             for number, payload in tunnels(inner):
                 packet = in_ip(outer, number, payload)
                 yield '<', 1, bytes(MAC / packet) + bytes(10)
-                yield '<', 101, bytes(in_ip(IP, 47, GRE(proto=by_version(packet, 0x0800, 0x86dd)) / packet))
+                yield '<', 101, bytes(in_ip(IP, 47, GRE(proto=by_version(packet, 0x0800, 0x86dd)) / packet, 7))
         raw, code, kind = bytes(inner), *by_version(inner, (0x21, b'\x08\0'), (0x57, b'\x86\xdd'))
         yield from (('<', 9, front + bytes(number) + raw) for front in (b'', b'\xff\3') for number in ((0, code), (code,)))
         yield from (('<', 50, it + raw) for it in (bytes(HDLC() / PPP(proto=code)), b'\x0f\0' + kind))
@@ -80,8 +87,24 @@ def frames():
 def mine(program, path):
     run = subprocess.run([program, '--json', path], capture_output=True, text=True, timeout=60, check=False)
     assert run.returncode in (0, 1, 2) and not run.stderr, run
-    keys = 'from', 'to', 'udp_source', 'udp_destination', 'tag', 'length'
+    keys = 'from', 'to', 'udp_source', 'udp_destination', 'tunnels', 'tag', 'length'
     return {it['packet']: [it.get(key) for key in keys] for it in [*map(json.loads, run.stdout.splitlines())][:-1] if 'packet' in it}
+
+
+def tunnels_of(layers):
+    """The tunnels among tshark's layers, or None if there are none."""
+    found, ends = [], None
+    for (before, _), (name, of) in zip([(None, None)] + layers, layers):
+        kind, key = KINDS.get(name, ('IP', None) if name in ('ip', 'ipv6') and before in ('ip', 'ipv6') else (None, None))
+        if of.get('gre.proto') in ('0x000088be', '0x000022eb', '0x88be', '0x22eb'):
+            kind, key = 'ERSPAN', None
+        if kind and ends:  # (NFLOG's layers may have an empty one of IP)
+            found.append({'kind': kind, 'from': ends[0], 'to': ends[1], **({'identifier': int(of[key], 0)} if key in of else {})})
+        if name + '.src' in of and name in ('ip', 'ipv6'):
+            ends = of[name + '.src'], of.get(name + '.dst')
+        if name == 'erspan' and 'erspan.spanid' in of:
+            found[-1]['identifier'] = int(of['erspan.spanid'], 0)
+    return found or None
 
 
 def theirs(path):
@@ -90,9 +113,9 @@ def theirs(path):
     for packet in xml.etree.ElementTree.fromstring(run.stdout).iter('packet'):
         found, layers = [], [(it.get('name'), {of.get('name'): of.get('show') for of in it.iter('field')}) for it in packet]
         for (before, ports), (name, of) in zip(layers, layers[1:]):
-            found = [of.get(name + '.src'), of.get(name + '.dst'), None, None] if name in ('ip', 'ipv6') else found
+            found = [of.get(name + '.src'), of.get(name + '.dst'), None, None, tunnels_of(layers)] if name in ('ip', 'ipv6') else found
             if name == 'sctp' and 'sctp.verification_tag' in of:
-                found[2:] = (int(ports['udp.srcport']), int(ports['udp.dstport'])) if before == 'udp' else found[2:]
+                found[2:4] = (int(ports['udp.srcport']), int(ports['udp.dstport'])) if before == 'udp' else found[2:4]
                 yield int(layers[0][1]['num']), found + [int(of['sctp.verification_tag'], 0), 16]
 
 
@@ -107,7 +130,7 @@ def main(program, path):
                             + [struct.pack(order + 'IIII', 0, 0, len(it), len(frame)) + it for it, frame in records])
         found, other = mine(program, path), dict(theirs(path))
         for number, (it, frame) in enumerate(records, 1):
-            a, b, part = found.get(number), other.get(number), 6 if it is frame else 4
+            a, b, part = found.get(number), other.get(number), 7 if it is frame else 5
             if it is frame or a and b:
                 counts[it is frame] += 1
                 wrong += [] if a and b and a[:part] == b[:part] else ['%s: sctp_dump %s, tshark %s' % (it.hex(), a, b)]

@@ -1,4 +1,5 @@
 pub mod Headers
+pub mod FirstTunnel
 pub mod Records
 pub mod Sent
 pub mod Readings

@@ -11,6 +11,7 @@ pub mod Gtp
 pub mod Nflog
 pub mod Tunnel
 pub mod Frame
+pub mod Tunnels
 pub mod Found
 pub mod Stamp
 pub mod Sent

@@ -2,7 +2,7 @@
 
 ghost use Rattle.std.specs.Prelude.{◌≡◌, ◌≤◌, ◌+◌, length};
 ghost use Rattle.dump_capture.specs.Number.{number16};
-ghost use Rattle.dump_capture.specs.Frame.{packet_in, is_known_link, is_header, is_ip_family, is_extension, is_ipv6_fragment, extension_size, may_carry_sctp, packet, carried, in_udp, behind_header, behind_headers, behind_tunnels, through_tunnel, on_link, hdlc, loopback, typed, of_type, label, ip, ipv4, ipv6, ipv4_length, ipv4_addresses, ipv6_addresses, extension};
+ghost use Rattle.dump_capture.specs.Frame.{packet_in, in_frame, is_known_link, is_header, is_ip_family, is_extension, is_ipv6_fragment, extension_size, may_carry_sctp, packet, carried, in_udp, behind_header, behind_headers, behind_tunnels, through_tunnel, on_link, hdlc, loopback, typed, of_type, label, ip, ipv4, ipv6, ipv4_length, ipv4_addresses, ipv6_addresses, extension};
 ghost use Rattle.dump_capture.specs.Found.{found, packet_of, payload_of, payload_result};
 
 use crate::gtp::gtp_extension;
@@ -63,7 +63,7 @@ pub const UDP_PORT: u16 = 9899;
 const MOST_HEADERS: u32 = 65_536;
 
 /// The most tunnels that are read in one another.
-const MOST_TUNNELS: u32 = 4;
+pub(crate) const MOST_TUNNELS: u32 = 4;
 
 /// The addresses of an IP packet.
 #[derive(Clone, Copy, Debug, PartialEq, Eq)]
@@ -165,14 +165,21 @@ pub fn packet_in(
 ) -> Result<FoundPacket<'_>, NoPacket>
     ensures { found result ≡ packet_in udp_port link_type original_length frame.now }
 {
-    let outer = behind_headers(Payload {
+    let outer = behind_headers(in_frame(link_type, original_length, frame))?;
+    let payload = behind_tunnels(udp_port, outer)?;
+    carried(udp_port, payload)
+}
+
+/// Returns a frame, as what its first header stands in.
+pub(crate) fn in_frame(link_type: u16, original_length: u32, frame: &[u8]) -> Payload<'_>
+    ensures { payload_of result ≡ in_frame link_type original_length frame.now }
+{
+    Payload {
         addresses: None,
         protocol: Protocol::Link(link_type),
         size: original_length as usize,
         bytes: frame,
-    })?;
-    let payload = behind_tunnels(udp_port, outer)?;
-    carried(udp_port, payload)
+    }
 }
 
 /// Returns a packet of this size, as far as it was captured.
@@ -249,14 +256,14 @@ fn behind_tunnels(udp_port: u16, payload: Payload<'_>) -> Result<Payload<'_>, No
 }
 
 /// Returns the payload after a tunnel and the headers in it.
-fn through_tunnel(payload: Payload<'_>) -> Result<Payload<'_>, NoPacket>
+pub(crate) fn through_tunnel(payload: Payload<'_>) -> Result<Payload<'_>, NoPacket>
     ensures { payload_result result ≡ through_tunnel (payload_of payload.entry) }
 {
     behind_headers(behind_tunnel(payload)?)
 }
 
 /// Returns the payload after the headers of the link and of IP.
-fn behind_headers(payload: Payload<'_>) -> Result<Payload<'_>, NoPacket>
+pub(crate) fn behind_headers(payload: Payload<'_>) -> Result<Payload<'_>, NoPacket>
     ensures { payload_result result ≡ behind_headers MOST_HEADERS (payload_of payload.entry) }
 {
     let mut rest = payload;

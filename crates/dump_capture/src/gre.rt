@@ -42,7 +42,7 @@ fn is_gre(bytes: &[u8]) -> bool
 }
 
 /// Returns the size of the header, with its optional fields.
-fn gre_size(bytes: &[u8]) -> usize
+pub(crate) fn gre_size(bytes: &[u8]) -> usize
     requires { 4 ≤ length bytes.now }
     ensures { result ≡ gre_size bytes.now }
 {

@@ -29,4 +29,5 @@ mod ppp;
 pub mod stamp;
 pub mod text;
 mod tunnel;
+pub mod tunnels;
 mod vxlan;

@@ -21,10 +21,10 @@ pub(crate) const IPV6_PROTOCOL: u8 = 41;
 pub(crate) const GRE_PROTOCOL: u8 = 47;
 
 /// The UDP port of GTP-U (3GPP TS 29.281 section 4.4.2).
-const GTP_PORT: u16 = 2152;
+pub(crate) const GTP_PORT: u16 = 2152;
 
 /// The UDP port of VXLAN (RFC 7348 section 5).
-const VXLAN_PORT: u16 = 4789;
+pub(crate) const VXLAN_PORT: u16 = 4789;
 
 /// The UDP port of Geneve (RFC 8926 section 3.3).
 const GENEVE_PORT: u16 = 6081;

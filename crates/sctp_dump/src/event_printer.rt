@@ -10,9 +10,9 @@ use crate::counts::{Counts, Judged, Verdict};
 use crate::failure::Failure;
 use crate::files::Files;
 use crate::options::{Options, OutputForm};
-use crate::pcapng_blocks::{Frame, PcapngBlocks};
+use crate::pcapng_blocks::PcapngBlocks;
 use crate::printer::Printer;
-use crate::seen::SeenLines;
+use crate::seen::{SeenFrame, SeenLines};
 use crate::sheet::{
     Shown, push_association, push_associations, push_channels, push_counts, push_file,
     push_left_out, push_messages, push_packet, push_skipped,
@@ -153,9 +153,9 @@ impl<W: Write> EventPrinter<W> {
     fn print_packet<'a>(
         &mut self,
         seen: &Seen<'a>,
+        frame: SeenFrame<'a>,
         found: &FoundPacket<'a>,
         judged: &Judged,
-        frame: Frame<'_>,
     ) -> Result<(), AllocError>
         ensures options { self.new.options ≡ self.old.options }
         ensures counts { self.new.counts ≡ self.old.counts }
@@ -196,6 +196,7 @@ impl<W: Write> EventPrinter<W> {
                 file: self.files.last(),
                 when: self.clock.when(&seen.time, nanoseconds, since),
                 found,
+                frame,
             },
             word,
             fault,
@@ -403,12 +404,13 @@ impl<W: Write> Sink for EventPrinter<W> {
         match packet_in(self.options.udp_port, link_type, original_length, bytes) {
             Ok(found) => {
                 let judged = self.counts.count_packet(&self.options, &found);
-                let frame = Frame {
+                let frame = SeenFrame {
+                    udp_port: self.options.udp_port,
                     link_type,
                     original_length,
                     bytes,
                 };
-                let outcome = self.print_packet(seen, &found, &judged, frame);
+                let outcome = self.print_packet(seen, frame, &found, &judged);
                 self.note(outcome);
             }
             Err(why) => {

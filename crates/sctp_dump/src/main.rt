@@ -27,6 +27,7 @@ mod stop;
 mod stream;
 mod summary;
 mod tracker;
+mod tunnel_text;
 mod when;
 
 use crate::host::run;

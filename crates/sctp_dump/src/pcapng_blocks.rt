@@ -3,21 +3,11 @@
 ghost use Rattle.std.specs.Prelude.{◌≤◌, length};
 
 use crate::log_clock::DAY;
+use crate::seen::SeenFrame;
 use crate::when::direction_of;
 use dump_capture::event::Time;
 use dump_capture::line::Direction;
 use std::alloc::{AllocError, Global};
-
-/// A frame, as its input has it.
-#[derive(Clone, Copy)]
-pub struct Frame<'a> {
-    /// The link type, as `LINKTYPE_` of tcpdump.org.
-    pub link_type: u16,
-    /// How many bytes it had on the link.
-    pub original_length: u32,
-    /// Those that were captured.
-    pub bytes: &'a [u8],
-}
 
 /// The most bytes of a frame that are written: a record or a line has no more.
 const LONGEST: usize = 262_144;
@@ -67,7 +57,7 @@ impl PcapngBlocks {
     /// went.
     pub fn push(
         &mut self,
-        frame: Frame<'_>,
+        frame: SeenFrame<'_>,
         time: &Time<'_>,
         nanoseconds: Option<u64>,
     ) -> Result<(), AllocError> {

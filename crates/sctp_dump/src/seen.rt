@@ -1,5 +1,6 @@
 //! Where and when packets were seen, as text.
 
+use crate::tunnel_text::{TunnelLines, TunnelsJson};
 use crate::when::{When, WhenJson};
 use dcsctp_wire::packet::sctp_packet::CommonHeader;
 use dump_capture::frame::{Addresses, FoundPacket, UdpPorts};
@@ -9,8 +10,21 @@ use dump_text::printed::OneWord;
 use std::fmt;
 use std::net::{Ipv4Addr, Ipv6Addr};
 
-/// A packet's number and time, how much of it was captured, the IP addresses and the UDP ports, as
-/// the first lines of its block.
+/// A frame in which a packet was found.
+#[derive(Clone, Copy)]
+pub struct SeenFrame<'a> {
+    /// The port of SCTP in UDP.
+    pub udp_port: u16,
+    /// The type of its link.
+    pub link_type: u16,
+    /// How many bytes it had on the link.
+    pub original_length: u32,
+    /// Those that were captured.
+    pub bytes: &'a [u8],
+}
+
+/// A packet's number and time, how much of it was captured, the IP addresses, the UDP ports and the
+/// tunnels, as the first lines of its block.
 #[derive(Clone, Copy)]
 pub struct SeenLines<'t, 'f, 'a> {
     /// The packet's number.
@@ -21,6 +35,8 @@ pub struct SeenLines<'t, 'f, 'a> {
     pub when: When<'t>,
     /// The packet in its frame.
     pub found: &'f FoundPacket<'a>,
+    /// The frame.
+    pub frame: SeenFrame<'a>,
 }
 
 impl<'t, 'f, 'a> fmt::Display for SeenLines<'t, 'f, 'a> {
@@ -47,15 +63,17 @@ impl<'t, 'f, 'a> fmt::Display for SeenLines<'t, 'f, 'a> {
             let (source, destination) = hosts_of(addresses);
             writeln!(f, "from {source} to {destination}")?;
         }
-        match self.found.udp_ports {
-            Some(
-                UdpPorts {
-                    source,
-                    destination,
-                },
-            ) => { writeln!(f, "udp source {source}, destination {destination}") }
-            None => Ok(()),
+        if let Some(
+            UdpPorts {
+                source,
+                destination,
+            },
+        ) = self.found.udp_ports
+        {
+            writeln!(f, "udp source {source}, destination {destination}")?;
         }
+        let tunnels = TunnelLines(self.frame);
+        write!(f, "{tunnels}")
     }
 }
 
@@ -136,18 +154,20 @@ impl<'t, 'f, 'a> fmt::Display for SeenJson<'t, 'f, 'a> {
             let (source, destination) = hosts_of(addresses);
             write!(f, ",\"from\":\"{source}\",\"to\":\"{destination}\"")?;
         }
-        match seen.found.udp_ports {
-            Some(
-                UdpPorts {
-                    source,
-                    destination,
-                },
-            ) => write!(
+        if let Some(
+            UdpPorts {
+                source,
+                destination,
+            },
+        ) = seen.found.udp_ports
+        {
+            write!(
                 f,
                 ",\"udp_source\":{source},\"udp_destination\":{destination}"
-            ),
-            None => Ok(()),
+            )?;
         }
+        let tunnels = TunnelsJson(seen.frame);
+        write!(f, "{tunnels}")
     }
 }
 
@@ -161,7 +181,7 @@ fn direction_word(direction: Direction) -> &'static str {
 
 /// One end of a packet's way.
 #[derive(Clone, Copy)]
-enum End {
+pub(crate) enum End {
     V4(Ipv4Addr),
     V6(Ipv6Addr),
     // Of a log: the end that wrote it, or the other one.
@@ -183,7 +203,7 @@ impl fmt::Display for End {
 }
 
 /// Returns both addresses.
-fn hosts_of(addresses: Addresses) -> (End, End) {
+pub(crate) fn hosts_of(addresses: Addresses) -> (End, End) {
     match addresses {
         Addresses::V4 {
             source,

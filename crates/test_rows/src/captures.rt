@@ -6,6 +6,7 @@ use dump_capture::hex_bytes::HexBytes;
 use dump_capture::line::{Line, LoggedPacket, place_of, read_line};
 use dump_capture::pcap::{ByteOrder, input_kind, read_file_header, read_record_header};
 use dump_capture::stamp::read_stamp;
+use dump_capture::tunnels::tunnels_in;
 use std::alloc::{AllocError, Global};
 use std::fmt::Debug;
 
@@ -45,6 +46,24 @@ fn write_found(udp_port: u16, bytes: &[u8], out: &mut String) -> Result<(), Allo
     }
 }
 
+/// Writes the tunnels of a frame, of the same bytes.
+fn write_tunnels(bytes: &[u8], out: &mut String) -> Result<(), AllocError> {
+    let mut before = "";
+    for tunnel in tunnels_in(
+        UDP_PORT,
+        short_at(bytes, 0),
+        word_at(bytes, 2),
+        from(bytes, 6),
+    ) {
+        write!(out, "{before}{tunnel:?}")?;
+        before = "; ";
+    }
+    if before.is_empty() {
+        out.push_str("none")?;
+    }
+    Ok(())
+}
+
 /// Writes the answer, if the call is one of this module; the offset of a line and how many bytes
 /// are held have four bytes each.
 pub fn write_answer(
@@ -59,6 +78,7 @@ pub fn write_answer(
         "record-header" => write_record_header(bytes, out)?,
         "known-link" => write_debug(&is_known_link(short_at(bytes, 0)), out)?,
         "link-frame" => write_found(UDP_PORT, bytes, out)?,
+        "tunnels" => write_tunnels(bytes, out)?,
         "link-frame-port" => write_found(short_at(bytes, 0), from(bytes, 2), out)?,
         "place" => write_debug(
             &place_of(word_at(bytes, 0), word_at(bytes, 4) as usize),
