@@ -110,7 +110,7 @@ impl PcapngBlocks {
 
 /// Returns the bytes of a frame that are written: those that were captured, up to its original
 /// length.
-fn captured_of<'a>(frame: &Frame<'a>) -> &'a [u8]
+fn captured_of<'a>(frame: &SeenFrame<'a>) -> &'a [u8]
     ensures { length result.now ≤ LONGEST }
 {
     let size = frame.bytes.len().min(LONGEST);
