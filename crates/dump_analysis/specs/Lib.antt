@@ -8,7 +8,7 @@ pub mod Messages
 pub mod Order
 pub mod Paths
 pub mod Questions
-pub mod RoundTrips
+pub mod Delays
 pub mod Serial
 pub mod Sides
 pub mod StaleCookies

@@ -92,7 +92,7 @@ enum Topic {
     Added,
     /// The other end is to send to it: Set Primary Address (RFC 5061 section 4.2.4).
     Primary,
-    /// It has it no longer: Delete IP Address (RFC 5061 section 4.2.2).
+    /// It gives it up: Delete IP Address (RFC 5061 section 4.2.2).
     Deleted,
 }
 

@@ -6,10 +6,10 @@ ghost use Rattle.dump_analysis.specs.Channels.{nothing_sent, CountsMessage, Adds
 use crate::association::Side;
 use crate::counts::increase;
 use crate::data_channel::Opened;
+use crate::delays::Delays;
 use crate::message::{Fate, Message, comes_before};
 use crate::moment::Moment;
 use crate::packet_number::PacketNumber;
-use crate::round_trips::RoundTrips;
 use dcsctp_borrowed::part::Part;
 use dcsctp_wire::packet::read_u16_be;
 
@@ -27,7 +27,7 @@ pub struct Traffic {
     /// Messages that were neither acknowledged nor abandoned.
     pub unacknowledged: u64,
     /// The delays of those that were acknowledged.
-    pub delays: RoundTrips,
+    pub delays: Delays,
 }
 
 impl Traffic {
@@ -41,7 +41,7 @@ impl Traffic {
             repeated: 0,
             abandoned: 0,
             unacknowledged: 0,
-            delays: RoundTrips::new(),
+            delays: Delays::new(),
         }
     }
 
@@ -55,7 +55,7 @@ impl Traffic {
         match message.fate {
             Fate::Acknowledged(moment) => {
                 if let Some(delay) = message.delay() {
-                    self.delays.count(delay, message.first_tsn, moment.packet);
+                    self.delays.add(delay, message.first_tsn, moment.packet);
                 }
             }
             Fate::Abandoned { .. } => increase(&mut self.abandoned),
@@ -220,7 +220,7 @@ impl Channel {
             && !self.is_over(message.sender, message.sent.packet)
     }
 
-    /// Returns whether what an end sends in a packet is no longer of this channel.
+    /// Returns whether what an end sends in a packet comes after the end of this channel.
     pub fn is_over(&self, side: Side, packet: PacketNumber) -> bool {
         let reset = match self.reset(side) {
             Some(reset) => reset.performed(),

@@ -3,11 +3,11 @@
 use crate::association::Side;
 use crate::channel::{Channel, Reset, Tally, Traffic};
 use crate::data_channel::{Opened, PeerText};
+use crate::delays::Delays;
 use crate::json::index_of;
 use crate::moment::Moment;
-use crate::packet_number::{PacketKeys, PacketNumber, PacketText};
-use crate::round_trips::RoundTrips;
-use crate::time::{TimeJson, TimeStyle};
+use crate::packet_number::{PacketNumber, PacketText, write_packet_keys};
+use crate::time::{TimeStyle, write_time_key};
 use dump_text::hexadecimal::write_digits;
 use dump_text::json_text::JsonText;
 use dump_text::printed::Quoted;
@@ -272,27 +272,42 @@ impl<'a> ChannelJson<'a> {
             f,
             ",\"reliability\":{reliability},\"priority\":{priority},\"opened_by\":{by}"
         )?;
-        self.write_time("opened", opened.sent, f)?;
-        self.write_packet("opened_packet", "opened_file", opened.sent.packet, f)?;
+        write_time_key("opened", opened.sent.nanoseconds, self.0.style, f)?;
+        write_packet_keys(
+            ("opened_packet", "opened_file"),
+            Some(opened.sent.packet),
+            self.0.files,
+            f,
+        )?;
         if opened.crossed.is_some() {
             f.write_str(",\"opened_by_both\":true")?;
         }
         let Some(moment) = opened.acknowledged else {
             return Ok(());
         };
-        self.write_time("acknowledged", moment, f)?;
-        self.write_packet("acknowledged_packet", "acknowledged_file", moment.packet, f)
+        write_time_key("acknowledged", moment.nanoseconds, self.0.style, f)?;
+        write_packet_keys(
+            ("acknowledged_packet", "acknowledged_file"),
+            Some(moment.packet),
+            self.0.files,
+            f,
+        )
     }
 
     /// Writes a request to reset the stream, and its result, up to the end of the object.
     fn write_reset<W: fmt::Write>(&self, reset: &Reset, f: &mut fmt::Formatter<W>) -> fmt::Result {
-        self.write_packet("packet", "file", reset.packet, f)?;
+        write_packet_keys(("packet", "file"), Some(reset.packet), self.0.files, f)?;
         if let Some((code, packet)) = reset.result {
             write!(f, ",\"result\":{code}")?;
             if let Some(name) = result_name(code) {
                 write!(f, ",\"result_name\":\"{name}\"")?;
             }
-            self.write_packet("response_packet", "response_file", packet, f)?;
+            write_packet_keys(
+                ("response_packet", "response_file"),
+                Some(packet),
+                self.0.files,
+                f,
+            )?;
         }
         f.write_str("}")
     }
@@ -322,7 +337,7 @@ impl<'a> ChannelJson<'a> {
     /// Writes the delays of an end's messages.
     fn write_delays<W: fmt::Write>(
         &self,
-        delays: &RoundTrips,
+        delays: &Delays,
         f: &mut fmt::Formatter<W>,
     ) -> fmt::Result {
         let style = self.0.style;
@@ -335,40 +350,14 @@ impl<'a> ChannelJson<'a> {
         )?;
         write!(f, ",\"greatest\":{greatest},\"greatest_tsn\":{tsn}")?;
         if let Some(packet) = delays.greatest_packet {
-            self.write_packet("greatest_packet", "greatest_file", packet, f)?;
+            write_packet_keys(
+                ("greatest_packet", "greatest_file"),
+                Some(packet),
+                self.0.files,
+                f,
+            )?;
         }
         f.write_str("}")
-    }
-
-    /// Writes a time, if it is known.
-    fn write_time<W: fmt::Write>(
-        &self,
-        key: &'static str,
-        moment: Moment,
-        f: &mut fmt::Formatter<W>,
-    ) -> fmt::Result {
-        let Some(nanoseconds) = moment.nanoseconds else {
-            return Ok(());
-        };
-        let time = TimeJson(self.0.style.time(nanoseconds));
-        write!(f, ",\"{key}\":{time}")
-    }
-
-    /// Writes a packet's number, and its file's name.
-    fn write_packet<W: fmt::Write>(
-        &self,
-        key: &'static str,
-        file_key: &'static str,
-        packet: PacketNumber,
-        f: &mut fmt::Formatter<W>,
-    ) -> fmt::Result {
-        let keys = PacketKeys {
-            packet,
-            key,
-            file_key,
-            files: self.0.files,
-        };
-        write!(f, "{keys}")
     }
 }
 

@@ -94,36 +94,73 @@ impl Establishment {
     /// Returns what the message says that an end sent in a chunk, and its stream; `None` if it
     /// isn't one of DCEP, or not all of it is there.
     pub fn of(by: Side, sent: Moment, chunk: Item<'_>) -> Option<(u16, Establishment)> {
-        let numbers = Numbers::of(chunk)?;
-        // with the bits B and E
-        if chunk.second % 4 != 3 || numbers.ppid != Some(DCEP) {
+        let (numbers, message) = message_in(chunk)?;
+        if let [ACK] = message {
+            return Some((numbers.stream, Establishment::Ack));
+        }
+        let open = Open::of(message)?;
+        let opened = Opened {
+            by,
+            tsn: numbers.tsn,
+            sent,
+            typ: open.typ,
+            priority: open.priority,
+            reliability: open.reliability,
+            label: PeerText::of(open.label),
+            protocol: PeerText::of(open.protocol),
+            acknowledged: None,
+            crossed: None,
+        };
+        Some((numbers.stream, Establishment::Open(opened)))
+    }
+}
+
+/// A DATA_CHANNEL_OPEN (RFC 8832 section 5.1).
+#[derive(Clone, Copy)]
+struct Open<'a> {
+    typ: u8,
+    priority: u16,
+    reliability: u32,
+    label: &'a [u8],
+    protocol: &'a [u8],
+}
+
+impl<'a> Open<'a> {
+    /// Returns the one that a message is, if it is one.
+    fn of(message: &'a [u8]) -> Option<Open<'a>> {
+        if message.len() < OPEN_SIZE || message[0] != OPEN {
             return None;
         }
-        let message = chunk.value.after(numbers.header).bytes;
-        match message {
-            [ACK] => Some((numbers.stream, Establishment::Ack)),
-            [OPEN, ..] if message.len() >= OPEN_SIZE => {
-                let label_size = read_u16_be(&message[8..]) as usize;
-                let protocol_size = read_u16_be(&message[10..]) as usize;
-                if message.len() != OPEN_SIZE + label_size + protocol_size {
-                    return None;
-                }
-                let (label, protocol) = message[OPEN_SIZE..].split_at(label_size);
-                let opened = Opened {
-                    by,
-                    tsn: numbers.tsn,
-                    sent,
-                    typ: message[1],
-                    priority: read_u16_be(&message[2..]),
-                    reliability: read_u32_be(&message[4..]),
-                    label: PeerText::of(label),
-                    protocol: PeerText::of(protocol),
-                    acknowledged: None,
-                    crossed: None,
-                };
-                Some((numbers.stream, Establishment::Open(opened)))
-            }
-            _ => None,
+        let label_size = read_u16_be(&message[8..]) as usize;
+        let protocol_size = read_u16_be(&message[10..]) as usize;
+        if message.len() != OPEN_SIZE + label_size + protocol_size {
+            return None;
         }
+        let (label, protocol) = message[OPEN_SIZE..].split_at(label_size);
+        Some(Open {
+            typ: message[1],
+            priority: read_u16_be(&message[2..]),
+            reliability: read_u32_be(&message[4..]),
+            label,
+            protocol,
+        })
     }
+}
+
+/// Returns the message of DCEP that a chunk holds all of, and the chunk's numbers; `None` for other
+/// chunks.
+fn message_in<'a>(chunk: Item<'a>) -> Option<(Numbers, &'a [u8])> {
+    let numbers = Numbers::of(chunk)?;
+    // with the bits B and E
+    if chunk.second % 4 != 3 || numbers.ppid != Some(DCEP) {
+        return None;
+    }
+    Some((numbers, chunk.value.after(numbers.header).bytes))
+}
+
+/// Returns the label of a DATA_CHANNEL_OPEN; `None` for chunks that don't hold all of one.
+pub fn label_of<'a>(chunk: Item<'a>) -> Option<&'a [u8]> {
+    let (_, message) = message_in(chunk)?;
+    let open = Open::of(message)?;
+    Some(open.label)
 }

@@ -37,7 +37,7 @@ pub struct Acknowledged {
     pub packet: PacketNumber,
 }
 
-/// What an end gave up: the other end is to wait for it no longer (RFC 3758 section 3.2, RFC 8260
+/// What an end gave up, and asked the other end not to wait for (RFC 3758 section 3.2, RFC 8260
 /// section 2.3.1).
 #[derive(Clone, Copy, Debug, PartialEq, Eq)]
 pub struct Skipped {
@@ -111,7 +111,7 @@ pub enum Learned {
     Known,
     /// It is new.
     New {
-        /// The tag that is known no longer, if two were known.
+        /// The tag that is forgotten for it, if two were known.
         forgotten: Option<u32>,
     },
 }

@@ -14,15 +14,6 @@ use dcsctp_wire::packet::data_chunk::DataNumbers;
 use dcsctp_wire::packet::idata_chunk::IDataNumbers;
 use dcsctp_wire::packet::{read_u16_be, read_u32_be};
 
-/// The payload protocol identifier of WebRTC DCEP (RFC 8832 section 8.1).
-const DCEP: u32 = 50;
-
-/// The message type of DATA_CHANNEL_OPEN (RFC 8832 section 5.1).
-const OPEN: u8 = 3;
-
-/// Its bytes before the label.
-const OPEN_SIZE: usize = 12;
-
 /// Which message of its stream it is.
 #[derive(Clone, Copy, Debug, PartialEq, Eq)]
 pub struct MessageKey {
@@ -211,26 +202,6 @@ impl Fragment {
 /// captured.
 pub fn stream_of(chunk: Item<'_>) -> Option<u16> {
     Some(Numbers::of(chunk)?.stream)
-}
-
-/// Returns the label of a DATA_CHANNEL_OPEN (RFC 8832 section 5.1); `None` for chunks that don't
-/// hold all of one.
-pub fn label_of<'a>(chunk: Item<'a>) -> Option<&'a [u8]> {
-    let numbers = Numbers::of(chunk)?;
-    // with the bits B and E
-    if chunk.second % 4 != 3 || numbers.ppid != Some(DCEP) {
-        return None;
-    }
-    let message = chunk.value.after(numbers.header).bytes;
-    if message.len() < OPEN_SIZE || message[0] != OPEN {
-        return None;
-    }
-    let label_size = read_u16_be(&message[8..]) as usize;
-    let protocol_size = read_u16_be(&message[10..]) as usize;
-    if message.len() != OPEN_SIZE + label_size + protocol_size {
-        return None;
-    }
-    message.get(OPEN_SIZE..OPEN_SIZE + label_size)
 }
 
 /// Returns whether these are all fragments of a message, in order: the one that begins it, those

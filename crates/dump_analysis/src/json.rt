@@ -4,13 +4,13 @@ use crate::announced::{Announced, Answer, Statement};
 use crate::association::{Association, Began, Ended, Established, Side};
 use crate::authentication_text::AuthenticationCountsJson;
 use crate::counts::Counts;
+use crate::delays::Delays;
 use crate::end::End;
 use crate::moment::Moment;
-use crate::packet_number::{PacketKeys, PacketNumber, file_of};
+use crate::packet_number::{PacketNumber, file_of, write_packet_keys};
 use crate::path::Path;
 use crate::paths::Paths;
-use crate::round_trips::RoundTrips;
-use crate::time::{TimeJson, TimeStyle};
+use crate::time::{TimeStyle, write_time_key};
 use crate::transport::Transport;
 use dump_text::json_text::JsonText;
 use dump_text::names::ChunkName;
@@ -138,8 +138,8 @@ impl<'a> AssociationJson<'a> {
             let authentication = AuthenticationCountsJson(end.authentication);
             write!(f, "{authentication}")?;
         }
-        if end.round_trips.count > 0 {
-            self.write_round_trips(&end.round_trips, f)?;
+        if end.round_trips.delays.count > 0 {
+            self.write_round_trips(&end.round_trips.delays, f)?;
         }
         f.write_str("}")
     }
@@ -178,8 +178,8 @@ impl<'a> AssociationJson<'a> {
         let (first, last) = (path.heartbeats.first(), path.heartbeats.last());
         self.write_packet("first_unanswered", "first_unanswered_file", first, f)?;
         self.write_packet("last_unanswered", "last_unanswered_file", last, f)?;
-        if path.round_trips.count > 0 {
-            self.write_round_trips(&path.round_trips, f)?;
+        if path.round_trips.delays.count > 0 {
+            self.write_round_trips(&path.round_trips.delays, f)?;
         }
         f.write_str("}")
     }
@@ -263,7 +263,7 @@ impl<'a> AssociationJson<'a> {
     /// Writes the round trips of an end's DATA.
     fn write_round_trips<W: fmt::Write>(
         &self,
-        trips: &RoundTrips,
+        trips: &Delays,
         f: &mut fmt::Formatter<W>,
     ) -> fmt::Result {
         let count = trips.count;
@@ -373,7 +373,7 @@ impl<'a> AssociationJson<'a> {
             let name = JsonText(name);
             write!(f, ",\"file\":{name}")?;
         }
-        self.write_time(nanoseconds, f)
+        write_time_key("time", nanoseconds, self.style, f)
     }
 
     /// Writes a packet's number, if there is one, and its file's name.
@@ -384,29 +384,7 @@ impl<'a> AssociationJson<'a> {
         packet: Option<PacketNumber>,
         f: &mut fmt::Formatter<W>,
     ) -> fmt::Result {
-        let Some(packet) = packet else {
-            return Ok(());
-        };
-        let keys = PacketKeys {
-            packet,
-            key,
-            file_key,
-            files: self.files,
-        };
-        write!(f, "{keys}")
-    }
-
-    /// Writes a time, if it is known.
-    fn write_time<W: fmt::Write>(
-        &self,
-        nanoseconds: Option<u64>,
-        f: &mut fmt::Formatter<W>,
-    ) -> fmt::Result {
-        let Some(nanoseconds) = nanoseconds else {
-            return Ok(());
-        };
-        let time = TimeJson(self.style.time(nanoseconds));
-        write!(f, ",\"time\":{time}")
+        write_packet_keys((key, file_key), packet, self.files, f)
     }
 
     /// Writes a span of time, in seconds.

@@ -17,7 +17,7 @@ use std::mem;
 pub enum Fate {
     /// All of it was acknowledged, by this packet at last.
     Acknowledged(Moment),
-    /// This packet told the receiver to wait for it no longer.
+    /// Its sender gave it up, and by this packet asked the receiver not to wait for it.
     Abandoned {
         /// The chunk's type: FORWARD-TSN (RFC 3758 section 3.2) or I-FORWARD-TSN (RFC 8260 section
         /// 2.3.1).

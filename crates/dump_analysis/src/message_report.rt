@@ -4,8 +4,8 @@ use crate::association::Side;
 use crate::end::Closed;
 use crate::message::{Fate, Message};
 use crate::moment::Moment;
-use crate::packet_number::{PacketKeys, PacketText};
-use crate::time::{TimeJson, TimeStyle};
+use crate::packet_number::{PacketText, write_packet_keys};
+use crate::time::{TimeStyle, write_time_key};
 use dump_text::hexadecimal::{write_digits, write_row};
 use dump_text::json_text::JsonText;
 use dump_text::names::ChunkName;
@@ -226,17 +226,32 @@ impl<'a> fmt::Display for MessageJson<'a> {
     fn fmt<W: fmt::Write>(&self, f: &mut fmt::Formatter<W>) -> fmt::Result {
         self.write_message(f)?;
         let message = self.0.message;
-        self.write_time("sent", message.sent, f)?;
-        self.write_packet("sent_packet", "sent_file", message.sent, f)?;
+        write_time_key("sent", message.sent.nanoseconds, self.0.style, f)?;
+        write_packet_keys(
+            ("sent_packet", "sent_file"),
+            Some(message.sent.packet),
+            self.0.files,
+            f,
+        )?;
         match message.fate {
             Fate::Acknowledged(moment) => {
-                self.write_time("acknowledged", moment, f)?;
-                self.write_packet("acknowledged_packet", "acknowledged_file", moment, f)?;
+                write_time_key("acknowledged", moment.nanoseconds, self.0.style, f)?;
+                write_packet_keys(
+                    ("acknowledged_packet", "acknowledged_file"),
+                    Some(moment.packet),
+                    self.0.files,
+                    f,
+                )?;
             }
             Fate::Abandoned { chunk, moment } => {
                 let name = ChunkName(chunk);
                 write!(f, ",\"abandoned_by\":\"{name}\"")?;
-                self.write_packet("abandoned_packet", "abandoned_file", moment, f)?;
+                write_packet_keys(
+                    ("abandoned_packet", "abandoned_file"),
+                    Some(moment.packet),
+                    self.0.files,
+                    f,
+                )?;
             }
             Fate::Unacknowledged => {}
         }
@@ -309,19 +324,14 @@ impl<'a> MessageJson<'a> {
         let Some(closed) = message.closed else {
             return Ok(());
         };
-        let first = PacketKeys {
-            packet: closed.first,
-            key: "closed_first",
-            file_key: "closed_first_file",
-            files: self.0.files,
-        };
-        let last = PacketKeys {
-            packet: closed.last,
-            key: "closed_last",
-            file_key: "closed_last_file",
-            files: self.0.files,
-        };
-        write!(f, "{first}{last}")
+        let (first, last) = (Some(closed.first), Some(closed.last));
+        write_packet_keys(
+            ("closed_first", "closed_first_file"),
+            first,
+            self.0.files,
+            f,
+        )?;
+        write_packet_keys(("closed_last", "closed_last_file"), last, self.0.files, f)
     }
 
     /// Writes its user data.
@@ -336,37 +346,6 @@ impl<'a> MessageJson<'a> {
             }
             _ => Ok(()),
         }
-    }
-
-    /// Writes a time, if it is known.
-    fn write_time<W: fmt::Write>(
-        &self,
-        key: &'static str,
-        moment: Moment,
-        f: &mut fmt::Formatter<W>,
-    ) -> fmt::Result {
-        let Some(nanoseconds) = moment.nanoseconds else {
-            return Ok(());
-        };
-        let time = TimeJson(self.0.style.time(nanoseconds));
-        write!(f, ",\"{key}\":{time}")
-    }
-
-    /// Writes a packet's number, and its file's name.
-    fn write_packet<W: fmt::Write>(
-        &self,
-        key: &'static str,
-        file_key: &'static str,
-        moment: Moment,
-        f: &mut fmt::Formatter<W>,
-    ) -> fmt::Result {
-        let keys = PacketKeys {
-            packet: moment.packet,
-            key,
-            file_key,
-            files: self.0.files,
-        };
-        write!(f, "{keys}")
     }
 }
 

@@ -58,6 +58,25 @@ impl<'a> fmt::Display for PacketKeys<'a> {
     }
 }
 
+/// Writes a packet's number, if there is one, as `PacketKeys` does.
+pub fn write_packet_keys<W: fmt::Write>(
+    (key, file_key): (&'static str, &'static str),
+    packet: Option<PacketNumber>,
+    files: &[String],
+    f: &mut fmt::Formatter<W>,
+) -> fmt::Result {
+    let Some(packet) = packet else {
+        return Ok(());
+    };
+    let keys = PacketKeys {
+        packet,
+        key,
+        file_key,
+        files,
+    };
+    write!(f, "{keys}")
+}
+
 /// Returns the name of a packet's file, if files have names.
 pub fn file_of<'a>(packet: PacketNumber, files: &'a [String]) -> Option<&'a str> {
     match files.get(packet.file as usize) {

@@ -32,8 +32,8 @@ impl Way {
     }
 }
 
-/// A path: what one end sent from one of its addresses to one of the other end's. (RFC 9260 section
-/// 1.3 tells paths apart by the destination alone.)
+/// A path: what one end sent from one of its addresses to one of the other end's. (In RFC 9260
+/// section 1.3 a path is a destination address alone, whichever the source is.)
 #[derive(Debug, Drop)]
 pub struct Path {
     /// Whose path it is, and between which addresses.

@@ -3,13 +3,13 @@
 use crate::announced::{Announced, Answer, Statement};
 use crate::association::{Association, Began, Ended, Established, Side};
 use crate::counts::Counts;
+use crate::delays::Delays;
 use crate::end::End;
 use crate::key_vector::KeyVectors;
 use crate::moment::Moment;
 use crate::packet_number::{PacketNumber, PacketText};
 use crate::path::Path;
 use crate::paths::Paths;
-use crate::round_trips::RoundTrips;
 use crate::time::TimeStyle;
 use crate::transport::Transport;
 use dump_text::names::{CauseName, ChunkName};
@@ -214,7 +214,7 @@ impl<'a> AssociationReport<'a> {
             let authentication = end.authentication;
             writeln!(f, "  {authentication}")?;
         }
-        self.write_round_trips(&end.round_trips, f)
+        self.write_round_trips(&end.round_trips.delays, f)
     }
 
     /// Writes the paths, and how many packets went on those that found no room.
@@ -254,7 +254,7 @@ impl<'a> AssociationReport<'a> {
             write!(f, " (first {first}, last {last})")?;
         }
         f.write_str("\n")?;
-        self.write_round_trips(&path.round_trips, f)
+        self.write_round_trips(&path.round_trips.delays, f)
     }
 
     /// Writes the number and the time of a packet.
@@ -271,7 +271,7 @@ impl<'a> AssociationReport<'a> {
     /// Writes the line of the round trips, if there are some.
     fn write_round_trips<W: fmt::Write>(
         &self,
-        trips: &RoundTrips,
+        trips: &Delays,
         f: &mut fmt::Formatter<W>,
     ) -> fmt::Result {
         let count = trips.count;

@@ -117,6 +117,20 @@ impl fmt::Display for TimeJson {
     }
 }
 
+/// Writes a time, if it is known, as a key and a value of JSON, with a comma before them.
+pub fn write_time_key<W: fmt::Write>(
+    key: &'static str,
+    nanoseconds: Option<u64>,
+    style: TimeStyle,
+    f: &mut fmt::Formatter<W>,
+) -> fmt::Result {
+    let Some(nanoseconds) = nanoseconds else {
+        return Ok(());
+    };
+    let time = TimeJson(style.time(nanoseconds));
+    write!(f, ",\"{key}\":{time}")
+}
+
 /// A span of time in seconds, as `0.000210`.
 #[derive(Clone, Copy, Debug)]
 pub struct SecondsReport {

@@ -1,6 +1,6 @@
 use Rattle.std.proofs.Common.{◌≡◌, ◌≤◌, ◌<◌, ◌+◌, ◌*◌, ◌/◌, take}
 use Rattle.std.specs.List.{sum}
-use Rattle.dump_analysis.proofs.round_trips.RoundTrips.median.Given as goal
+use Rattle.dump_analysis.proofs.delays.Delays.median.Given as goal
 
 abbrev pub invariant-loop-bucket : goal.invariant-loop-bucket
 invariant-loop-bucket l = record {

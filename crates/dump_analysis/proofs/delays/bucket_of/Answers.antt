@@ -2,7 +2,7 @@ use Rattle.std.proofs.Common.{ℕ, ◌/◌, ◌^◌, ap, sym, ◌∙◌, arith}
 use Rattle.std.proofs.lemmas.Nat.{pow-add, pow_pos}
 use Rattle.std.proofs.Math.Nat.{div-mul-le_self, lt-div-mul-add, div-div-eq-div-mul}
 use Rattle.dump_analysis.proofs.Buckets.{least, next}
-use Rattle.dump_analysis.proofs.round_trips.bucket_of.Goals as goal
+use Rattle.dump_analysis.proofs.delays.bucket_of.Goals as goal
 
 pub returns-then-rest-lt16-clause-from : goal.returns-then-rest-lt16-clause-from
 returns-then-rest-lt16-clause-from c =

@@ -1,5 +1,5 @@
 use Rattle.std.proofs.Common.{◌≡◌, ◌/◌, ◌^◌, ◌≤◌}
-use Rattle.dump_analysis.proofs.round_trips.bucket_of.Given as goal
+use Rattle.dump_analysis.proofs.delays.bucket_of.Given as goal
 
 abbrev pub invariant-loop-octave : goal.invariant-loop-octave
 invariant-loop-octave l = record {
