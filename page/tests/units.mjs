@@ -988,6 +988,11 @@ each('a field', i => {
   [12, '1 chunk=66 [] in chunks 2 other up to 13'],
   [13, '0 fault= [] in - - up to 16'],
 ]);
+each('a packet’s tunnels', tunnels => nodesOf({ packet: 1, tunnels }).map(it => `${it.depth} ${it.label}=${it.value}`).join(', '), [
+  [[{ kind: 'GTP-U', from: '192.0.2.1', to: '192.0.2.2', identifier: 2561 }, { kind: 'IP', from: '10.1.0.1', to: '10.1.0.2' }],
+    '0 packet=1, 0 tunnels 1=identifier 2561, 1 kind=GTP-U, 1 from=192.0.2.1, 1 to=192.0.2.2, 1 identifier=2561, ' +
+    '0 tunnels 2=, 1 kind=IP, 1 from=10.1.0.1, 1 to=10.1.0.2'],
+]);
 // A key that has a place alone: its value is in the packet's bytes, as far as they were captured.
 each('a field with a place alone', (bytes, ...place) => {
   const [, size, payload] = nodesOf({ packet: 1, bytes, payload_size: 2, 'payload@': place }), none = { label: 'none' };

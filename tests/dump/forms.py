@@ -377,6 +377,8 @@ def inputs():
         lines += [header + row for row in sum(rows, [])]
     yield ["-"], "\n".join(lines).encode()
     yield ["-"], with_cuts()
+    tunnels = open(f"{ROOT}/tests/dump/runs.txt").read().split("# ---- tunnels\n")[1].split("\n# ----")[0]
+    yield ["-"], "\n".join(line[2:] for line in tunnels.splitlines() if line[:2] == "< ").encode()
     for case in with_auth, vectors:
         yield ["--auth-key=7:0badc0de", "-"], pcap(case(bytes.fromhex("0badc0de"), 7).packets)
 

@@ -146,10 +146,11 @@ pub fn is_known_link(link_type: u16) -> bool
 /// The packet is protocol 132 of IPv4 or of IPv6, or it is in UDP with `udp_port` on either side.
 /// It may be after any 802.1Q and 802.1ad tags, MPLS labels, PPP and PPPoE in a session, and after
 /// the authentication header and IPv6's extension headers. It may be in tunnels, up to four in one
-/// another: IP in IP, GRE, ERSPAN, and in UDP to its own port VXLAN, Geneve or GTP-U. It is as long
-/// as the innermost header says, and what follows in the frame, or a tunnel's payload, is left out;
-/// if the frame was cut off, or a tunnel's payload is shorter, it has fewer bytes than `length`,
-/// maybe none. An IPv4 packet whose length is 0 reaches to the end of the frame or of that payload.
+/// another: IP in IP, GRE, ERSPAN, and in UDP to its own port VXLAN, Geneve or GTP-U; `tunnels_in`
+/// gives these. It is as long as the innermost header says, and what follows in the frame, or a
+/// tunnel's payload, is left out; if the frame was cut off, or a tunnel's payload is shorter, it
+/// has fewer bytes than `length`, maybe none. An IPv4 packet whose length is 0 reaches to the end
+/// of the frame or of that payload.
 ///
 /// Otherwise returns the first of these from the link's header inward: `LinkType`; `Cut` if fewer
 /// bytes were captured than a header has; `Malformed` if a header has another version than its type

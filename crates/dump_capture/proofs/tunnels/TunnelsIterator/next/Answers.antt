@@ -1,4 +1,4 @@
-use Rattle.std.proofs.Common.{◌≡◌, ◌-◌, [], ◌∷◌, Some, None, refl, arith}
+use Rattle.std.proofs.Common.{◌≡◌, [], Some, None, refl, arith}
 use Rattle.dump_capture.specs.Found.{payload_of}
 use Rattle.dump_capture.specs.Tunnels.{first_tunnel, tunnels}
 use Rattle.dump_capture.proofs.FirstTunnel.{none_first, one_first}
