@@ -355,6 +355,8 @@ def compare(path, program):
 # ---- captures
 
 BEGINS, ENDS, UNORDERED = 2, 1, 4
+# how many bytes of user data are kept; of messages of one size, so many are outstanding at once that some find no room
+KEPT, SIZE, OUTSTANDING = 16_777_216, 60_000, 320
 
 
 def piece(tsn, bits, stream=1, number=0, payload=b'hello', ppid=51):
@@ -405,6 +407,9 @@ def reasons():
     # what an end sends after its TSN was acknowledged; and what is outstanding as the association ends
     sent(piece(21, ENDS, number=6))
     sent(piece(22, BEGINS, number=7))
+    # of the same size, with another byte in the first eight, or after them
+    sent(piece(24, BEGINS | ENDS, number=8, payload=b'hello, hello'), piece(25, BEGINS | ENDS, number=9, payload=b'hello, hello'))
+    sent(piece(24, BEGINS | ENDS, number=8, payload=b'hallo, hello'), piece(25, BEGINS | ENDS, number=9, payload=b'hello, hallo'))
     capture.add(B, A, tags[0], piece(2000, BEGINS | ENDS))
     capture.add(A, B, tags[1], base.chunk(ABORT, 0, b''))
     sent(piece(23, ENDS, number=7))
@@ -488,6 +493,29 @@ def drawn(seed):
     return capture
 
 
+def full():
+    """More user data at once than is kept, and then as much again, one message after the other."""
+    capture = base.Capture('full')
+    tags = base.handshake(capture)
+    payload = bytes(SIZE)
+    for tsn in range(1000, 1000 + 2 * OUTSTANDING):
+        capture.add(A, B, tags[1], piece(tsn, BEGINS | ENDS, number=tsn, payload=payload), checksum='zero')
+        if tsn >= 1000 + OUTSTANDING - 1:
+            capture.add(B, A, tags[0], base.sack(tsn))
+    return capture
+
+
+def unkept(program, path):
+    """Returns how many messages have a payload that isn't known, or one that should not be."""
+    lines = [json.loads(line) for line in printed(program, path, '--json', '--messages', '--payload', '--summary')]
+    known = ['payload' in line for line in lines if 'message_of' in line]
+    wanted = [at < KEPT // SIZE or at >= OUTSTANDING for at in range(2 * OUTSTANDING)]
+    wrong = sum(one != other for one, other in zip(known, wanted)) + abs(len(known) - len(wanted))
+    if wrong:
+        print('full.pcap: of %d messages the payload is known or not, and should not be' % wrong)
+    return wrong
+
+
 def next_fragment(draw, one, side):
     """Draws the next TSN of an end, and its chunk: of the message that is open, or with I-DATA of one of them."""
     tsn, streams = one['next'][side], one['open'][side]
@@ -560,6 +588,8 @@ def run(given, folder):
             for line in modelled(path):
                 print(json.dumps(line))
         return 0
+    if not given.captures:
+        total, wrong = 2 * OUTSTANDING, unkept(given.program, full().write(folder))
     with ThreadPoolExecutor(2) as pool:
         for messages, differing in pool.map(lambda path: compare(path, given.program), captures):
             total, wrong = total + messages, wrong + differing
