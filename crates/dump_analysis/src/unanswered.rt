@@ -136,11 +136,23 @@ impl Unanswered {
     }
 }
 
-/// Returns a digest of bytes (FNV-1a).
+/// Returns a digest of bytes: as FNV-1a, but eight bytes at a time, whose high bits are turned to the
+/// low ones.
 pub fn digest(bytes: &[u8]) -> u64 {
+    let (words, rest) = bytes.as_chunks::<8>();
     let mut digest: u64 = 0xcbf2_9ce4_8422_2325;
-    for byte in bytes {
-        digest = (digest ^ u64::from(*byte)).wrapping_mul(0x0000_0100_0000_01b3);
+    for word in words {
+        digest = mixed(digest, u64::from_le_bytes(*word));
+    }
+    for byte in rest {
+        digest = mixed(digest, u64::from(*byte));
     }
     digest
+}
+
+/// Returns the digest of what has this one and a further word.
+fn mixed(digest: u64, word: u64) -> u64 {
+    (digest ^ word)
+        .wrapping_mul(0x9e37_79b9_7f4a_7c15)
+        .rotate_left(32)
 }
