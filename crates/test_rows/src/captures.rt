@@ -48,17 +48,20 @@ fn write_found(udp_port: u16, bytes: &[u8], out: &mut String) -> Result<(), Allo
 
 /// Writes the tunnels of a frame, of the same bytes.
 fn write_tunnels(bytes: &[u8], out: &mut String) -> Result<(), AllocError> {
-    let mut before = "";
+    let mut is_first = true;
     for tunnel in tunnels_in(
         UDP_PORT,
         short_at(bytes, 0),
         word_at(bytes, 2),
         from(bytes, 6),
     ) {
-        write!(out, "{before}{tunnel:?}")?;
-        before = "; ";
+        if !is_first {
+            out.push_str("; ")?;
+        }
+        is_first = false;
+        write!(out, "{tunnel:?}")?;
     }
-    if before.is_empty() {
+    if is_first {
         out.push_str("none")?;
     }
     Ok(())
