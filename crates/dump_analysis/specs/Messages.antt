@@ -1,5 +1,5 @@
 -- When the fragments of a user message that were seen are all of it.
-use Rattle.std.specs.Prelude.{◌+◌, ◌%◌, ◌^◌, ◌==◌, ◌&&◌, not, ℕ, Bool, false, List, [], ◌∷◌}
+use Rattle.std.specs.Prelude.{◌+◌, ◌%◌, ◌^◌, ◌==◌, ◌&&◌, not, Bool, false, List, [], ◌∷◌}
 use Rattle.dump_analysis.specs.declared.fragment.Fragment.{Fragment}
 
 -- "The transmitter MUST then assign, in sequence, a separate TSN to each of the DATA chunks in the
