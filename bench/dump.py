@@ -4,65 +4,54 @@
 
 usage: bench/dump.py [PROGRAM]
 
-Makes bench/out/bulk10.pcap and bulk100.pcap: a bulk transfer over Ethernet and IPv4, two DATA that fill 1,200 bytes
-and then a SACK of the peer, all with their CRC32c. A thousand such packets come again and again, with rising times.
-Runs each command three times over each file, its output thrown away, and prints a Markdown table of what /usr/bin/time
-says: the least seconds, and the greatest resident memory. PROGRAM is crates/sctp_dump/out/sctp_dump unless it is named (docs/DUMP.md
-says how to build it)."""
-import itertools
+Makes bench/out/bulk10.pcap and bulk100.pcap: a bulk transfer over Ethernet and IPv4, two DATA that fill 1,200 bytes and then a SACK of
+the peer, whose TSNs rise; messages of one to eight fragments on four streams, a half of them strings, of ASCII, and the others random
+bytes; checksums of zero, as WebRTC may send them (RFC 9653), which take as long as others. Runs each command three times over each file,
+its output thrown away, and prints a Markdown table of what /usr/bin/time says: the least seconds, and the greatest resident memory.
+PROGRAM is crates/sctp_dump/out/sctp_dump unless it is named (docs/DUMP.md says how to build it)."""
 import os
+import random
 import shutil
 import struct
 import subprocess
 import sys
 
-from traffic import Draw, Peer
-
 ROOT = os.path.dirname(os.path.dirname(os.path.abspath(__file__)))
-PACKETS, TURNS, SIZES = 1000, 3, (10, 100)
-ADDRESSES = bytes([192, 0, 2, 1]), bytes([192, 0, 2, 2])
+TURNS, SIZES, PAYLOAD = 3, (10, 100), 1172
+ENDS = (bytes([192, 0, 2, 1]), 5000, 0x11111111), (bytes([192, 0, 2, 2]), 5001, 0x22222222)
+STRING, BINARY = 51, 53
 
 
-def crc_table():
-    for byte in range(256):
-        for _ in range(8):
-            byte = byte >> 1 ^ 0x82F63B78 * (byte & 1)
-        yield byte
-
-
-TABLE = list(crc_table())
-
-
-def sealed(packet):
-    """The packet with its CRC32c (RFC 9260 appendix A)."""
-    crc = 0xFFFFFFFF
-    for byte in packet[:8] + bytes(4) + packet[12:]:
-        crc = crc >> 8 ^ TABLE[(crc ^ byte) & 255]
-    return packet[:8] + struct.pack('<I', crc ^ 0xFFFFFFFF) + packet[12:]
-
-
-def frame(packet, addresses):
-    ip = struct.pack('>BBHHHBBH', 0x45, 0, 20 + len(packet), 0, 0x4000, 64, 132, 0) + b''.join(addresses)
-    total = sum(struct.unpack('>10H', ip))
-    total = (total & 0xFFFF) + (total >> 16)
-    return bytes(12) + b'\x08\x00' + ip[:10] + struct.pack('>H', 0xFFFF - total) + ip[12:] + packet
+def frame(sender, receiver, chunk):
+    header = struct.pack('>HHII', sender[1], receiver[1], receiver[2], 0)
+    ip = struct.pack('>BBHHHBBH', 0x45, 0, 32 + len(chunk), 0, 0x4000, 64, 132, 0)
+    return bytes(12) + b'\x08\x00' + ip + sender[0] + receiver[0] + header + chunk
 
 
 def frames():
-    sender, receiver = Peer(Draw(1, 'sender')), Peer(Draw(1, 'receiver'))
-    for at in range(PACKETS):
-        if at % 3 < 2:
-            yield frame(sealed(sender.packet(sender.data(1172))), ADDRESSES)
-        else:
-            blocks = receiver.gaps(receiver.draw.one_of((0, 0, 0, 1, 2)))
-            yield frame(sealed(receiver.packet(receiver.sack(blocks))), ADDRESSES[::-1])
+    """Yields frames without an end."""
+    draw = random.Random(1)
+    payloads = {BINARY: [draw.randbytes(PAYLOAD) for _ in range(64)]}
+    payloads[STRING] = [bytes(32 + byte % 95 for byte in payload) for payload in payloads[BINARY]]
+    tsn, left, numbers = 1, 0, [0] * 4
+    while True:
+        for _ in range(2):
+            begins = left == 0
+            if begins:
+                left, stream, ppid = draw.choice((1, 1, 1, 4, 8)), draw.randrange(4), draw.choice((STRING, BINARY))
+                numbers[stream] = (numbers[stream] + 1) % 2 ** 16
+            left -= 1
+            header = struct.pack('>BBHIHHI', 0, 2 * begins + (left == 0), 16 + PAYLOAD, tsn, stream, numbers[stream], ppid)
+            yield frame(*ENDS, header + draw.choice(payloads[ppid]))
+            tsn += 1
+        yield frame(*ENDS[::-1], struct.pack('>BBHIIHH', 3, 0, 16, tsn - 1, 100_000, 0, 0))
 
 
-def write(path, size, contents):
+def write(path, size):
     """Writes a capture of at least `size` bytes, and returns the number of its packets."""
     with open(path, 'wb') as file:
         file.write(struct.pack('<IHHiIII', 0xA1B2C3D4, 2, 4, 0, 0, 262144, 1))
-        for at, content in enumerate(itertools.cycle(contents)):
+        for at, content in enumerate(frames()):
             if file.tell() >= size:
                 return at
             header = 1700000000 + at // 10000, at % 10000 * 100, len(content), len(content)
@@ -88,13 +77,13 @@ def main():
         print(__doc__)
         return
     program = sys.argv[1] if len(sys.argv) > 1 else os.path.join(ROOT, 'crates', 'sctp_dump', 'out', 'sctp_dump')
-    commands = [[program, '--summary'], [program], [program, '--payload']]
+    forms = [], ['--summary'], ['--payload'], ['--json'], ['--brief'], ['--associations'], ['--messages'], ['--channels']
+    commands = [[program, *form] for form in forms]
     commands += [['tshark', '-n', '-r'], ['tshark', '-n', '-V', '-r']] if shutil.which('tshark') else []
     folder = os.path.join(ROOT, 'bench', 'out')
     os.makedirs(folder, exist_ok=True)
-    contents = list(frames())
     paths = [os.path.join(folder, 'bulk%d.pcap' % size) for size in SIZES]
-    packets = [write(path, size * 10 ** 6, contents) for path, size in zip(paths, SIZES)]
+    packets = [write(path, size * 10 ** 6) for path, size in zip(paths, SIZES)]
     heads = ['%d MB, %s packets: user s | wall s | KiB' % it for it in zip(SIZES, (format(it, ',') for it in packets))]
     print('| command | %s |\n| --- ' % ' | '.join(heads) + '| --: ' * 3 * len(SIZES) + '|')
     for command in commands:
