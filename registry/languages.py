@@ -246,8 +246,8 @@ def c_names(level, rows):
 
 
 C_BYTES = '''\
-/* Where a constant is marked as bytes to this library, dcsctp_registered_chunk, .._parameter or .._cause reads its value; to
-   all other functions that is bytes. */
+/* Where a constant is marked as bytes to this library, dcsctp_registered_chunk, .._parameter or .._cause reads its value, of
+   which a check takes any bytes. */
 
 '''
 
