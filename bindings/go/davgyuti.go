@@ -19,19 +19,22 @@
 // the packet's bytes, and not copied. Any number of goroutines may read the same packet. The bytes have to stay readable
 // while a call runs: a fault in C, as of a mapped file that was cut, can't be recovered.
 //
+// Check of a packet that is one, IsValid, VerifyTag, OutOfTheBlue, BrokenRules, Header and ChunkAt allocate nothing, nor does a
+// Parsed that has grown. A fault allocates its Error, Chunks its iterator; any other list its iterator, and its items at the
+// first Next.
+//
 // # What a receiver still has to check
 //
-// Check says that bytes are a packet: its checksum and all its lengths are right. It says nothing of the association. A
-// receiver still has to check that
-//   - the verification tag is right, by VerifyTag, and OutOfTheBlue where the packet belongs to no association;
-//   - no port is 0, and no payload is empty;
-//   - a packet with INIT or INIT ACK has no InitFault;
-//   - SHUTDOWN COMPLETE is alone, COOKIE ECHO is first or comes right after AUTH, control chunks come before user data, and
-//     nothing after ABORT;
-//   - HEARTBEAT has one Heartbeat Info;
-//   - a chunk whose type IsListed comes after an AUTH that VerifyAuth accepts;
-//   - the blocks of a SACK are in order, by IsValidSACK; if not, its cumulative TSN still counts;
-//   - under Policy.ZeroChecksum, Header.Checksum is Word of a packet that NeedsChecksum; Policy.AllowedZeroChecksum checks that.
+// Check says that bytes are a packet: its checksum and all its lengths are right. It says nothing of the association. Most of
+// what is left BrokenRules says in one call: ports and tags of 0, INIT and INIT ACK, the order of the chunks, SHUTDOWN COMPLETE
+// that isn't alone, HEARTBEAT without a Heartbeat Info, empty payloads, the blocks of a SACK, a checksum of 0. A receiver still
+// has to check
+//   - that the verification tag is right, by VerifyTag, and OutOfTheBlue where the packet belongs to no association;
+//   - what is done with an INIT or INIT ACK that has an InitFault, by its Refusal, and that it has no Host Name Address, which an
+//     ABORT answers (section 5.1.2);
+//   - that HEARTBEAT has no second Heartbeat Info;
+//   - that a chunk whose type IsListed comes after an AUTH that VerifyAuth accepts;
+//   - that the blocks of a SACK are in order, by IsValidSACK; if not, its cumulative TSN still counts.
 //
 // A chunk, a parameter or an error cause of a type that isn't known is accepted, whatever its value.
 //
@@ -69,8 +72,9 @@ import (
 )
 
 // A Code says why a call failed; it is an error, and what errors.Is compares an error of this package with. The faults of
-// bytes are returned in an *Error, by Packet's Check, Print, Report and Canonical. All else is returned as a Code alone:
-// ErrNoMemory by Print, ErrTooLong by Canonical, and each error of Seal, SetTag, Begin and the methods of a Builder.
+// bytes are returned in an *Error, by Packet's Check, Print, Report and Canonical, by Parsed.Read and by ReadChunk. All else is
+// returned as a Code alone: ErrNoMemory by Print, ErrTooLong by Canonical, and each error of Seal, SetTag, Begin and the methods
+// of a Builder.
 type Code uint32
 
 // The codes: the faults of bytes that are no packet, and why nothing was written.
@@ -105,10 +109,25 @@ func (code Code) Error() string {
 	return "davgyuti: " + C.GoString(C.dcsctp_result_text(C.uint32_t(code)))
 }
 
-// An Error is the first fault of bytes that are no packet. It wraps its Code, for errors.Is.
+// Name returns the code in a word, for counters and logs: "size", "checksum", "length", "value", "padding", "no-memory",
+// "no-room", "too-long", "bad-value" or "bad-place". "unknown" of a number that is no code.
+func (code Code) Name() string {
+	names := [...]string{ErrSize: "size", ErrChecksum: "checksum", ErrLength: "length", ErrValue: "value", ErrPadding: "padding",
+		ErrNoMemory: "no-memory", ErrNoRoom: "no-room", ErrTooLong: "too-long", ErrBadValue: "bad-value", ErrBadPlace: "bad-place"}
+	if code == 0 || int64(code) >= int64(len(names)) {
+		return "unknown"
+	}
+	return names[code]
+}
+
+// An Error is the first fault of bytes that are no packet. It wraps its Code, for errors.Is. Its Offset is
+//   - of ErrSize how many bytes there are, at most 65,535;
+//   - of ErrChecksum 8, where the field is;
+//   - of ErrLength where the chunk, the parameter or the error cause begins, and of ErrValue where the parameter does;
+//   - of ErrPadding where the first byte is that isn't zero, or the end of the bytes where padding is missing.
 type Error struct {
 	Code   Code
-	Offset int // where the fault is; of ErrSize how many bytes there are, at most 65,535
+	Offset int // from the bytes' beginning
 }
 
 // Error returns what the code means, and the offset.

@@ -447,6 +447,15 @@ func TestFaults(t *testing.T) {
 	equal(t, "padding", sealed("0a000007 616263 01").Check(davgyuti.Policy{}), nil)
 }
 
+func TestCodeNames(t *testing.T) {
+	for code, name := range []string{"unknown", "size", "checksum", "length", "value", "padding", "no-memory", "no-room", "too-long",
+		"bad-value", "bad-place", "unknown"} {
+		equal(t, "name", davgyuti.Code(code).Name(), name)
+	}
+	equal(t, "name", davgyuti.Code(1<<32-1).Name(), "unknown")
+	equal(t, "name", []string{davgyuti.ErrPadding.Name(), davgyuti.ErrBadPlace.Name()}, []string{"padding", "bad-place"})
+}
+
 func TestBuilder(t *testing.T) {
 	// What has no room changes nothing.
 	buffer := bytes.Repeat([]byte{0xee}, 32)

@@ -63,8 +63,16 @@ func ExampleReadChunk() {
 
 // receive returns what answers a packet that Check accepts, if anything does; association is nil where it belongs to none.
 func receive(packet davgyuti.Packet, association *davgyuti.Association, key []byte, now uint64) (davgyuti.Packet, error) {
-	if association != nil && packet.VerifyTag(*association) != davgyuti.TagOutOfTheBlue {
-		return nil, nil // TagAccept: its chunks are the association's
+	if association != nil {
+		switch packet.VerifyTag(*association) {
+		case davgyuti.TagAccept:
+			return nil, nil // its chunks are the association's
+		case davgyuti.TagEstablish:
+			return nil, nil // an INIT or COOKIE ECHO for one that is there: RFC 9260 section 5.2
+		case davgyuti.TagDiscard:
+			return nil, nil
+		case davgyuti.TagOutOfTheBlue: // as if there were none
+		}
 	}
 	header, _ := packet.Header()
 	switch answer := packet.OutOfTheBlue(true); answer {

@@ -6,8 +6,9 @@ package davgyuti
 import "C"
 
 // A Parsed is a packet that Read has read with all its chunks and their lists, in one call of C. Keep one, and read packet after
-// packet into it: nothing is allocated, once it has the memory that the largest packet took (a packet can have 16,380 chunks,
-// for which it keeps 2 megabytes). The zero value has no chunks.
+// packet into it: of a packet nothing is allocated, once it has the memory that the largest one took (a packet can have 16,380
+// chunks, for which it keeps 2 megabytes). Of what is no packet the *Error is, and so it stays as it is when the next one is read:
+// where many are refused, ask IsValid first, which allocates nothing. The zero value has no chunks.
 //
 //	var parsed davgyuti.Parsed
 //	for {
@@ -38,7 +39,7 @@ type Parsed struct {
 	items   []C.struct_dcsctp_parameter
 }
 
-// Read reads a packet, and returns nil; or an *Error, as Check returns it, and then there are no chunks.
+// Read reads a packet, and returns nil; or an *Error, as Check returns it, and then there are no chunks, and Header is zero.
 func (parsed *Parsed) Read(packet Packet, policy Policy) error {
 	if len(parsed.rows) == 0 {
 		parsed.grow(C.struct_go_counts{8, 32, 8, 8, 16})
@@ -62,6 +63,7 @@ func (parsed *Parsed) Read(packet Packet, policy Policy) error {
 		parsed.grow(counts)
 	}
 	if parsed.read.code != C.DCSCTP_OK {
+		parsed.Header = Header{}
 		return &Error{Code(parsed.read.code), int(parsed.read.fault_offset)}
 	}
 	header := &parsed.read.header

@@ -20,7 +20,7 @@ func isRead(t *testing.T, parsed *davgyuti.Parsed, packet davgyuti.Packet, polic
 	err := parsed.Read(packet, policy)
 	equal(t, what, err, packet.Check(policy))
 	if err != nil {
-		equal(t, what, parsed.Len(), 0)
+		equal(t, what, []interface{}{parsed.Len(), parsed.Header}, []interface{}{0, davgyuti.Header{}})
 		return false
 	}
 	header, _ := packet.Header()
@@ -146,6 +146,49 @@ func TestParsedAllocates(t *testing.T) {
 			defer func() { equal(t, "panics", recover() != nil, true) }()
 			out()
 		}()
+	}
+}
+
+// An Error isn't the next one's.
+func TestParsedError(t *testing.T) {
+	var parsed davgyuti.Parsed
+	err := parsed.Read(sealed("0b000003"), davgyuti.Policy{})
+	equal(t, "other", parsed.Read(nil, davgyuti.Policy{}), &davgyuti.Error{Code: davgyuti.ErrSize})
+	equal(t, "first", err, &davgyuti.Error{Code: davgyuti.ErrLength, Offset: 12})
+}
+
+// What the package's comment says of allocations.
+func TestAllocations(t *testing.T) {
+	packet, fault := sealed(strings.Join(bare, "")), sealed("0b000004 0b000003")
+	var parsed davgyuti.Parsed
+	equal(t, "read", parsed.Read(packet, davgyuti.Policy{}), nil)
+	sack := only(t, sealed("03000014 0000000a 00010000 0001 0000 00020003"))
+	chunks, blocks := packet.Chunks(), make([]*davgyuti.Iterator[davgyuti.GapAckBlock], 0, 11)
+	for i := 0; i < cap(blocks); i++ {
+		blocks = append(blocks, sack.GapAckBlocks())
+	}
+	next := 0
+	for _, c := range []struct {
+		what    string
+		call    func()
+		isThere bool // whether something is allocated
+	}{
+		{"Check", func() { _ = packet.Check(davgyuti.Policy{}) }, false},
+		{"Check of a fault", func() { _ = fault.Check(davgyuti.Policy{}) }, true},
+		{"IsValid", func() { packet.IsValid(davgyuti.Policy{}) }, false},
+		{"IsValid of a fault", func() { fault.IsValid(davgyuti.Policy{}) }, false},
+		{"Parsed.Read of a fault", func() { _ = parsed.Read(fault, davgyuti.Policy{}) }, true},
+		{"VerifyTag", func() { packet.VerifyTag(davgyuti.Association{OwnTag: own}) }, false},
+		{"OutOfTheBlue", func() { packet.OutOfTheBlue(true) }, false},
+		{"BrokenRules", func() { packet.BrokenRules(davgyuti.Known{}) }, false},
+		{"Header", func() { packet.Header() }, false},
+		{"ChunkAt", func() { packet.ChunkAt(davgyuti.FirstChunk) }, false},
+		{"Chunks", func() { packet.Chunks() }, true},
+		{"Next of Chunks", func() { chunks.Next() }, false},
+		{"GapAckBlocks", func() { sack.GapAckBlocks() }, true},
+		{"the first Next of GapAckBlocks", func() { blocks[next].Next(); next++ }, true},
+	} {
+		equal(t, c.what, testing.AllocsPerRun(10, c.call) > 0, c.isThere)
 	}
 }
 

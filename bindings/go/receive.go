@@ -55,7 +55,8 @@ func (t ParameterType) UnrecognizedAction() Action {
 	return Action(C.dcsctp_unrecognized_parameter(C.uint16_t(t)))
 }
 
-// An Association is what is known of an association before the tag of a packet is looked at.
+// An Association has the tags of an association, for VerifyTag. As long as you keep none (a client does from its INIT on, a server from
+// the COOKIE ECHO on) you have no tag of your own to compare: ask OutOfTheBlue instead.
 type Association struct {
 	OwnTag       uint32 // the initiate tag that you sent
 	PeerTag      uint32 // the initiate tag that the peer sent
@@ -70,7 +71,9 @@ type TagVerdict uint32
 const (
 	// TagAccept: the tag is right, and the packet is processed.
 	TagAccept TagVerdict = C.DCSCTP_TAG_ACCEPT
-	// TagEstablish: an INIT alone under the tag 0, or COOKIE ECHO first or behind AUTH; section 5 says what is done.
+	// TagEstablish: an INIT alone under the tag 0, or COOKIE ECHO first or behind AUTH, under any other; section 5 says what is done.
+	// It goes where AnswerInit and AnswerCookieEcho go. Of an association that is there already INIT gets an INIT ACK with another
+	// tag, and a State Cookie with the Tie-Tags (section 5.2.2), and COOKIE ECHO what Table 12 says (section 5.2.4).
 	TagEstablish TagVerdict = C.DCSCTP_TAG_ESTABLISH
 	// TagOutOfTheBlue: the packet is treated as if it belonged to no association.
 	TagOutOfTheBlue TagVerdict = C.DCSCTP_TAG_OUT_OF_THE_BLUE

@@ -116,7 +116,7 @@ func registered(packet Packet, all layouts, number uint16, read C.struct_go_regi
 	return result, true
 }
 
-// Number returns a number by its name in registry/sctp.txt: "sequence number" of ASCONF, the first of the "counts" of NR-SACK.
+// Number returns a number by its name in docs/C.md: "sequence number" of ASCONF, the first of the "counts" of NR-SACK.
 // False where no number has the name, and for what wasn't read.
 func (it Registered) Number(name string) (uint32, bool) {
 	i := 0

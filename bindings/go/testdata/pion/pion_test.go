@@ -8,9 +8,12 @@ import (
 	"net"
 	"sync/atomic"
 	"testing"
+	"time"
 
 	"github.com/pion/logging"
 	"github.com/pion/sctp"
+
+	"davgyuti.example/davgyuti"
 )
 
 // Beside the package, in a GOPATH that has pion/sctp: dist/test.sh puts it there.
@@ -30,8 +33,44 @@ func (c *noisyConn) Write(packet []byte) (int, error) {
 	return c.Conn.Write(packet)
 }
 
-// Two associations of pion over checkedConns: all that they write is a packet, all that the way changes is dropped, and the
-// message comes whole.
+// forgedPackets returns an ABORT, without the T bit and with it, under a tag that neither end has.
+func forgedPackets() []davgyuti.Packet {
+	return []davgyuti.Packet{sealed("06000004"), sealed("06010004")}
+}
+
+// A forged ABORT ends pion's association over a checkedConn alone.
+func TestPionForged(t *testing.T) {
+	for _, forged := range forgedPackets() {
+		one, other := net.Pipe()
+		config := func(conn net.Conn) sctp.Config {
+			checked := &checkedConn{Conn: conn, report: func(string, error) {}}
+			return sctp.Config{NetConn: checked, LoggerFactory: logging.NewDefaultLoggerFactory()}
+		}
+		ended := make(chan error, 1)
+		go func() {
+			server, err := sctp.Server(config(other))
+			if err == nil {
+				_, err = server.AcceptStream()
+			}
+			ended <- err
+		}()
+		if _, err := sctp.Client(config(one)); err != nil {
+			t.Fatal(err)
+		}
+		if _, err := one.Write(forged); err != nil {
+			t.Fatal(err)
+		}
+		select {
+		case err := <-ended:
+			equal(t, "the association ended", err != nil, true)
+		case <-time.After(10 * time.Second):
+			t.Errorf("after %x the association goes on", []byte(forged))
+		}
+	}
+}
+
+// Two associations of pion over checkedConns and taggedConns: all that they write is a packet, all that the way changes is dropped,
+// and the message comes whole.
 func TestPion(t *testing.T) {
 	var faults int32
 	one, other := net.Pipe()
@@ -41,7 +80,7 @@ func TestPion(t *testing.T) {
 			atomic.AddInt32(&faults, 1)
 			equal(t, fault.Error(), direction, "read")
 		}}
-		return sctp.Config{NetConn: checked, LoggerFactory: logging.NewDefaultLoggerFactory()}
+		return sctp.Config{NetConn: &taggedConn{Conn: checked}, LoggerFactory: logging.NewDefaultLoggerFactory()}
 	}
 	message := make([]byte, 60000)
 	rand.New(rand.NewSource(1)).Read(message)
@@ -71,6 +110,11 @@ func TestPion(t *testing.T) {
 	stream, err := client.OpenStream(7, sctp.PayloadTypeWebRTCBinary)
 	if err != nil {
 		t.Fatal(err)
+	}
+	for _, forged := range forgedPackets() {
+		if _, err := one.Write(forged); err != nil {
+			t.Fatal(err)
+		}
 	}
 	if _, err := stream.Write(message); err != nil {
 		t.Fatal(err)
