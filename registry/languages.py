@@ -269,7 +269,7 @@ PYTHON_ENUMS = {
     'cause': ('CauseCode(_Numbers)',
               'Codes of error causes (RFC 9260 section 3.3.10). Those that have no kind of their own here are a RawCause, '
               'whose\n    `registered` reads them by field.'),
-    'result': ('ReConfigResult(IntEnum)', 'What became of a re-configuration request (RFC 6525 section 4.4).'),
+    'result': ('ReConfigResult(Named)', 'What became of a re-configuration request (RFC 6525 section 4.4).'),
 }
 
 

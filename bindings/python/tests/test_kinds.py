@@ -312,6 +312,16 @@ class Kinds(unittest.TestCase):
                     found.append((tsn, b""))
         self.assertEqual(found, [(2, b"abc"), (7, b"")])
 
+    def test_match_by_place(self) -> None:
+        match CHUNKS[0][1], CHUNKS[2][1]:
+            case davgyuti.Data(1, 2, 3, 4, b"abc"), davgyuti.IData(1, 2, 3, b"abc", 0x35, 0):
+                pass
+            case it:
+                self.fail(str(it))
+        # (they are made by names alone)
+        self.assertRaises(TypeError, davgyuti.Data, 1, 2, 3, 4, b"abc")
+        self.assertRaises(TypeError, davgyuti.IData, 1, 2, 3, b"abc")
+
 
 class Blocks(unittest.TestCase):
     def test_clean(self) -> None:

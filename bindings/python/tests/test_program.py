@@ -43,9 +43,9 @@ class Program(unittest.TestCase):
     def test_lines(self) -> None:
         done = run("-m", "davgyuti", given=read("packets.txt"))
         expected = "".join(it for it in read("expected.txt").splitlines(True) if not it.startswith("  answer"))
-        # (a fault is said in words too)
-        texts = re.compile(r"^(  fault (\d) at byte \d+)$", re.MULTILINE)
-        expected = texts.sub(lambda it: f"{it[1]}: {davgyuti.Result(int(it[2])).text}", expected)
+        # (a fault is said by its name, and in words too)
+        texts, results = re.compile(r"^  fault (\d)( at byte \d+)$", re.MULTILINE), {f"{it:d}": it for it in davgyuti.Result}
+        expected = texts.sub(lambda it: f"  fault {results[it[1]].name}{it[2]}: {results[it[1]].text}", expected)
         self.assertEqual((done.stdout, done.stderr, done.returncode), (expected, "", 1))
 
     def test_arguments(self) -> None:
@@ -60,7 +60,7 @@ class Program(unittest.TestCase):
         done = run("-m", "davgyuti", "--report", COOKIE_ACK, COOKIE_ACK[:-1] + "5")
         expected = (
             "packet of 16 bytes\n  source 5000, destination 5000, tag 0x4d2df52d\n  checksum 0x67db78b5: right\n"
-            "  COOKIE ACK\npacket of 16 bytes\n  fault 2 at byte 8: wrong checksum\n"
+            "  COOKIE ACK\npacket of 16 bytes\n  fault FAULT_CHECKSUM at byte 8: wrong checksum\n"
         )
         self.assertEqual((done.stdout, done.stderr, done.returncode), (expected, "", 1))
 

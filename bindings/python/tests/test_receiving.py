@@ -45,6 +45,15 @@ class Documented(unittest.TestCase):
                 self.assertIs(pickle.loads(pickle.dumps(it)), it)
                 self.assertIs(kind(it.value), it)
 
+    def test_shown_by_name(self) -> None:
+        # (the number where it is asked for, and of types and codes always)
+        code, result, type = davgyuti.Result.FAULT_LENGTH, davgyuti.ReConfigResult.DENIED, davgyuti.ParameterType.SUPPORTED_EXTENSIONS
+        for it, name in ((code, "FAULT_LENGTH"), (result, "DENIED"), (Action.SKIP, "SKIP"), (type, "32776"), (ChunkType.INIT, "1")):
+            self.assertEqual((str(it), f"{it}", format(it), "%s" % it), 4 * (name,))
+            self.assertEqual((f"{it:d}", "%d" % it, f"{it:#x}"), (str(it.value), str(it.value), hex(it.value)))
+        self.assertEqual((f"{code:>14}", f"{code:s}", f"{code:04x}", f"{type:#06x}"), ("  FAULT_LENGTH", "FAULT_LENGTH", "0003", "0x8008"))
+        self.assertEqual((repr(code), repr(type)), ("<Result.FAULT_LENGTH: 3>", "<ParameterType.SUPPORTED_EXTENSIONS: 32776>"))
+
 
 class Unrecognized(unittest.TestCase):
     """ "Chunk Types are encoded such that the highest-order 2 bits specify the action": section 3.2, of parameters 3.2.1."""

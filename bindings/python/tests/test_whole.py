@@ -13,6 +13,16 @@ from support import ANY_CHECKSUM, of_hex, packets
 COOKIE_ACK = of_hex("1388 1388 4d2df52d 67db78b5  0b 00 0004")
 
 
+def crc32c(data: bytes) -> int:
+    """The CRC32c (RFC 9260 appendix A), bit by bit."""
+    crc = 0xFFFFFFFF
+    for it in data:
+        crc ^= it
+        for _ in range(8):
+            crc = crc >> 1 ^ (0x82F63B78 if crc & 1 else 0)
+    return crc ^ 0xFFFFFFFF
+
+
 class Check(unittest.TestCase):
     def fault(self, data: bytes, policy: davgyuti.Policy = davgyuti.Policy()) -> tuple[davgyuti.Result, int] | None:
         fault = davgyuti.first_fault(data, policy)
@@ -59,7 +69,9 @@ class Check(unittest.TestCase):
         self.assertEqual(word, 0x67DB78B5)
         davgyuti.check(COOKIE_ACK, word=word)
         self.assertEqual(davgyuti.Packet(COOKIE_ACK, word=word).word, word)
-        for wrong in (0, word ^ 1):
+        crc = crc32c(COOKIE_ACK[:8] + bytes(4) + COOKIE_ACK[12:])
+        self.assertEqual(int.from_bytes(crc.to_bytes(4, "little"), "big"), word)
+        for wrong in (0, word ^ 1, crc):
             fault = davgyuti.first_fault(COOKIE_ACK, word=wrong)
             assert fault
             self.assertEqual(fault.code, davgyuti.Result.FAULT_CHECKSUM)
@@ -74,6 +86,22 @@ class Check(unittest.TestCase):
         for outside in (-1, 2**32):
             with self.assertRaises(ValueError):
                 davgyuti.check(COOKIE_ACK, word=outside)
+
+    def test_fault_offset(self) -> None:
+        strict, length = davgyuti.Policy(any_checksum=True, strict_padding=True), davgyuti.Result.FAULT_LENGTH
+        value, padding, size = davgyuti.Result.FAULT_VALUE, davgyuti.Result.FAULT_PADDING, davgyuti.Result.FAULT_SIZE
+        for text, code, offset in (
+            ("", size, 12),
+            (65524 * "00", size, 65535),
+            ("0b000004 03000005", length, 16),
+            ("0600000c 000c0003 00000000", length, 16),
+            ("82000010 0010000c 00000001 00000007", value, 16),
+            ("0a000005 61000100", padding, 18),
+            ("0a000005 6100", padding, 18),
+        ):
+            fault = davgyuti.first_fault(bytes(12) + bytes.fromhex(text), strict)
+            self.assertEqual(fault, davgyuti.Fault(code, offset))
+        self.assertEqual(davgyuti.first_fault(bytes(8) + b"none" + COOKIE_ACK[12:]), davgyuti.Fault(davgyuti.Result.FAULT_CHECKSUM, 8))
 
     def test_fault_says_what_and_where(self) -> None:
         with self.assertRaises(davgyuti.Error) as caught:

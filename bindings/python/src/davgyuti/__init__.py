@@ -18,8 +18,9 @@ of a RawChunk, RawParameter or RawCause also how it was read. Chunks and paramet
 and all of them a `name` and a `value`; `parameter(type, value)` and `cause(code, value)` make one of its kind. Of the rest of
 IANA's registry, such as ASCONF, AUTH and addresses, `it.registered()` reads the fields: see `help(davgyuti.registered)`.
 The functions of the library are compiled from proved sources; this wrapper isn't proved. Any number of threads may call at
-once; a list that is written call by call belongs to one thread at a time. In the forked child of a process with threads, `canonical` and `text` may not be called, nor a builder that another
-thread was using. A handler of `signal` may call everything but the methods of a builder that it may have interrupted.
+once; a list that is written call by call belongs to one thread at a time. In the forked child of a process with threads,
+`text` may not be called, nor a builder that another thread was using. A handler of `signal` may call everything but the
+methods of a builder that it may have interrupted.
 """
 
 from . import registered

@@ -77,7 +77,7 @@ def main() -> int:
         try:
             packet = davgyuti.Packet(data, policy)
         except davgyuti.Fault as fault:
-            print(f"  fault {int(fault.code)} at byte {fault.offset}: {fault.text}")
+            print(f"  fault {fault.code} at byte {fault.offset}: {fault.text}")
             status = max(status, 1)
             continue
         if options.report:

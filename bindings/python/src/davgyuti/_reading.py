@@ -131,7 +131,8 @@ def needs_checksum(data: Buffer) -> bool:
 
 def check(data: Buffer, policy: v.Policy = _DEFAULT, *, word: int | None = None) -> None:
     """Returns if the bytes are a packet (RFC 9260 section 3), and else raises the first Fault. `word` is the number that
-    the checksum field has to be, never what it is; None computes it. So does every function here that has these."""
+    the checksum field has to be, never what it is; None computes it. So does every function here that has these. Of a CRC32c
+    of your own, over zeros in that field, the word is `int.from_bytes(crc.to_bytes(4, "little"), "big")`."""
     if fast is not None:
         fast.read(to_bytes(data), policy, word)
         return

@@ -135,7 +135,10 @@ def reply(header: v.Header, answer: Answer) -> bytes:
 
 def init_fault(data: Buffer, *, is_ack: bool) -> InitFault:
     """Returns what is wrong with a packet that carries INIT (RFC 9260 section 3.3.2), or INIT ACK (section 3.3.3) where `is_ack`
-    is true. Of its parameters the State Cookie alone is looked for."""
+    is true. Of its parameters the State Cookie alone is looked for.
+
+    `check` the bytes first, and ask only of a packet with this chunk: the result is InitFault.NOT_ALONE too where there is none,
+    or no packet."""
     data = to_bytes(data)
     return InitFault(functions.dcsctp_init_fault(data, len(data), bool(is_ack)))
 

@@ -16,7 +16,21 @@ MAX_PACKET_SIZE = 65532
 """The most bytes that a packet has that is written here: a multiple of 4, as each is."""
 
 
-class Documented(IntEnum):
+# The types of a format that shows a number.
+_OF_NUMBERS = {*"bcdeEfFgGnoxX%"}
+
+
+class Named(IntEnum):
+    """Numbers whose `str` is their name in every Python: `format` too, unless it asks for a number, as "d" does."""
+
+    def __str__(self) -> str:
+        return self.name
+
+    def __format__(self, form: str) -> str:
+        return format(int(self) if form[-1:] in _OF_NUMBERS else self.name, form)
+
+
+class Documented(Named):
     """Numbers with a text each, which `help` shows."""
 
     _value_: int
@@ -91,12 +105,17 @@ class Error(Exception):
 
 
 class Fault(Error, ValueError):
-    """The bytes are no packet: the first fault, from the left. Those of the same code and offset are equal."""
+    """The bytes are no packet: the first fault, from the left. Those of the same `code` and `offset` are equal. The offset is
+
+    of FAULT_SIZE      how many bytes there are, or 65,535 if that is less;
+    of FAULT_CHECKSUM  8;
+    of FAULT_LENGTH    where the chunk, the parameter or the error cause with a wrong length begins;
+    of FAULT_VALUE     where the parameter begins;
+    of FAULT_PADDING   where the first byte is that isn't zero, or how many bytes there are if padding is missing."""
 
     code: Result
     offset: int
-    """Where: the offset of the chunk, the parameter or the error cause with a wrong length or value; 8 for a checksum; of
-    the first byte of wrong padding; for a wrong size the number of bytes, or 65,535 if that is less."""
+    """Where, by the code."""
 
     def __init__(self, code: Result, offset: int) -> None:
         super().__init__(code, offset)
@@ -178,6 +197,13 @@ def write_error(code: int, detail: str = "") -> WriteError:
 
 
 class _Numbers(IntEnum):
+    # (a type without a name is shown as a number too, and Python 3.10 would show the name of those that have one)
+    def __str__(self) -> str:
+        return int.__repr__(self)
+
+    def __format__(self, form: str) -> str:
+        return int.__format__(self, form)
+
     @classmethod
     def is_known(cls, number: int) -> bool:
         """Returns whether a member has this number."""
@@ -275,7 +301,7 @@ class CauseCode(_Numbers):
     UNSUPPORTED_HMAC_IDENTIFIER = 0x105
 
 
-class ReConfigResult(IntEnum):
+class ReConfigResult(Named):
     """What became of a re-configuration request (RFC 6525 section 4.4)."""
 
     NOTHING_TO_DO = 0
@@ -788,6 +814,7 @@ class _UserData(_ChunkPart):
 class Data(_UserData):
     """DATA, type 0 (RFC 9260 section 3.3.1): user data, by default a whole message."""
 
+    __match_args__ = ("tsn", "stream", "ssn", "ppid", "payload")
     type: ClassVar[ChunkType] = ChunkType.DATA
     tsn: int
     stream: int
@@ -800,6 +827,7 @@ class Data(_UserData):
 class IData(_UserData):
     """I-DATA, type 64 (RFC 8260 section 2.1): user data, by default a whole message."""
 
+    __match_args__ = ("tsn", "stream", "mid", "payload", "ppid", "fsn")
     type: ClassVar[ChunkType] = ChunkType.I_DATA
     tsn: int
     stream: int
