@@ -2077,14 +2077,13 @@ _dcsctp_receive.chunk_test.after_first:
 	.cfi_offset w27, -88
 	.cfi_offset w28, -96
 	.cfi_remember_state
-	mov	x19, x0
-	ldr	x20, [x1, #8]
-	cmp	x20, #4
+	ldr	x19, [x1, #8]
+	cmp	x19, #4
 	b.hs	Ldcsctp_BB11_3
 Ldcsctp_BB11_1:
-	str	xzr, [x19, #32]
+	str	xzr, [x0, #32]
 	movi	v0.2d, #0000000000000000
-	stp	q0, q0, [x19]
+	stp	q0, q0, [x0]
 	.cfi_def_cfa wsp, 256
 Ldcsctp_BB11_2:
 	ldp	x29, x30, [sp, #240]
@@ -2110,164 +2109,63 @@ Ldcsctp_BB11_2:
 	ret
 Ldcsctp_BB11_3:
 	.cfi_restore_state
-	ldrb	w21, [x2]
-	ldrb	w22, [x2, #1]
-	ldrh	w24, [x2, #2]
-	ldr	w25, [x2, #4]
-	ldp	x23, x26, [x1, #16]
-	ldr	x27, [x1]
+	ldrb	w20, [x2]
+	ldrb	w21, [x2, #1]
+	ldrh	w23, [x2, #2]
+	ldr	w24, [x2, #4]
+	ldp	x22, x25, [x1, #16]
+	ldr	x26, [x1]
 	b	Ldcsctp_BB11_6
 Ldcsctp_BB11_4:
-	cmp	w11, w22
-	b.eq	Ldcsctp_BB11_90
+	cmp	w11, w21
+	b.eq	Ldcsctp_BB11_93
 Ldcsctp_BB11_5:
-	cmp	x20, #4
+	cmp	x19, #4
 	b.lo	Ldcsctp_BB11_1
 Ldcsctp_BB11_6:
-	ldrb	w8, [x27, #2]
-	ldrb	w17, [x27, #3]
-	orr	w0, w17, w8, lsl #8
-	cmp	w0, #4
-	ccmp	x23, x0, #0, hs
+	ldrb	w8, [x26, #2]
+	ldrb	w17, [x26, #3]
+	orr	w1, w17, w8, lsl #8
+	cmp	w1, #4
+	ccmp	x22, x1, #0, hs
 	b.lo	Ldcsctp_BB11_1
-	mov	x16, x27
-	mov	x14, x26
-	ldrb	w11, [x27]
-	ldrb	w12, [x27, #1]
-	cmp	x20, x0
-	csel	x10, x20, x0, lo
-	add	x8, x27, #4
+	mov	x16, x26
+	mov	x14, x25
+	ldrb	w11, [x26]
+	ldrb	w12, [x26, #1]
+	cmp	x19, x1
+	csel	x10, x19, x1, lo
+	add	x8, x26, #4
 	sub	x9, x10, #4
-	sub	x13, x0, #4
-	adds	x15, x26, #4
+	sub	x13, x1, #4
+	adds	x15, x25, #4
 	csinv	x15, x15, xzr, lo
-	lsr	w0, w0, #2
-	mov	w0, w0
+	lsr	w1, w1, #2
+	mov	w1, w1
 	tst	w17, #0x3
-	cinc	x17, x0, ne
+	cinc	x17, x1, ne
 	lsl	x17, x17, #2
-	cmp	x20, x17
-	csel	x0, x20, x17, lo
-	add	x27, x27, x0
-	sub	x20, x20, x0
-	subs	x0, x23, x17
-	csel	x23, xzr, x0, lo
-	adds	x17, x17, x26
-	csinv	x26, x17, xzr, lo
+	cmp	x19, x17
+	csel	x1, x19, x17, lo
+	add	x26, x26, x1
+	sub	x19, x19, x1
+	subs	x1, x22, x17
+	csel	x22, xzr, x1, lo
+	adds	x17, x17, x25
+	csinv	x25, x17, xzr, lo
 Ldcsctp_loh10:
 	adrp	x17, Ldcsctp_JTI11_0@PAGE
 Ldcsctp_loh11:
 	add	x17, x17, Ldcsctp_JTI11_0@PAGEOFF
-	adr	x0, Ldcsctp_BB11_4
-	ldrh	w1, [x17, x21, lsl #1]
-	add	x0, x0, x1, lsl #2
-	br	x0
+	adr	x1, Ldcsctp_BB11_4
+	ldrh	w2, [x17, x20, lsl #1]
+	add	x1, x1, x2, lsl #2
+	br	x1
 Ldcsctp_BB11_8:
-	cmp	w11, w22
+	cmp	w11, w21
 	b.eq	Ldcsctp_BB11_5
-	b	Ldcsctp_BB11_90
+	b	Ldcsctp_BB11_93
 Ldcsctp_BB11_9:
-	mov	w8, #16
-	cmp	w11, #14
-	b.gt	Ldcsctp_BB11_61
-	cbz	w11, Ldcsctp_BB11_68
-	cmp	w11, #6
-	b.eq	Ldcsctp_BB11_13
-	cmp	w11, #14
-	b.ne	Ldcsctp_BB11_65
-Ldcsctp_BB11_13:
-	mov	w8, #2
-	b	Ldcsctp_BB11_68
-Ldcsctp_BB11_14:
-	sub	w8, w11, #1
-	cmp	w8, #1
-	b.hi	Ldcsctp_BB11_5
-	cmp	x10, #12
-	b.lo	Ldcsctp_BB11_5
-	ldr	w8, [x16, #8]
-	rev	w8, w8
-	cmp	w8, #1500
-	b.hs	Ldcsctp_BB11_5
-	b	Ldcsctp_BB11_90
-Ldcsctp_BB11_17:
-	sub	w10, w11, #1
-	cmp	w10, #1
-	b.hi	Ldcsctp_BB11_5
-	mov	w10, #8
-	cmp	x9, #8
-	csel	x10, x9, x10, lo
-	sub	x11, x9, x10
-	cmp	x11, #2
-	b.lo	Ldcsctp_BB11_20
-	add	x10, x8, x10
-	ldrb	w11, [x10]
-	ldrb	w10, [x10, #1]
-	orr	w10, w10, w11
-	cbz	w10, Ldcsctp_BB11_90
-Ldcsctp_BB11_20:
-	mov	w10, #10
-	cmp	x9, #10
-	csel	x10, x9, x10, lo
-	sub	x9, x9, x10
-	cmp	x9, #2
-	b.lo	Ldcsctp_BB11_5
-	add	x8, x8, x10
-	ldrb	w9, [x8]
-	ldrb	w8, [x8, #1]
-	orr	w8, w8, w9
-	cbnz	w8, Ldcsctp_BB11_5
-	b	Ldcsctp_BB11_90
-Ldcsctp_BB11_22:
-	cmp	w11, #64
-	b.eq	Ldcsctp_BB11_71
-	cbnz	w11, Ldcsctp_BB11_5
-	mov	w10, #8
-	cmp	x9, #8
-	csel	x10, x9, x10, lo
-	sub	x9, x9, x10
-	cmp	x9, #4
-	b.lo	Ldcsctp_BB11_5
-	b	Ldcsctp_BB11_73
-Ldcsctp_BB11_25:
-	cmp	w11, #14
-	b.hi	Ldcsctp_BB11_5
-	mov	w8, #1
-	lsl	w8, w8, w11
-	mov	w9, #16390
-	tst	w8, w9
-	b.eq	Ldcsctp_BB11_5
-	b	Ldcsctp_BB11_90
-Ldcsctp_BB11_27:
-	cbz	w11, Ldcsctp_BB11_5
-	cmp	w11, #64
-	b.eq	Ldcsctp_BB11_5
-	cmp	w11, #132
-	b.eq	Ldcsctp_BB11_5
-	b	Ldcsctp_BB11_90
-Ldcsctp_BB11_30:
-	cmp	w11, #64
-	ccmp	x13, #16, #0, eq
-	cset	w8, eq
-	cmp	x13, #12
-	ccmp	w11, #0, #0, eq
-	b.eq	Ldcsctp_BB11_90
-	tbz	w8, #0, Ldcsctp_BB11_5
-	b	Ldcsctp_BB11_90
-Ldcsctp_BB11_32:
-	tst	w11, #0xffffffbf
-	b.ne	Ldcsctp_BB11_5
-	mov	w10, #4
-	cmp	x9, #4
-	csel	x10, x9, x10, lo
-	sub	x9, x9, x10
-	cmp	x9, #2
-	b.lo	Ldcsctp_BB11_5
-	ldrh	w8, [x8, x10]
-	rev	w8, w8
-	cmp	w24, w8, lsr #16
-	b.ne	Ldcsctp_BB11_5
-	b	Ldcsctp_BB11_90
-Ldcsctp_BB11_35:
 	cmp	w11, #16
 	b.eq	Ldcsctp_BB11_74
 	cmp	w11, #3
@@ -2292,7 +2190,7 @@ Ldcsctp_BB11_35:
 	add	x8, x8, x13
 	sub	x9, x10, x13
 	sub	x9, x9, #8
-Ldcsctp_BB11_40:
+Ldcsctp_BB11_14:
 	ldrh	w10, [x8]
 	rev	w13, w10
 	and	w12, w12, #0xffff
@@ -2301,22 +2199,50 @@ Ldcsctp_BB11_40:
 	cmp	w14, w15
 	csinc	w12, w15, w12, hs
 	cmp	w12, w13, lsr #16
-	b.hs	Ldcsctp_BB11_90
+	b.hs	Ldcsctp_BB11_93
 	ldrh	w12, [x8, #2]
 	rev16	w12, w12
 	rev16	w10, w10
 	and	w13, w12, #0xffff
 	cmp	w13, w10, uxth
-	b.lo	Ldcsctp_BB11_90
+	b.lo	Ldcsctp_BB11_93
 	sub	w11, w11, #1
 	and	w10, w11, #0xffff
 	cbz	w10, Ldcsctp_BB11_5
 	add	x8, x8, #4
 	cmp	x9, #4
 	sub	x9, x9, #4
-	b.hs	Ldcsctp_BB11_40
+	b.hs	Ldcsctp_BB11_14
 	b	Ldcsctp_BB11_5
-Ldcsctp_BB11_44:
+Ldcsctp_BB11_18:
+	sub	w10, w11, #1
+	cmp	w10, #1
+	b.hi	Ldcsctp_BB11_5
+	mov	w10, #8
+	cmp	x9, #8
+	csel	x10, x9, x10, lo
+	sub	x11, x9, x10
+	cmp	x11, #2
+	b.lo	Ldcsctp_BB11_21
+	add	x10, x8, x10
+	ldrb	w11, [x10]
+	ldrb	w10, [x10, #1]
+	orr	w10, w10, w11
+	cbz	w10, Ldcsctp_BB11_93
+Ldcsctp_BB11_21:
+	mov	w10, #10
+	cmp	x9, #10
+	csel	x10, x9, x10, lo
+	sub	x9, x9, x10
+	cmp	x9, #2
+	b.lo	Ldcsctp_BB11_5
+	add	x8, x8, x10
+	ldrb	w9, [x8]
+	ldrb	w8, [x8, #1]
+	orr	w8, w8, w9
+	cbnz	w8, Ldcsctp_BB11_5
+	b	Ldcsctp_BB11_93
+Ldcsctp_BB11_23:
 	sub	w9, w11, #1
 	cmp	w9, #1
 	b.hi	Ldcsctp_BB11_5
@@ -2324,26 +2250,45 @@ Ldcsctp_BB11_44:
 	b.lo	Ldcsctp_BB11_5
 	ldr	w8, [x8]
 	cbnz	w8, Ldcsctp_BB11_5
-	b	Ldcsctp_BB11_90
-Ldcsctp_BB11_47:
+	b	Ldcsctp_BB11_93
+Ldcsctp_BB11_26:
+	cmp	w11, #64
+	b.eq	Ldcsctp_BB11_84
+	cbnz	w11, Ldcsctp_BB11_5
+	mov	w10, #8
+	cmp	x9, #8
+	csel	x10, x9, x10, lo
+	sub	x9, x9, x10
+	cmp	x9, #4
+	b.lo	Ldcsctp_BB11_5
+	b	Ldcsctp_BB11_86
+Ldcsctp_BB11_29:
 	tst	w11, #0xffffffbf
 	b.ne	Ldcsctp_BB11_5
-	b	Ldcsctp_BB11_90
-Ldcsctp_BB11_48:
+	mov	w10, #4
+	cmp	x9, #4
+	csel	x10, x9, x10, lo
+	sub	x9, x9, x10
+	cmp	x9, #2
+	b.lo	Ldcsctp_BB11_5
+	ldrh	w8, [x8, x10]
+	rev	w8, w8
+	cmp	w23, w8, lsr #16
+	b.ne	Ldcsctp_BB11_5
+	b	Ldcsctp_BB11_93
+Ldcsctp_BB11_32:
+	tst	w11, #0xffffffbf
+	b.ne	Ldcsctp_BB11_5
+	cmp	x10, #8
+	b.lo	Ldcsctp_BB11_5
+	ldr	w8, [x8]
+	rev	w8, w8
+	cmp	w8, w24
+	b.ne	Ldcsctp_BB11_5
+	b	Ldcsctp_BB11_93
+Ldcsctp_BB11_35:
 	cmp	w11, #9
-	b.le	Ldcsctp_BB11_69
-	cmp	w11, #14
-	b.eq	Ldcsctp_BB11_70
-	cmp	w11, #10
-	b.eq	Ldcsctp_BB11_90
-	cmp	w11, #193
 	b.ne	Ldcsctp_BB11_5
-	b	Ldcsctp_BB11_90
-Ldcsctp_BB11_52:
-	cmp	w11, #4
-	b.ne	Ldcsctp_BB11_5
-	cmp	x13, x9
-	b.hi	Ldcsctp_BB11_5
 	movi	v0.2d, #0000000000000000
 	stp	q0, q0, [sp, #96]
 	str	q0, [sp, #128]
@@ -2353,9 +2298,69 @@ Ldcsctp_BB11_52:
 	str	xzr, [sp, #48]
 	stp	x8, x9, [sp, #64]
 	stp	x13, x15, [sp, #80]
-	mov	w8, #257
-	b	Ldcsctp_BB11_58
-Ldcsctp_BB11_55:
+	mov	w8, #769
+	strh	w8, [sp]
+	mov	x27, x0
+	add	x0, sp, #96
+	add	x1, sp, #64
+	mov	x2, sp
+	bl	_dcsctp_receive.items.first
+	mov	x0, x27
+	ldrb	w8, [sp, #96]
+	cmp	w8, #1
+	b.ne	Ldcsctp_BB11_5
+	b	Ldcsctp_BB11_93
+Ldcsctp_BB11_37:
+	cmp	w11, #64
+	ccmp	x13, #16, #0, eq
+	cset	w8, eq
+	cmp	x13, #12
+	ccmp	w11, #0, #0, eq
+	b.eq	Ldcsctp_BB11_93
+	tbz	w8, #0, Ldcsctp_BB11_5
+	b	Ldcsctp_BB11_93
+Ldcsctp_BB11_39:
+	tst	w11, #0xffffffbf
+	b.ne	Ldcsctp_BB11_5
+	b	Ldcsctp_BB11_93
+Ldcsctp_BB11_40:
+	cbz	w11, Ldcsctp_BB11_5
+	cmp	w11, #64
+	b.eq	Ldcsctp_BB11_5
+	cmp	w11, #132
+	b.eq	Ldcsctp_BB11_5
+	b	Ldcsctp_BB11_93
+Ldcsctp_BB11_43:
+	cmp	w11, #9
+	b.le	Ldcsctp_BB11_72
+	cmp	w11, #14
+	b.eq	Ldcsctp_BB11_73
+	cmp	w11, #10
+	b.eq	Ldcsctp_BB11_93
+	cmp	w11, #193
+	b.ne	Ldcsctp_BB11_5
+	b	Ldcsctp_BB11_93
+Ldcsctp_BB11_47:
+	cmp	w11, #14
+	b.hi	Ldcsctp_BB11_5
+	mov	w8, #1
+	lsl	w8, w8, w11
+	mov	w9, #16390
+	tst	w8, w9
+	b.eq	Ldcsctp_BB11_5
+	b	Ldcsctp_BB11_93
+Ldcsctp_BB11_49:
+	sub	w8, w11, #1
+	cmp	w8, #1
+	b.hi	Ldcsctp_BB11_5
+	cmp	x10, #12
+	b.lo	Ldcsctp_BB11_5
+	ldr	w8, [x16, #8]
+	rev	w8, w8
+	cmp	w8, #1500
+	b.hs	Ldcsctp_BB11_5
+	b	Ldcsctp_BB11_93
+Ldcsctp_BB11_52:
 	cmp	w11, #2
 	b.ne	Ldcsctp_BB11_5
 	mov	w10, #16
@@ -2379,19 +2384,24 @@ Ldcsctp_BB11_55:
 	stp	x8, x9, [sp, #64]
 	stp	x10, x11, [sp, #80]
 	mov	w8, #1793
-Ldcsctp_BB11_58:
-	strh	w8, [sp]
-	add	x0, sp, #96
-	add	x1, sp, #64
-	mov	x2, sp
-	bl	_dcsctp_receive.items.first
-	ldrb	w8, [sp, #96]
-	cmp	w8, #1
-	b.eq	Ldcsctp_BB11_5
-	b	Ldcsctp_BB11_90
+	b	Ldcsctp_BB11_63
+Ldcsctp_BB11_55:
+	mov	w8, #16
+	cmp	w11, #14
+	b.gt	Ldcsctp_BB11_64
+	cbz	w11, Ldcsctp_BB11_71
+	cmp	w11, #6
+	b.eq	Ldcsctp_BB11_59
+	cmp	w11, #14
+	b.ne	Ldcsctp_BB11_68
 Ldcsctp_BB11_59:
-	cmp	w11, #9
+	mov	w8, #2
+	b	Ldcsctp_BB11_71
+Ldcsctp_BB11_60:
+	cmp	w11, #4
 	b.ne	Ldcsctp_BB11_5
+	cmp	x13, x9
+	b.hi	Ldcsctp_BB11_5
 	movi	v0.2d, #0000000000000000
 	stp	q0, q0, [sp, #96]
 	str	q0, [sp, #128]
@@ -2401,62 +2411,51 @@ Ldcsctp_BB11_59:
 	str	xzr, [sp, #48]
 	stp	x8, x9, [sp, #64]
 	stp	x13, x15, [sp, #80]
-	mov	w8, #769
+	mov	w8, #257
+Ldcsctp_BB11_63:
 	strh	w8, [sp]
+	mov	x27, x0
 	add	x0, sp, #96
 	add	x1, sp, #64
 	mov	x2, sp
 	bl	_dcsctp_receive.items.first
+	mov	x0, x27
 	ldrb	w8, [sp, #96]
 	cmp	w8, #1
-	b.ne	Ldcsctp_BB11_5
-	b	Ldcsctp_BB11_90
-Ldcsctp_BB11_61:
+	b.eq	Ldcsctp_BB11_5
+	b	Ldcsctp_BB11_93
+Ldcsctp_BB11_64:
 	sub	w9, w11, #128
 	cmp	w9, #4
-	b.hi	Ldcsctp_BB11_63
+	b.hi	Ldcsctp_BB11_66
 	mov	w10, #1
 	lsl	w9, w10, w9
 	mov	w10, #21
 	tst	w9, w10
-	b.ne	Ldcsctp_BB11_67
-Ldcsctp_BB11_63:
+	b.ne	Ldcsctp_BB11_70
+Ldcsctp_BB11_66:
 	cmp	w11, #15
-	b.eq	Ldcsctp_BB11_67
+	b.eq	Ldcsctp_BB11_70
 	cmp	w11, #64
-	b.eq	Ldcsctp_BB11_68
-Ldcsctp_BB11_65:
+	b.eq	Ldcsctp_BB11_71
+Ldcsctp_BB11_68:
 	cmp	w11, #12
-	b.lo	Ldcsctp_BB11_67
+	b.lo	Ldcsctp_BB11_70
 	sub	w8, w11, #192
 	cmp	w8, #2
 	b.hi	Ldcsctp_BB11_5
-Ldcsctp_BB11_67:
+Ldcsctp_BB11_70:
 	mov	w8, #1
-Ldcsctp_BB11_68:
+Ldcsctp_BB11_71:
 	cmp	w8, w12
 	b.hi	Ldcsctp_BB11_5
-	b	Ldcsctp_BB11_90
-Ldcsctp_BB11_69:
+	b	Ldcsctp_BB11_93
+Ldcsctp_BB11_72:
 	cmp	w11, #6
-	b.ne	Ldcsctp_BB11_84
-Ldcsctp_BB11_70:
-	tbz	w12, #0, Ldcsctp_BB11_5
-	b	Ldcsctp_BB11_90
-Ldcsctp_BB11_71:
-	tbz	w12, #1, Ldcsctp_BB11_5
-	mov	w10, #12
-	cmp	x9, #12
-	csel	x10, x9, x10, lo
-	sub	x9, x9, x10
-	cmp	x9, #4
-	b.lo	Ldcsctp_BB11_5
+	b.ne	Ldcsctp_BB11_87
 Ldcsctp_BB11_73:
-	ldr	w8, [x8, x10]
-	rev	w8, w8
-	cmp	w8, w25
-	b.ne	Ldcsctp_BB11_5
-	b	Ldcsctp_BB11_90
+	tbz	w12, #0, Ldcsctp_BB11_5
+	b	Ldcsctp_BB11_93
 Ldcsctp_BB11_74:
 	mov	w11, #8
 	cmp	x9, #8
@@ -2473,7 +2472,7 @@ Ldcsctp_BB11_74:
 	cmp	x13, #4
 	and	w13, w12, #0xffff
 	ccmp	w13, #0, #4, hs
-	b.ne	Ldcsctp_BB11_85
+	b.ne	Ldcsctp_BB11_88
 Ldcsctp_BB11_76:
 	mov	w12, #10
 	cmp	x9, #10
@@ -2507,13 +2506,13 @@ Ldcsctp_BB11_80:
 	cmp	w14, w15
 	csinc	w11, w15, w11, hs
 	cmp	w11, w13, lsr #16
-	b.hs	Ldcsctp_BB11_90
+	b.hs	Ldcsctp_BB11_93
 	ldrh	w11, [x8, #2]
 	rev16	w11, w11
 	rev16	w12, w12
 	and	w13, w11, #0xffff
 	cmp	w13, w12, uxth
-	b.lo	Ldcsctp_BB11_90
+	b.lo	Ldcsctp_BB11_93
 	sub	w9, w9, #1
 	and	w12, w9, #0xffff
 	cbz	w12, Ldcsctp_BB11_5
@@ -2523,43 +2522,57 @@ Ldcsctp_BB11_80:
 	b.hs	Ldcsctp_BB11_80
 	b	Ldcsctp_BB11_5
 Ldcsctp_BB11_84:
+	tbz	w12, #1, Ldcsctp_BB11_5
+	mov	w10, #12
+	cmp	x9, #12
+	csel	x10, x9, x10, lo
+	sub	x9, x9, x10
+	cmp	x9, #4
+	b.lo	Ldcsctp_BB11_5
+Ldcsctp_BB11_86:
+	ldr	w8, [x8, x10]
+	rev	w8, w8
+	cmp	w8, w24
+	b.ne	Ldcsctp_BB11_5
+	b	Ldcsctp_BB11_93
+Ldcsctp_BB11_87:
 	cmp	w11, #1
 	b.ne	Ldcsctp_BB11_5
-	b	Ldcsctp_BB11_90
-Ldcsctp_BB11_85:
+	b	Ldcsctp_BB11_93
+Ldcsctp_BB11_88:
 	mov	w15, #0
 	add	x13, x8, x14
 	sub	x14, x10, x14
 	sub	x14, x14, #8
-Ldcsctp_BB11_86:
+Ldcsctp_BB11_89:
 	ldrh	w16, [x13]
 	rev	w17, w16
 	and	w15, w15, #0xffff
-	add	w0, w15, #1
-	mov	w1, #65535
-	cmp	w0, w1
-	csinc	w15, w1, w15, hs
+	add	w1, w15, #1
+	mov	w2, #65535
+	cmp	w1, w2
+	csinc	w15, w2, w15, hs
 	cmp	w15, w17, lsr #16
-	b.hs	Ldcsctp_BB11_90
+	b.hs	Ldcsctp_BB11_93
 	ldrh	w15, [x13, #2]
 	rev16	w15, w15
 	rev16	w16, w16
 	and	w17, w15, #0xffff
 	cmp	w17, w16, uxth
-	b.lo	Ldcsctp_BB11_90
+	b.lo	Ldcsctp_BB11_93
 	sub	w12, w12, #1
 	and	w16, w12, #0xffff
 	cbz	w16, Ldcsctp_BB11_76
 	add	x13, x13, #4
 	cmp	x14, #3
 	sub	x14, x14, #4
-	b.hi	Ldcsctp_BB11_86
+	b.hi	Ldcsctp_BB11_89
 	b	Ldcsctp_BB11_76
-Ldcsctp_BB11_90:
+Ldcsctp_BB11_93:
 	mov	w8, #1
-	stp	x8, x27, [x19]
-	stp	x20, x23, [x19, #16]
-	str	x26, [x19, #32]
+	stp	x8, x26, [x0]
+	stp	x19, x22, [x0, #16]
+	str	x25, [x0, #32]
 	.cfi_def_cfa wsp, 256
 	b	Ldcsctp_BB11_2
 	.loh AdrpAdd	Ldcsctp_loh10, Ldcsctp_loh11
@@ -2567,24 +2580,25 @@ Ldcsctp_BB11_90:
 	.section	__TEXT,__const
 	.p2align	1, 0x0
 Ldcsctp_JTI11_0:
-	.short	(Ldcsctp_BB11_90-Ldcsctp_BB11_4)>>2
+	.short	(Ldcsctp_BB11_93-Ldcsctp_BB11_4)>>2
 	.short	(Ldcsctp_BB11_4-Ldcsctp_BB11_4)>>2
 	.short	(Ldcsctp_BB11_8-Ldcsctp_BB11_4)>>2
+	.short	(Ldcsctp_BB11_29-Ldcsctp_BB11_4)>>2
 	.short	(Ldcsctp_BB11_32-Ldcsctp_BB11_4)>>2
-	.short	(Ldcsctp_BB11_22-Ldcsctp_BB11_4)>>2
+	.short	(Ldcsctp_BB11_26-Ldcsctp_BB11_4)>>2
+	.short	(Ldcsctp_BB11_39-Ldcsctp_BB11_4)>>2
+	.short	(Ldcsctp_BB11_40-Ldcsctp_BB11_4)>>2
+	.short	(Ldcsctp_BB11_37-Ldcsctp_BB11_4)>>2
 	.short	(Ldcsctp_BB11_47-Ldcsctp_BB11_4)>>2
-	.short	(Ldcsctp_BB11_27-Ldcsctp_BB11_4)>>2
-	.short	(Ldcsctp_BB11_30-Ldcsctp_BB11_4)>>2
-	.short	(Ldcsctp_BB11_25-Ldcsctp_BB11_4)>>2
-	.short	(Ldcsctp_BB11_44-Ldcsctp_BB11_4)>>2
-	.short	(Ldcsctp_BB11_17-Ldcsctp_BB11_4)>>2
-	.short	(Ldcsctp_BB11_14-Ldcsctp_BB11_4)>>2
-	.short	(Ldcsctp_BB11_48-Ldcsctp_BB11_4)>>2
-	.short	(Ldcsctp_BB11_35-Ldcsctp_BB11_4)>>2
+	.short	(Ldcsctp_BB11_23-Ldcsctp_BB11_4)>>2
+	.short	(Ldcsctp_BB11_18-Ldcsctp_BB11_4)>>2
+	.short	(Ldcsctp_BB11_49-Ldcsctp_BB11_4)>>2
+	.short	(Ldcsctp_BB11_43-Ldcsctp_BB11_4)>>2
 	.short	(Ldcsctp_BB11_9-Ldcsctp_BB11_4)>>2
 	.short	(Ldcsctp_BB11_55-Ldcsctp_BB11_4)>>2
 	.short	(Ldcsctp_BB11_52-Ldcsctp_BB11_4)>>2
-	.short	(Ldcsctp_BB11_59-Ldcsctp_BB11_4)>>2
+	.short	(Ldcsctp_BB11_60-Ldcsctp_BB11_4)>>2
+	.short	(Ldcsctp_BB11_35-Ldcsctp_BB11_4)>>2
 	.section	__TEXT,__text,regular,pure_instructions
 	.p2align	2
 _dcsctp_receive.items.contains:
@@ -52929,7 +52943,7 @@ Ldcsctp_BB145_19:
 	ldrb	w8, [sp, #64]
 	cmp	w8, #1
 	b.eq	Ldcsctp_BB145_3
-	mov	w8, #17
+	mov	w8, #18
 	stur	x8, [x29, #-40]
 	movi	v0.2d, #0000000000000000
 	stp	q0, q0, [sp, #64]
@@ -54570,16 +54584,16 @@ Ldcsctp_BB159_12:
 	mov	w8, #2561
 	b	Ldcsctp_BB159_21
 Ldcsctp_BB159_14:
-	mov	w8, #13
-	b	Ldcsctp_BB159_41
-Ldcsctp_BB159_15:
-	mov	w8, #9
-	b	Ldcsctp_BB159_41
-Ldcsctp_BB159_16:
 	mov	w8, #14
 	b	Ldcsctp_BB159_41
+Ldcsctp_BB159_15:
+	mov	w8, #10
+	b	Ldcsctp_BB159_41
+Ldcsctp_BB159_16:
+	mov	w8, #15
+	b	Ldcsctp_BB159_41
 Ldcsctp_BB159_17:
-	mov	w8, #7
+	mov	w8, #8
 	b	Ldcsctp_BB159_41
 Ldcsctp_BB159_18:
 	mov	w8, #257
@@ -54602,7 +54616,7 @@ Ldcsctp_BB159_18:
 	tbnz	w8, #0, Ldcsctp_BB159_1
 	b	Ldcsctp_BB159_2
 Ldcsctp_BB159_19:
-	mov	w8, #5
+	mov	w8, #6
 	stur	x8, [x29, #-144]
 	movi	v0.2d, #0000000000000000
 	stp	q0, q0, [sp, #128]
@@ -54617,7 +54631,7 @@ Ldcsctp_BB159_19:
 	ldrb	w8, [sp, #128]
 	cmp	w8, #1
 	b.ne	Ldcsctp_BB159_2
-	mov	w8, #6
+	mov	w8, #7
 Ldcsctp_BB159_21:
 	stur	x8, [x29, #-136]
 	b	Ldcsctp_BB159_29
@@ -54626,13 +54640,13 @@ Ldcsctp_BB159_22:
 	mov	w8, #258
 	b	Ldcsctp_BB159_41
 Ldcsctp_BB159_24:
-	mov	w8, #15
+	mov	w8, #16
 	b	Ldcsctp_BB159_41
 Ldcsctp_BB159_25:
 	stp	x27, x25, [sp, #128]
 	mov	w8, #12
 	stp	x28, x8, [sp, #144]
-	mov	w8, #8
+	mov	w8, #9
 	str	x8, [sp, #96]
 	movi	v0.2d, #0000000000000000
 	stp	q0, q0, [x29, #-128]
@@ -54689,10 +54703,10 @@ Ldcsctp_BB159_30:
 	ldurb	w8, [x29, #-128]
 	cmp	w8, #1
 	b.ne	Ldcsctp_BB159_2
-	mov	w8, #5
+	mov	w8, #6
 	b	Ldcsctp_BB159_41
 Ldcsctp_BB159_32:
-	mov	w8, #10
+	mov	w8, #11
 	b	Ldcsctp_BB159_41
 Ldcsctp_BB159_33:
 	ldr	x8, [sp, #40]
@@ -54705,6 +54719,9 @@ Ldcsctp_BB159_33:
 	cbnz	w8, Ldcsctp_BB159_2
 	ldr	w8, [sp, #4]
 	tbnz	w8, #0, Ldcsctp_BB159_1
+	mov	w8, #13
+	b	Ldcsctp_BB159_41
+Ldcsctp_BB159_38:
 	mov	w8, #12
 	str	x8, [sp, #96]
 	movi	v0.2d, #0000000000000000
@@ -54712,9 +54729,6 @@ Ldcsctp_BB159_33:
 	stur	xzr, [x29, #-96]
 	stp	x27, x25, [sp, #128]
 	b	Ldcsctp_BB159_42
-Ldcsctp_BB159_38:
-	mov	w8, #11
-	b	Ldcsctp_BB159_41
 Ldcsctp_BB159_39:
 	stp	x27, x25, [sp, #128]
 	mov	w23, #12
@@ -54756,7 +54770,7 @@ Ldcsctp_BB159_39:
 	tbnz	w8, #0, Ldcsctp_BB159_1
 	b	Ldcsctp_BB159_2
 Ldcsctp_BB159_40:
-	mov	w8, #16
+	mov	w8, #17
 Ldcsctp_BB159_41:
 	str	x8, [sp, #96]
 	movi	v0.2d, #0000000000000000

@@ -2215,14 +2215,13 @@ dcsctp_receive.chunk_test.after_first:
 	.cfi_offset w30, -88
 	.cfi_offset w29, -96
 	.cfi_remember_state
-	ldr	x20, [x1, #8]
-	mov	x19, x0
-	cmp	x20, #4
+	ldr	x19, [x1, #8]
+	cmp	x19, #4
 	b.hs	.Ldcsctp_BB11_3
 .Ldcsctp_BB11_1:
 	movi	v0.2d, #0000000000000000
-	str	xzr, [x19, #32]
-	stp	q0, q0, [x19]
+	str	xzr, [x0, #32]
+	stp	q0, q0, [x0]
 	.cfi_def_cfa wsp, 256
 .Ldcsctp_BB11_2:
 	ldp	x20, x19, [sp, #240]
@@ -2250,174 +2249,65 @@ dcsctp_receive.chunk_test.after_first:
 .Ldcsctp_BB11_3:
 	.cfi_restore_state
 	.cfi_remember_state
-	ldp	x23, x26, [x1, #16]
-	ldrb	w21, [x2]
-	ldrb	w22, [x2, #1]
-	ldrh	w24, [x2, #2]
-	ldr	w25, [x2, #4]
-	ldr	x27, [x1]
+	ldp	x22, x25, [x1, #16]
+	ldrb	w20, [x2]
+	ldrb	w21, [x2, #1]
+	ldrh	w23, [x2, #2]
+	ldr	w24, [x2, #4]
+	ldr	x26, [x1]
 	b	.Ldcsctp_BB11_6
 .Ldcsctp_BB11_4:
 	hint	#36
-	cmp	w11, w22
-	b.eq	.Ldcsctp_BB11_93
+	cmp	w11, w21
+	b.eq	.Ldcsctp_BB11_96
 .Ldcsctp_BB11_5:
-	cmp	x20, #4
+	cmp	x19, #4
 	b.lo	.Ldcsctp_BB11_1
 .Ldcsctp_BB11_6:
-	ldrb	w9, [x27, #2]
-	ldrb	w8, [x27, #3]
+	ldrb	w9, [x26, #2]
+	ldrb	w8, [x26, #3]
 	orr	w16, w8, w9, lsl #8
 	cmp	w16, #4
-	ccmp	x23, x16, #0, hs
+	ccmp	x22, x16, #0, hs
 	b.lo	.Ldcsctp_BB11_1
-	cmp	x20, x16
+	cmp	x19, x16
 	lsr	w9, w16, #2
-	mov	x13, x26
-	csel	x10, x20, x16, lo
-	adds	x11, x26, #4
+	mov	x13, x25
+	csel	x10, x19, x16, lo
+	adds	x11, x25, #4
 	csinv	x14, x11, xzr, lo
 	mov	w9, w9
 	tst	w8, #0x3
 	cinc	x8, x9, ne
 	lsl	x8, x8, #2
-	cmp	x20, x8
-	csel	x17, x20, x8, lo
-	subs	x9, x23, x8
-	csel	x23, xzr, x9, lo
-	adds	x8, x8, x26
-	csinv	x26, x8, xzr, lo
-	cmp	w21, #17
-	b.hi	.Ldcsctp_BB11_94
-	adrp	x0, .Ldcsctp_JTI11_0
-	add	x0, x0, :lo12:.Ldcsctp_JTI11_0
-	ldrb	w11, [x27]
-	ldrb	w12, [x27, #1]
-	adr	x1, .Ldcsctp_BB11_4
-	ldrh	w2, [x0, x21, lsl #1]
-	add	x1, x1, x2, lsl #2
-	mov	x15, x27
-	add	x8, x27, #4
+	cmp	x19, x8
+	csel	x17, x19, x8, lo
+	subs	x9, x22, x8
+	csel	x22, xzr, x9, lo
+	adds	x8, x8, x25
+	csinv	x25, x8, xzr, lo
+	cmp	w20, #18
+	b.hi	.Ldcsctp_BB11_97
+	adrp	x1, .Ldcsctp_JTI11_0
+	add	x1, x1, :lo12:.Ldcsctp_JTI11_0
+	ldrb	w11, [x26]
+	ldrb	w12, [x26, #1]
+	adr	x2, .Ldcsctp_BB11_4
+	ldrh	w3, [x1, x20, lsl #1]
+	add	x2, x2, x3, lsl #2
+	mov	x15, x26
+	add	x8, x26, #4
 	sub	x9, x10, #4
 	sub	x16, x16, #4
-	add	x27, x27, x17
-	sub	x20, x20, x17
-	br	x1
+	add	x26, x26, x17
+	sub	x19, x19, x17
+	br	x2
 .Ldcsctp_BB11_9:
 	hint	#36
-	cmp	w11, w22
+	cmp	w11, w21
 	b.eq	.Ldcsctp_BB11_5
-	b	.Ldcsctp_BB11_93
+	b	.Ldcsctp_BB11_96
 .Ldcsctp_BB11_10:
-	hint	#36
-	cmp	w11, #14
-	mov	w8, #16
-	b.gt	.Ldcsctp_BB11_63
-	cbz	w11, .Ldcsctp_BB11_70
-	cmp	w11, #6
-	b.eq	.Ldcsctp_BB11_14
-	cmp	w11, #14
-	b.ne	.Ldcsctp_BB11_67
-.Ldcsctp_BB11_14:
-	mov	w8, #2
-	b	.Ldcsctp_BB11_70
-.Ldcsctp_BB11_15:
-	hint	#36
-	sub	w8, w11, #1
-	cmp	w8, #1
-	b.hi	.Ldcsctp_BB11_5
-	cmp	x10, #12
-	b.lo	.Ldcsctp_BB11_5
-	ldr	w8, [x15, #8]
-	rev	w8, w8
-	cmp	w8, #1500
-	b.hs	.Ldcsctp_BB11_5
-	b	.Ldcsctp_BB11_93
-.Ldcsctp_BB11_18:
-	hint	#36
-	sub	w10, w11, #1
-	cmp	w10, #1
-	b.hi	.Ldcsctp_BB11_5
-	cmp	x9, #8
-	mov	w10, #8
-	csel	x10, x9, x10, lo
-	sub	x11, x9, x10
-	cmp	x11, #2
-	b.lo	.Ldcsctp_BB11_21
-	add	x10, x8, x10
-	ldrb	w11, [x10]
-	ldrb	w10, [x10, #1]
-	orr	w10, w10, w11
-	cbz	w10, .Ldcsctp_BB11_93
-.Ldcsctp_BB11_21:
-	cmp	x9, #10
-	mov	w10, #10
-	csel	x10, x9, x10, lo
-	sub	x9, x9, x10
-	cmp	x9, #2
-	b.lo	.Ldcsctp_BB11_5
-	add	x8, x8, x10
-	ldrb	w9, [x8]
-	ldrb	w8, [x8, #1]
-	orr	w8, w8, w9
-	cbnz	w8, .Ldcsctp_BB11_5
-	b	.Ldcsctp_BB11_93
-.Ldcsctp_BB11_23:
-	hint	#36
-	cmp	w11, #64
-	b.eq	.Ldcsctp_BB11_73
-	cbnz	w11, .Ldcsctp_BB11_5
-	cmp	x9, #8
-	mov	w10, #8
-	csel	x10, x9, x10, lo
-	sub	x9, x9, x10
-	cmp	x9, #4
-	b.lo	.Ldcsctp_BB11_5
-	b	.Ldcsctp_BB11_75
-.Ldcsctp_BB11_26:
-	hint	#36
-	cmp	w11, #14
-	b.hi	.Ldcsctp_BB11_5
-	mov	w8, #1
-	mov	w9, #16390
-	lsl	w8, w8, w11
-	tst	w8, w9
-	b.eq	.Ldcsctp_BB11_5
-	b	.Ldcsctp_BB11_93
-.Ldcsctp_BB11_28:
-	hint	#36
-	cbz	w11, .Ldcsctp_BB11_5
-	cmp	w11, #64
-	b.eq	.Ldcsctp_BB11_5
-	cmp	w11, #132
-	b.eq	.Ldcsctp_BB11_5
-	b	.Ldcsctp_BB11_93
-.Ldcsctp_BB11_31:
-	hint	#36
-	cmp	w11, #64
-	ccmp	x16, #16, #0, eq
-	cset	w8, eq
-	cmp	x16, #12
-	ccmp	w11, #0, #0, eq
-	b.eq	.Ldcsctp_BB11_93
-	tbz	w8, #0, .Ldcsctp_BB11_5
-	b	.Ldcsctp_BB11_93
-.Ldcsctp_BB11_33:
-	hint	#36
-	tst	w11, #0xffffffbf
-	b.ne	.Ldcsctp_BB11_5
-	cmp	x9, #4
-	mov	w10, #4
-	csel	x10, x9, x10, lo
-	sub	x9, x9, x10
-	cmp	x9, #2
-	b.lo	.Ldcsctp_BB11_5
-	ldrh	w8, [x8, x10]
-	rev	w8, w8
-	cmp	w24, w8, lsr #16
-	b.ne	.Ldcsctp_BB11_5
-	b	.Ldcsctp_BB11_93
-.Ldcsctp_BB11_36:
 	hint	#36
 	cmp	w11, #16
 	b.eq	.Ldcsctp_BB11_76
@@ -2443,7 +2333,7 @@ dcsctp_receive.chunk_test.after_first:
 	mov	w11, wzr
 	add	x8, x8, x12
 	sub	x10, x10, #8
-.Ldcsctp_BB11_42:
+.Ldcsctp_BB11_16:
 	and	w11, w11, #0xffff
 	ldrh	w12, [x8]
 	mov	w14, #65535
@@ -2452,22 +2342,51 @@ dcsctp_receive.chunk_test.after_first:
 	rev	w13, w12
 	csinc	w11, w14, w11, hs
 	cmp	w11, w13, lsr #16
-	b.hs	.Ldcsctp_BB11_93
+	b.hs	.Ldcsctp_BB11_96
 	ldrh	w11, [x8, #2]
 	rev16	w12, w12
 	rev16	w11, w11
 	and	w13, w11, #0xffff
 	cmp	w13, w12, uxth
-	b.lo	.Ldcsctp_BB11_93
+	b.lo	.Ldcsctp_BB11_96
 	sub	w9, w9, #1
 	and	w12, w9, #0xffff
 	cbz	w12, .Ldcsctp_BB11_5
 	cmp	x10, #4
 	sub	x10, x10, #4
 	add	x8, x8, #4
-	b.hs	.Ldcsctp_BB11_42
+	b.hs	.Ldcsctp_BB11_16
 	b	.Ldcsctp_BB11_5
-.Ldcsctp_BB11_46:
+.Ldcsctp_BB11_20:
+	hint	#36
+	sub	w10, w11, #1
+	cmp	w10, #1
+	b.hi	.Ldcsctp_BB11_5
+	cmp	x9, #8
+	mov	w10, #8
+	csel	x10, x9, x10, lo
+	sub	x11, x9, x10
+	cmp	x11, #2
+	b.lo	.Ldcsctp_BB11_23
+	add	x10, x8, x10
+	ldrb	w11, [x10]
+	ldrb	w10, [x10, #1]
+	orr	w10, w10, w11
+	cbz	w10, .Ldcsctp_BB11_96
+.Ldcsctp_BB11_23:
+	cmp	x9, #10
+	mov	w10, #10
+	csel	x10, x9, x10, lo
+	sub	x9, x9, x10
+	cmp	x9, #2
+	b.lo	.Ldcsctp_BB11_5
+	add	x8, x8, x10
+	ldrb	w9, [x8]
+	ldrb	w8, [x8, #1]
+	orr	w8, w8, w9
+	cbnz	w8, .Ldcsctp_BB11_5
+	b	.Ldcsctp_BB11_96
+.Ldcsctp_BB11_25:
 	hint	#36
 	sub	w9, w11, #1
 	cmp	w9, #1
@@ -2476,37 +2395,127 @@ dcsctp_receive.chunk_test.after_first:
 	b.lo	.Ldcsctp_BB11_5
 	ldr	w8, [x8]
 	cbnz	w8, .Ldcsctp_BB11_5
-	b	.Ldcsctp_BB11_93
-.Ldcsctp_BB11_49:
+	b	.Ldcsctp_BB11_96
+.Ldcsctp_BB11_28:
+	hint	#36
+	cmp	w11, #64
+	b.eq	.Ldcsctp_BB11_92
+	cbnz	w11, .Ldcsctp_BB11_5
+	cmp	x9, #8
+	mov	w10, #8
+	csel	x10, x9, x10, lo
+	sub	x9, x9, x10
+	cmp	x9, #4
+	b.lo	.Ldcsctp_BB11_5
+	b	.Ldcsctp_BB11_94
+.Ldcsctp_BB11_31:
 	hint	#36
 	tst	w11, #0xffffffbf
 	b.ne	.Ldcsctp_BB11_5
-	b	.Ldcsctp_BB11_93
-.Ldcsctp_BB11_50:
+	cmp	x9, #4
+	mov	w10, #4
+	csel	x10, x9, x10, lo
+	sub	x9, x9, x10
+	cmp	x9, #2
+	b.lo	.Ldcsctp_BB11_5
+	ldrh	w8, [x8, x10]
+	rev	w8, w8
+	cmp	w23, w8, lsr #16
+	b.ne	.Ldcsctp_BB11_5
+	b	.Ldcsctp_BB11_96
+.Ldcsctp_BB11_34:
+	hint	#36
+	tst	w11, #0xffffffbf
+	b.ne	.Ldcsctp_BB11_5
+	cmp	x10, #8
+	b.lo	.Ldcsctp_BB11_5
+	ldr	w8, [x8]
+	rev	w8, w8
+	cmp	w8, w24
+	b.ne	.Ldcsctp_BB11_5
+	b	.Ldcsctp_BB11_96
+.Ldcsctp_BB11_37:
 	hint	#36
 	cmp	w11, #9
-	b.le	.Ldcsctp_BB11_71
-	cmp	w11, #14
-	b.eq	.Ldcsctp_BB11_72
-	cmp	w11, #10
-	b.eq	.Ldcsctp_BB11_93
-	cmp	w11, #193
 	b.ne	.Ldcsctp_BB11_5
-	b	.Ldcsctp_BB11_93
-.Ldcsctp_BB11_54:
-	hint	#36
-	cmp	w11, #4
-	b.ne	.Ldcsctp_BB11_5
-	cmp	x16, x9
-	b.hi	.Ldcsctp_BB11_5
 	movi	v0.2d, #0000000000000000
 	stp	x8, x9, [sp, #64]
-	mov	w8, #257
+	mov	w8, #769
+	mov	x27, x0
+	sub	x0, x29, #64
+	add	x1, sp, #64
+	mov	x2, sp
 	stur	xzr, [x29, #-16]
 	str	xzr, [sp, #48]
+	stp	q0, q0, [x29, #-64]
+	stur	q0, [x29, #-32]
+	stp	q0, q0, [sp]
+	str	q0, [sp, #32]
 	stp	x16, x14, [sp, #80]
-	b	.Ldcsctp_BB11_60
-.Ldcsctp_BB11_57:
+	strh	w8, [sp]
+	bl	dcsctp_receive.items.first
+	ldurb	w8, [x29, #-64]
+	mov	x0, x27
+	cmp	w8, #1
+	b.ne	.Ldcsctp_BB11_5
+	b	.Ldcsctp_BB11_96
+.Ldcsctp_BB11_39:
+	hint	#36
+	cmp	w11, #64
+	ccmp	x16, #16, #0, eq
+	cset	w8, eq
+	cmp	x16, #12
+	ccmp	w11, #0, #0, eq
+	b.eq	.Ldcsctp_BB11_96
+	tbz	w8, #0, .Ldcsctp_BB11_5
+	b	.Ldcsctp_BB11_96
+.Ldcsctp_BB11_41:
+	hint	#36
+	tst	w11, #0xffffffbf
+	b.ne	.Ldcsctp_BB11_5
+	b	.Ldcsctp_BB11_96
+.Ldcsctp_BB11_42:
+	hint	#36
+	cbz	w11, .Ldcsctp_BB11_5
+	cmp	w11, #64
+	b.eq	.Ldcsctp_BB11_5
+	cmp	w11, #132
+	b.eq	.Ldcsctp_BB11_5
+	b	.Ldcsctp_BB11_96
+.Ldcsctp_BB11_45:
+	hint	#36
+	cmp	w11, #9
+	b.le	.Ldcsctp_BB11_74
+	cmp	w11, #14
+	b.eq	.Ldcsctp_BB11_75
+	cmp	w11, #10
+	b.eq	.Ldcsctp_BB11_96
+	cmp	w11, #193
+	b.ne	.Ldcsctp_BB11_5
+	b	.Ldcsctp_BB11_96
+.Ldcsctp_BB11_49:
+	hint	#36
+	cmp	w11, #14
+	b.hi	.Ldcsctp_BB11_5
+	mov	w8, #1
+	mov	w9, #16390
+	lsl	w8, w8, w11
+	tst	w8, w9
+	b.eq	.Ldcsctp_BB11_5
+	b	.Ldcsctp_BB11_96
+.Ldcsctp_BB11_51:
+	hint	#36
+	sub	w8, w11, #1
+	cmp	w8, #1
+	b.hi	.Ldcsctp_BB11_5
+	cmp	x10, #12
+	b.lo	.Ldcsctp_BB11_5
+	ldr	w8, [x15, #8]
+	rev	w8, w8
+	cmp	w8, #1500
+	b.hs	.Ldcsctp_BB11_5
+	b	.Ldcsctp_BB11_96
+.Ldcsctp_BB11_54:
 	hint	#36
 	cmp	w11, #2
 	b.ne	.Ldcsctp_BB11_5
@@ -2527,89 +2536,80 @@ dcsctp_receive.chunk_test.after_first:
 	str	xzr, [sp, #48]
 	stp	x10, x8, [sp, #80]
 	mov	w8, #1793
-.Ldcsctp_BB11_60:
-	stp	q0, q0, [x29, #-64]
-	stur	q0, [x29, #-32]
-	stp	q0, q0, [sp]
-	str	q0, [sp, #32]
-	sub	x0, x29, #64
-	add	x1, sp, #64
-	mov	x2, sp
-	strh	w8, [sp]
-	bl	dcsctp_receive.items.first
-	ldurb	w8, [x29, #-64]
-	cmp	w8, #1
-	b.eq	.Ldcsctp_BB11_5
-	b	.Ldcsctp_BB11_93
-.Ldcsctp_BB11_61:
+	b	.Ldcsctp_BB11_65
+.Ldcsctp_BB11_57:
 	hint	#36
-	cmp	w11, #9
+	cmp	w11, #14
+	mov	w8, #16
+	b.gt	.Ldcsctp_BB11_66
+	cbz	w11, .Ldcsctp_BB11_73
+	cmp	w11, #6
+	b.eq	.Ldcsctp_BB11_61
+	cmp	w11, #14
+	b.ne	.Ldcsctp_BB11_70
+.Ldcsctp_BB11_61:
+	mov	w8, #2
+	b	.Ldcsctp_BB11_73
+.Ldcsctp_BB11_62:
+	hint	#36
+	cmp	w11, #4
 	b.ne	.Ldcsctp_BB11_5
+	cmp	x16, x9
+	b.hi	.Ldcsctp_BB11_5
 	movi	v0.2d, #0000000000000000
 	stp	x8, x9, [sp, #64]
-	mov	w8, #769
-	sub	x0, x29, #64
-	add	x1, sp, #64
-	mov	x2, sp
+	mov	w8, #257
 	stur	xzr, [x29, #-16]
 	str	xzr, [sp, #48]
+	stp	x16, x14, [sp, #80]
+.Ldcsctp_BB11_65:
 	stp	q0, q0, [x29, #-64]
 	stur	q0, [x29, #-32]
 	stp	q0, q0, [sp]
 	str	q0, [sp, #32]
-	stp	x16, x14, [sp, #80]
+	mov	x27, x0
+	sub	x0, x29, #64
+	add	x1, sp, #64
+	mov	x2, sp
 	strh	w8, [sp]
 	bl	dcsctp_receive.items.first
 	ldurb	w8, [x29, #-64]
+	mov	x0, x27
 	cmp	w8, #1
-	b.ne	.Ldcsctp_BB11_5
-	b	.Ldcsctp_BB11_93
-.Ldcsctp_BB11_63:
+	b.eq	.Ldcsctp_BB11_5
+	b	.Ldcsctp_BB11_96
+.Ldcsctp_BB11_66:
 	sub	w9, w11, #128
 	cmp	w9, #4
-	b.hi	.Ldcsctp_BB11_65
+	b.hi	.Ldcsctp_BB11_68
 	mov	w10, #1
 	lsl	w9, w10, w9
 	mov	w10, #21
 	tst	w9, w10
-	b.ne	.Ldcsctp_BB11_69
-.Ldcsctp_BB11_65:
+	b.ne	.Ldcsctp_BB11_72
+.Ldcsctp_BB11_68:
 	cmp	w11, #15
-	b.eq	.Ldcsctp_BB11_69
+	b.eq	.Ldcsctp_BB11_72
 	cmp	w11, #64
-	b.eq	.Ldcsctp_BB11_70
-.Ldcsctp_BB11_67:
+	b.eq	.Ldcsctp_BB11_73
+.Ldcsctp_BB11_70:
 	cmp	w11, #12
-	b.lo	.Ldcsctp_BB11_69
+	b.lo	.Ldcsctp_BB11_72
 	sub	w8, w11, #192
 	cmp	w8, #2
 	b.hi	.Ldcsctp_BB11_5
-.Ldcsctp_BB11_69:
+.Ldcsctp_BB11_72:
 	mov	w8, #1
-.Ldcsctp_BB11_70:
+.Ldcsctp_BB11_73:
 	cmp	w8, w12
 	b.hi	.Ldcsctp_BB11_5
-	b	.Ldcsctp_BB11_93
-.Ldcsctp_BB11_71:
+	b	.Ldcsctp_BB11_96
+.Ldcsctp_BB11_74:
 	cmp	w11, #6
-	b.ne	.Ldcsctp_BB11_92
-.Ldcsctp_BB11_72:
-	tbz	w12, #0, .Ldcsctp_BB11_5
-	b	.Ldcsctp_BB11_93
-.Ldcsctp_BB11_73:
-	tbz	w12, #1, .Ldcsctp_BB11_5
-	cmp	x9, #12
-	mov	w10, #12
-	csel	x10, x9, x10, lo
-	sub	x9, x9, x10
-	cmp	x9, #4
-	b.lo	.Ldcsctp_BB11_5
+	b.ne	.Ldcsctp_BB11_95
 .Ldcsctp_BB11_75:
-	ldr	w8, [x8, x10]
-	rev	w8, w8
-	cmp	w8, w25
-	b.ne	.Ldcsctp_BB11_5
-	b	.Ldcsctp_BB11_93
+	tbz	w12, #0, .Ldcsctp_BB11_5
+	b	.Ldcsctp_BB11_96
 .Ldcsctp_BB11_76:
 	cmp	x9, #8
 	mov	w11, #8
@@ -2634,19 +2634,19 @@ dcsctp_receive.chunk_test.after_first:
 .Ldcsctp_BB11_80:
 	and	w15, w15, #0xffff
 	ldrh	w16, [x13]
-	mov	w0, #65535
+	mov	w1, #65535
 	add	w17, w15, #1
-	cmp	w17, w0
+	cmp	w17, w1
 	rev	w17, w16
-	csinc	w15, w0, w15, hs
+	csinc	w15, w1, w15, hs
 	cmp	w15, w17, lsr #16
-	b.hs	.Ldcsctp_BB11_93
+	b.hs	.Ldcsctp_BB11_96
 	ldrh	w15, [x13, #2]
 	rev16	w16, w16
 	rev16	w15, w15
 	and	w17, w15, #0xffff
 	cmp	w17, w16, uxth
-	b.lo	.Ldcsctp_BB11_93
+	b.lo	.Ldcsctp_BB11_96
 	sub	w12, w12, #1
 	and	w16, w12, #0xffff
 	cbz	w16, .Ldcsctp_BB11_84
@@ -2687,13 +2687,13 @@ dcsctp_receive.chunk_test.after_first:
 	rev	w13, w12
 	csinc	w11, w14, w11, hs
 	cmp	w11, w13, lsr #16
-	b.hs	.Ldcsctp_BB11_93
+	b.hs	.Ldcsctp_BB11_96
 	ldrh	w11, [x8, #2]
 	rev16	w12, w12
 	rev16	w11, w11
 	and	w13, w11, #0xffff
 	cmp	w13, w12, uxth
-	b.lo	.Ldcsctp_BB11_93
+	b.lo	.Ldcsctp_BB11_96
 	sub	w9, w9, #1
 	and	w12, w9, #0xffff
 	cbz	w12, .Ldcsctp_BB11_5
@@ -2703,17 +2703,31 @@ dcsctp_receive.chunk_test.after_first:
 	b.hs	.Ldcsctp_BB11_88
 	b	.Ldcsctp_BB11_5
 .Ldcsctp_BB11_92:
+	tbz	w12, #1, .Ldcsctp_BB11_5
+	cmp	x9, #12
+	mov	w10, #12
+	csel	x10, x9, x10, lo
+	sub	x9, x9, x10
+	cmp	x9, #4
+	b.lo	.Ldcsctp_BB11_5
+.Ldcsctp_BB11_94:
+	ldr	w8, [x8, x10]
+	rev	w8, w8
+	cmp	w8, w24
+	b.ne	.Ldcsctp_BB11_5
+	b	.Ldcsctp_BB11_96
+.Ldcsctp_BB11_95:
 	cmp	w11, #1
 	b.ne	.Ldcsctp_BB11_5
-.Ldcsctp_BB11_93:
+.Ldcsctp_BB11_96:
 	hint	#36
 	mov	w8, #1
-	stp	x20, x23, [x19, #16]
-	stp	x8, x27, [x19]
-	str	x26, [x19, #32]
+	stp	x19, x22, [x0, #16]
+	stp	x8, x26, [x0]
+	str	x25, [x0, #32]
 	.cfi_def_cfa wsp, 256
 	b	.Ldcsctp_BB11_2
-.Ldcsctp_BB11_94:
+.Ldcsctp_BB11_97:
 	.cfi_restore_state
 	brk	#0x1
 .Ldcsctp_func_end11:
@@ -2722,24 +2736,25 @@ dcsctp_receive.chunk_test.after_first:
 	.section	.rodata.dcsctp_receive.chunk_test.after_first,"a",@progbits
 	.p2align	1, 0x0
 .Ldcsctp_JTI11_0:
-	.hword	(.Ldcsctp_BB11_93-.Ldcsctp_BB11_4)>>2
+	.hword	(.Ldcsctp_BB11_96-.Ldcsctp_BB11_4)>>2
 	.hword	(.Ldcsctp_BB11_4-.Ldcsctp_BB11_4)>>2
 	.hword	(.Ldcsctp_BB11_9-.Ldcsctp_BB11_4)>>2
-	.hword	(.Ldcsctp_BB11_33-.Ldcsctp_BB11_4)>>2
-	.hword	(.Ldcsctp_BB11_23-.Ldcsctp_BB11_4)>>2
-	.hword	(.Ldcsctp_BB11_49-.Ldcsctp_BB11_4)>>2
-	.hword	(.Ldcsctp_BB11_28-.Ldcsctp_BB11_4)>>2
 	.hword	(.Ldcsctp_BB11_31-.Ldcsctp_BB11_4)>>2
-	.hword	(.Ldcsctp_BB11_26-.Ldcsctp_BB11_4)>>2
-	.hword	(.Ldcsctp_BB11_46-.Ldcsctp_BB11_4)>>2
-	.hword	(.Ldcsctp_BB11_18-.Ldcsctp_BB11_4)>>2
-	.hword	(.Ldcsctp_BB11_15-.Ldcsctp_BB11_4)>>2
-	.hword	(.Ldcsctp_BB11_50-.Ldcsctp_BB11_4)>>2
-	.hword	(.Ldcsctp_BB11_36-.Ldcsctp_BB11_4)>>2
+	.hword	(.Ldcsctp_BB11_34-.Ldcsctp_BB11_4)>>2
+	.hword	(.Ldcsctp_BB11_28-.Ldcsctp_BB11_4)>>2
+	.hword	(.Ldcsctp_BB11_41-.Ldcsctp_BB11_4)>>2
+	.hword	(.Ldcsctp_BB11_42-.Ldcsctp_BB11_4)>>2
+	.hword	(.Ldcsctp_BB11_39-.Ldcsctp_BB11_4)>>2
+	.hword	(.Ldcsctp_BB11_49-.Ldcsctp_BB11_4)>>2
+	.hword	(.Ldcsctp_BB11_25-.Ldcsctp_BB11_4)>>2
+	.hword	(.Ldcsctp_BB11_20-.Ldcsctp_BB11_4)>>2
+	.hword	(.Ldcsctp_BB11_51-.Ldcsctp_BB11_4)>>2
+	.hword	(.Ldcsctp_BB11_45-.Ldcsctp_BB11_4)>>2
 	.hword	(.Ldcsctp_BB11_10-.Ldcsctp_BB11_4)>>2
 	.hword	(.Ldcsctp_BB11_57-.Ldcsctp_BB11_4)>>2
 	.hword	(.Ldcsctp_BB11_54-.Ldcsctp_BB11_4)>>2
-	.hword	(.Ldcsctp_BB11_61-.Ldcsctp_BB11_4)>>2
+	.hword	(.Ldcsctp_BB11_62-.Ldcsctp_BB11_4)>>2
+	.hword	(.Ldcsctp_BB11_37-.Ldcsctp_BB11_4)>>2
 	.section	.text.dcsctp_receive.items.contains,"ax",@progbits
 	.p2align	2
 	.type	dcsctp_receive.items.contains,@function
@@ -52054,7 +52069,7 @@ dcsctp_out_of_the_blue:
 	cmp	w8, #1
 	b.eq	.Ldcsctp_BB145_3
 	movi	v0.2d, #0000000000000000
-	mov	w8, #17
+	mov	w8, #18
 	sub	x0, x29, #48
 	stp	xzr, x8, [x29, #-16]
 	mov	w8, #12
@@ -53911,22 +53926,22 @@ dcsctp_broken_rules:
 .Ldcsctp_BB159_16:
 	hint	#36
 	movi	v0.2d, #0000000000000000
-	mov	w8, #13
+	mov	w8, #14
 	b	.Ldcsctp_BB159_43
 .Ldcsctp_BB159_17:
 	hint	#36
 	movi	v0.2d, #0000000000000000
-	mov	w8, #9
+	mov	w8, #10
 	b	.Ldcsctp_BB159_43
 .Ldcsctp_BB159_18:
 	hint	#36
 	movi	v0.2d, #0000000000000000
-	mov	w8, #14
+	mov	w8, #15
 	b	.Ldcsctp_BB159_43
 .Ldcsctp_BB159_19:
 	hint	#36
 	movi	v0.2d, #0000000000000000
-	mov	w8, #7
+	mov	w8, #8
 	b	.Ldcsctp_BB159_43
 .Ldcsctp_BB159_20:
 	hint	#36
@@ -53952,7 +53967,7 @@ dcsctp_broken_rules:
 .Ldcsctp_BB159_21:
 	hint	#36
 	movi	v0.2d, #0000000000000000
-	mov	w8, #5
+	mov	w8, #6
 	sub	x0, x29, #112
 	stur	x8, [x29, #-64]
 	mov	w8, #12
@@ -53966,7 +53981,7 @@ dcsctp_broken_rules:
 	ldurb	w8, [x29, #-112]
 	cmp	w8, #1
 	b.ne	.Ldcsctp_BB159_2
-	mov	w8, #6
+	mov	w8, #7
 .Ldcsctp_BB159_23:
 	stur	x8, [x29, #-56]
 .Ldcsctp_BB159_24:
@@ -53992,7 +54007,7 @@ dcsctp_broken_rules:
 .Ldcsctp_BB159_28:
 	hint	#36
 	movi	v0.2d, #0000000000000000
-	mov	w8, #15
+	mov	w8, #16
 	b	.Ldcsctp_BB159_43
 .Ldcsctp_BB159_29:
 	hint	#36
@@ -54000,7 +54015,7 @@ dcsctp_broken_rules:
 	mov	w8, #12
 	sub	x0, x29, #48
 	stp	x28, x8, [x29, #-96]
-	mov	w8, #8
+	mov	w8, #9
 	sub	x1, x29, #112
 	add	x2, sp, #96
 	stp	x27, x25, [x29, #-112]
@@ -54046,12 +54061,12 @@ dcsctp_broken_rules:
 	cmp	w8, #1
 	b.ne	.Ldcsctp_BB159_2
 	movi	v0.2d, #0000000000000000
-	mov	w8, #5
+	mov	w8, #6
 	b	.Ldcsctp_BB159_43
 .Ldcsctp_BB159_34:
 	hint	#36
 	movi	v0.2d, #0000000000000000
-	mov	w8, #10
+	mov	w8, #11
 	b	.Ldcsctp_BB159_43
 .Ldcsctp_BB159_35:
 	hint	#36
@@ -54066,17 +54081,17 @@ dcsctp_broken_rules:
 	ldr	w8, [sp, #12]
 	tbnz	w8, #0, .Ldcsctp_BB159_1
 	movi	v0.2d, #0000000000000000
+	mov	w8, #13
+	b	.Ldcsctp_BB159_43
+.Ldcsctp_BB159_40:
+	hint	#36
+	movi	v0.2d, #0000000000000000
 	mov	w8, #12
 	stur	xzr, [x29, #-16]
 	str	x8, [sp, #96]
 	stp	x27, x25, [x29, #-112]
 	stp	q0, q0, [x29, #-48]
 	b	.Ldcsctp_BB159_44
-.Ldcsctp_BB159_40:
-	hint	#36
-	movi	v0.2d, #0000000000000000
-	mov	w8, #11
-	b	.Ldcsctp_BB159_43
 .Ldcsctp_BB159_41:
 	hint	#36
 	movi	v0.2d, #0000000000000000
@@ -54121,7 +54136,7 @@ dcsctp_broken_rules:
 .Ldcsctp_BB159_42:
 	hint	#36
 	movi	v0.2d, #0000000000000000
-	mov	w8, #16
+	mov	w8, #17
 .Ldcsctp_BB159_43:
 	stur	xzr, [x29, #-16]
 	str	x8, [sp, #96]
