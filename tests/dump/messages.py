@@ -314,7 +314,7 @@ def rows_of(line):
     if 'payload' not in line:
         return ['  payload: not known']
     payload = bytes.fromhex(line['payload'])
-    rows = ['  payload: %d bytes' % len(payload)]
+    rows = ['  payload: %d byte%s' % (len(payload), '' if len(payload) == 1 else 's')]
     for at in range(0, len(payload), 16):
         row = payload[at:at + 16]
         ascii_of = ''.join(chr(byte) if 32 <= byte < 127 else '.' for byte in row)

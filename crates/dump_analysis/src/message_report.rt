@@ -171,7 +171,8 @@ impl<'a> MessageReport<'a> {
             return f.write_str("\n  payload: not known");
         };
         let (size, rows) = (bytes.len(), Rows(bytes));
-        write!(f, "\n  payload: {size} bytes{rows}")?;
+        let unit = if size == 1 { "byte" } else { "bytes" };
+        write!(f, "\n  payload: {size} {unit}{rows}")?;
         if self.message.ppid != Some(STRING) {
             return Ok(());
         }
