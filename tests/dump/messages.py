@@ -310,16 +310,18 @@ def utf8(digits):
 
 
 def rows_of(line):
-    """Returns the rows of an object's payload; of the text, which DUMP.md says how to quote, that of ASCII alone."""
+    """Returns the rows of an object's payload, and of its text, which DUMP.md says how to quote, if it is UTF-8: that of ASCII alone."""
     if 'payload' not in line:
         return ['  payload: not known']
     payload = bytes.fromhex(line['payload'])
-    rows = ['  payload: %d bytes' % len(payload)]
+    rows = ['  payload: %d byte%s' % (len(payload), '' if len(payload) == 1 else 's')]
     for at in range(0, len(payload), 16):
         row = payload[at:at + 16]
         ascii_of = ''.join(chr(byte) if 32 <= byte < 127 else '.' for byte in row)
         rows.append('    %04x: %-47s  |%s|' % (at % 65536, row.hex(' '), ascii_of))
-    if line.get('ppid') == 51:
+    if line.get('ppid') == 51 and utf8(line['payload']) is None:
+        rows.append('  text: not UTF-8')
+    elif line.get('ppid') == 51:
         shown = (chr(byte) if 32 <= byte < 127 and byte not in b'"\\' else '\\x%02x' % byte for byte in payload)
         rows.append('  text: "%s"' % ''.join(shown))
     return rows
@@ -532,7 +534,7 @@ def next_fragment(draw, one, side):
     if draw.random() < 0.02:
         bits ^= draw.choice((BEGINS, ENDS))
     count, ppid = draw.randrange(1, 50), draw.choice((51, 53, 3_000_000))
-    payload = bytes(draw.randrange(128) for _ in range(count))
+    payload = bytes(draw.randrange(128) for _ in range(count)) + b'\xff' * (draw.random() < 0.1)
     if one['i_data']:
         return tsn, i_piece(tsn, bits, stream, number, ppid if bits & BEGINS else fsn, payload)
     return tsn, piece(tsn, bits, stream, number % 2 ** 16, payload, ppid)

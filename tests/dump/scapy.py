@@ -131,6 +131,14 @@ def quoted(text):
                             for it in text.decode(*coding))
 
 
+def is_utf8(data):
+    try:
+        data.decode()
+    except UnicodeDecodeError:
+        return False
+    return True
+
+
 def dcep(data):
     """What a message of ppid 50 says (RFC 8832 section 5)."""
     if data == b'\2':
@@ -159,7 +167,7 @@ def payload(line, data, ppid, is_message, in_rows=True):
     if is_message and ppid == 50:
         yield by_layout('  {message}', dcep(data))
     if is_message and ppid == 51:
-        yield line('  text: {text}', quoted(data))
+        yield line('  text: {text}', quoted(data) if is_utf8(data) or not in_rows else 'not UTF-8')
 
 
 def items(value):

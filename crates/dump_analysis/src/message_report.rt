@@ -13,7 +13,7 @@ use dump_text::printed::Quoted;
 use dump_text::registry::payload_protocol;
 use std::fmt;
 
-/// The payload protocol identifier of a WebRTC string (RFC 8831 section 8).
+/// The payload protocol identifier of a WebRTC string, which is UTF-8 (RFC 8831 section 6.6).
 const STRING: u32 = 51;
 
 /// How many bytes a row shows.
@@ -171,12 +171,16 @@ impl<'a> MessageReport<'a> {
             return f.write_str("\n  payload: not known");
         };
         let (size, rows) = (bytes.len(), Rows(bytes));
-        write!(f, "\n  payload: {size} bytes{rows}")?;
-        if self.message.ppid == Some(STRING) {
-            let text = Quoted(bytes);
-            write!(f, "\n  text: {text}")?;
+        let unit = if size == 1 { "byte" } else { "bytes" };
+        write!(f, "\n  payload: {size} {unit}{rows}")?;
+        if self.message.ppid != Some(STRING) {
+            return Ok(());
         }
-        Ok(())
+        if str::from_utf8(bytes).is_err() {
+            return f.write_str("\n  text: not UTF-8");
+        }
+        let text = Quoted(bytes);
+        write!(f, "\n  text: {text}")
     }
 
     /// Writes a time, if it is known, and the packet's number.

@@ -50,6 +50,16 @@ impl<'f, W: fmt::Write> TextFields<'f, W> {
         }
         self.f.write_str(line)
     }
+
+    /// Writes a string of WebRTC, whose bytes are in rows above: all of it, if it is UTF-8 (RFC 8831
+    /// section 6.6).
+    fn put_text(&mut self, bytes: &[u8]) -> fmt::Result {
+        if str::from_utf8(bytes).is_err() {
+            return self.f.write_str("\n  text: not UTF-8");
+        }
+        let quoted = Quoted(bytes);
+        write!(self.f, "\n  text: {quoted}")
+    }
 }
 
 impl<'f, W: fmt::Write> Fields for TextFields<'f, W> {
@@ -197,11 +207,10 @@ impl<'f, W: fmt::Write> Fields for TextFields<'f, W> {
         if !is_text {
             return Ok(());
         }
-        let text = if self.shows_all {
-            payload.bytes
-        } else {
-            text_front(payload.bytes, MOST_OF_TEXT)
-        };
+        if self.shows_all {
+            return self.put_text(payload.bytes);
+        }
+        let text = text_front(payload.bytes, MOST_OF_TEXT);
         let (quoted, is_cut) = (Quoted(text), text.len() < payload.size);
         let more = if is_cut { " .." } else { "" };
         write!(self.f, "\n  text: {quoted}{more}")
