@@ -77,7 +77,7 @@ def main():
         print(__doc__)
         return
     program = sys.argv[1] if len(sys.argv) > 1 else os.path.join(ROOT, 'crates', 'sctp_dump', 'out', 'sctp_dump')
-    forms = [], ['--summary'], ['--payload'], ['--json'], ['--brief'], ['--associations'], ['--messages'], ['--channels']
+    forms = [], ['--summary'], ['--payload'], ['--json'], ['--messages']
     commands = [[program, *form] for form in forms]
     commands += [['tshark', '-n', '-r'], ['tshark', '-n', '-V', '-r']] if shutil.which('tshark') else []
     folder = os.path.join(ROOT, 'bench', 'out')

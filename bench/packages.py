@@ -38,7 +38,6 @@ import sys
 import time
 import zipfile
 
-from dump import sealed
 from report import duration, filled, ratio, table
 from traffic import FILES, HOSTILE_PACKETS, Draw, Peer, chunk, in_list, parameter, u16, u32
 
@@ -62,6 +61,24 @@ WRITTEN = (('Python', 'aiortc writes', 'davgyuti writes'), ('Go', 'pion writes',
 
 class Missing(Exception):
     """What isn't there, so that a language is left out."""
+
+
+def crc_table():
+    for byte in range(256):
+        for _ in range(8):
+            byte = byte >> 1 ^ 0x82F63B78 * (byte & 1)
+        yield byte
+
+
+TABLE = list(crc_table())
+
+
+def sealed(packet):
+    """The packet with its CRC32c (RFC 9260 appendix A)."""
+    crc = 0xFFFFFFFF
+    for byte in packet[:8] + bytes(4) + packet[12:]:
+        crc = crc >> 8 ^ TABLE[(crc ^ byte) & 255]
+    return packet[:8] + (crc ^ 0xFFFFFFFF).to_bytes(4, 'little') + packet[12:]
 
 
 def run(*words, **options):
