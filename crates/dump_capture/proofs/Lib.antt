@@ -1,5 +1,6 @@
 pub mod Headers
 pub mod FirstTunnel
+pub mod FirstFault
 pub mod Records
 pub mod Sent
 pub mod Readings

@@ -12,10 +12,12 @@ pub mod Nflog
 pub mod Tunnel
 pub mod Frame
 pub mod Tunnels
+pub mod IpFragment
 pub mod Found
 pub mod Stamp
 pub mod Sent
 pub mod Event
+pub mod Reassembly
 pub mod Decoding
 pub mod PcapEvents
 pub mod Text

@@ -53,6 +53,8 @@ pub enum Part {
     Record,
     /// A line of text.
     Line,
+    /// So many fragments of an IP packet, in as many frames, put together.
+    Fragments(u32),
 }
 
 /// Where and when a frame was seen.

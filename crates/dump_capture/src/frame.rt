@@ -60,7 +60,7 @@ pub const UDP_PORT: u16 = 9899;
 
 /// The most headers that are read of a frame, those of the link and of IP, and of what a tunnel
 /// carries: a frame of 262,144 bytes has no more.
-const MOST_HEADERS: u32 = 65_536;
+pub(crate) const MOST_HEADERS: u32 = 65_536;
 
 /// The most tunnels that are read in one another.
 pub(crate) const MOST_TUNNELS: u32 = 4;
@@ -278,7 +278,7 @@ pub(crate) fn behind_headers(payload: Payload<'_>) -> Result<Payload<'_>, NoPack
 }
 
 /// Returns whether this is a header of the link, of IP or in a tunnel, and what follows it.
-fn is_header(protocol: Protocol) -> bool
+pub(crate) fn is_header(protocol: Protocol) -> bool
     ensures { result ≡ is_header protocol }
 {
     match protocol {
@@ -288,7 +288,7 @@ fn is_header(protocol: Protocol) -> bool
 }
 
 /// Returns the payload after the header at its front.
-fn behind_header(payload: Payload<'_>) -> Result<Payload<'_>, NoPacket>
+pub(crate) fn behind_header(payload: Payload<'_>) -> Result<Payload<'_>, NoPacket>
     ensures { payload_result result ≡ behind_header (payload_of payload.entry) }
 {
     match payload.protocol {
@@ -459,7 +459,7 @@ fn ipv4(packet: Payload<'_>) -> Result<Payload<'_>, NoPacket>
 }
 
 /// Returns the length of an IPv4 packet.
-fn ipv4_length(packet: Payload<'_>) -> usize
+pub(crate) fn ipv4_length(packet: Payload<'_>) -> usize
     requires { 20 ≤ length packet.bytes.now }
     ensures { result ≡ ipv4_length (payload_of packet.entry) }
 {
@@ -470,7 +470,7 @@ fn ipv4_length(packet: Payload<'_>) -> usize
 }
 
 /// Returns the addresses of an IPv4 header.
-fn ipv4_addresses(bytes: &[u8]) -> Addresses
+pub(crate) fn ipv4_addresses(bytes: &[u8]) -> Addresses
     requires { 20 ≤ length bytes.now }
     ensures { result ≡ ipv4_addresses bytes.now }
 {

@@ -2,8 +2,8 @@
 //! text.
 //!
 //! Every function takes bytes in memory. What is returned of files and frames, a definition of
-//! `specs/` says; what lines of text hold is tested. Only `TextDecoder::new` and
-//! `PcapngDecoder::new` allocate.
+//! `specs/` says; what lines of text hold is tested. Only `TextDecoder::new`,
+//! `PcapngDecoder::new` and what puts fragments together allocate.
 #![tactic(auto)]
 
 pub mod decoder;
@@ -15,6 +15,7 @@ mod geneve;
 mod gre;
 mod gtp;
 pub mod hex_bytes;
+pub mod ip_fragment;
 pub mod laws;
 pub mod line;
 pub mod log_text;
@@ -26,6 +27,8 @@ pub mod pcap_decoder;
 pub mod pcapng;
 pub mod pcapng_decoder;
 mod ppp;
+pub mod reassembler;
+pub mod reassembly;
 pub mod stamp;
 pub mod text;
 mod tunnel;
