@@ -1,6 +1,7 @@
 pub mod Headers
 pub mod FirstTunnel
 pub mod FirstFault
+pub mod Kept
 pub mod Records
 pub mod Sent
 pub mod Readings

@@ -1,6 +1,6 @@
 -- IP packets put together of their fragments (RFC 791 section 3.2, RFC 8200 section 4.5).
-use Rattle.std.specs.Prelude.{◌≡◌, ◌+◌, ◌<◌, ◌≤◌, ℕ, Bool, true, false, List, [], ◌∷◌, ◌++◌, Option, Some, None, length, map, concat}
-use Rattle.std.specs.List.{All, Contains, filter_map}
+use Rattle.std.specs.Prelude.{◌≡◌, ◌+◌, ◌<◌, ◌≤◌, ℕ, Bool, true, false, List, [], ◌∷◌, ◌++◌, Option, Some, None, length, map}
+use Rattle.std.specs.List.{All, Contains, concat, filter_map}
 use Rattle.std.specs.Int.{w16, to_be_bytes}
 use Rattle.dump_capture.specs.Event.{Event, Saw, Skip}
 use Rattle.dump_capture.specs.IpFragment.{Fragment, fragment_in}
@@ -45,10 +45,10 @@ AreOf key fs = All (λ f. f.key ≡ key) fs
 -- limit is 64.
 abbrev pub ip_header : Addresses → ℕ → ℕ → ℕ → List ℕ
 ip_header (V4 source destination) protocol size checksum =
-    ((0x45 ∷ 0 ∷ to_be_bytes w16 (20 + size)) ++ (0 ∷ 0 ∷ 0 ∷ 0 ∷ 64 ∷ protocol ∷ [])
-    ++ to_be_bytes w16 checksum) ++ (source ++ destination)
+    (0x45 ∷ 0 ∷ []) ++ to_be_bytes w16 (20 + size) ++ (0 ∷ 0 ∷ 0 ∷ 0 ∷ 64 ∷ protocol ∷ [])
+    ++ to_be_bytes w16 checksum ++ source ++ destination
 ip_header (V6 source destination) protocol size checksum =
-    ((0x60 ∷ 0 ∷ 0 ∷ 0 ∷ to_be_bytes w16 size) ++ (protocol ∷ 64 ∷ [])) ++ (source ++ destination)
+    (0x60 ∷ 0 ∷ 0 ∷ 0 ∷ []) ++ to_be_bytes w16 size ++ (protocol ∷ 64 ∷ []) ++ source ++ destination
 
 -- These bytes are a packet that was put together of some of these fragments: they are of one packet,
 -- and all of it; what it carries, the first of them says.
@@ -78,7 +78,7 @@ all_kept p = map (kept p.key) p.fragments.items
 
 -- all that is kept of a packet is of these fragments
 abbrev pub AreKept : List Fragment → PartialPacket → Type 0
-AreKept fs p = All (Contains fs) (all_kept p)
+AreKept fs p = All (λ k. Contains fs (kept p.key k)) p.fragments.items
 
 abbrev pub AreAllKept : List Fragment → List PartialPacket → Type 0
 AreAllKept fs ps = All (AreKept fs) ps

@@ -54,7 +54,7 @@ pub enum Part {
     /// A line of text.
     Line,
     /// So many fragments of an IP packet, in as many frames, put together.
-    Fragments(u32),
+    Fragments(usize),
 }
 
 /// Where and when a frame was seen.

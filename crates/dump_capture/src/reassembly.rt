@@ -5,6 +5,7 @@ ghost use Rattle.std.specs.List.{Contains};
 ghost use Rattle.std.specs.Option.{IfSome};
 ghost use Rattle.dump_capture.specs.IpFragment.{Fragment, fragment_of};
 ghost use Rattle.dump_capture.specs.declared.reassembly.PartialPacket.{PartialPacket};
+ghost use Rattle.dump_capture.specs.declared.frame.Addresses.TheVariants.{V4, V6};
 ghost use Rattle.dump_capture.specs.Reassembly.{joined, AreWhole, all_kept, AreKept, AreAllKept, ip_header, IsJoined, IsPlace};
 
 use crate::frame::Addresses;
@@ -55,7 +56,7 @@ pub struct JoinedPacket {
     /// The packet, with a header of IP.
     pub bytes: Vec<u8>,
     /// How many fragments it came in.
-    pub fragments: u32,
+    pub fragments: usize,
 }
 
 /// Where a fragment goes among those that are kept.
@@ -161,18 +162,27 @@ impl Reassembly {
         ensures { (fs : List Fragment) → AreAllKept fs self.old.packets.items → AreKept fs packet
             → AreAllKept fs self.new.packets.items }
     {
-        if self.packets.len() >= MOST_PACKETS {
-            let _ = self.packets.remove(0);
-        }
+        self.make_room();
         self.packets.push(packet)?;
         Ok(())
+    }
+
+    /// Gives the first packet up, if there is no room for another one.
+    fn make_room(&mut self)
+        ensures { (fs : List Fragment) → AreAllKept fs self.old.packets.items
+            → AreAllKept fs self.new.packets.items }
+    {
+        if self.packets.len() < MOST_PACKETS {
+            return;
+        }
+        let _ = self.packets.remove(0);
     }
 }
 
 impl PartialPacket {
     /// Adds a fragment with this packet's key.
     fn add(&mut self, alloc: Global, fragment: IpFragment<'_>) -> Result<(), AllocError>
-        requires { self.old.key ≡ fragment.entry.key }
+        requires { self.old.key ≡ fragment.key }
         ensures key { self.new.key ≡ self.old.key }
         ensures kept { (fs : List Fragment) → AreKept fs self.old
             → Contains fs (fragment_of fragment.entry) → AreKept fs self.new }
@@ -249,13 +259,22 @@ impl PartialPacket {
         }
         let protocol = self.fragments[0].protocol;
         let mut bytes = header_of(alloc, self.key.addresses, protocol, size as u16)?;
+        self.push_data(&mut bytes)?;
+        Ok(Some(JoinedPacket {
+            bytes,
+            fragments: self.fragments.len(),
+        }))
+    }
+
+    /// Adds the data of all fragments, in order.
+    fn push_data(&self, bytes: &mut Vec<u8>) -> Result<(), AllocError>
+        ensures { IfOk result (λ _. bytes.new.items
+            ≡ bytes.old.items ++ joined (all_kept self.now)) }
+    {
         for kept in &self.fragments {
             bytes.extend_from_slice(kept.bytes.as_slice())?;
         }
-        Ok(Some(JoinedPacket {
-            bytes,
-            fragments: self.fragments.len() as u32,
-        }))
+        Ok(())
     }
 }
 
@@ -270,41 +289,80 @@ fn header_of(
     ensures { IfOk result (λ v. (checksum : ℕ)
         × (v.items ≡ ip_header addresses protocol size checksum)) }
 {
-    let mut bytes = Vec::with_capacity(alloc, 40 + size as usize)?;
     match addresses {
         Addresses::V4 {
             source,
             destination,
-        } => {
-            let [high, low] = (20 + size).to_be_bytes();
-            let mut sum = 0x4500 + (20 + size) as u32 + 256 * HOP_LIMIT as u32 + protocol as u32;
-            sum += words_of(source) + words_of(destination);
-            let folded = sum % 65_536 + sum / 65_536;
-            let checksum = !((folded % 65_536 + folded / 65_536) as u16);
-            bytes.extend_from_slice(&[0x45, 0, high, low, 0, 0, 0, 0, HOP_LIMIT, protocol])?;
-            bytes.extend_from_slice(&checksum.to_be_bytes())?;
-            bytes.extend_from_slice(&source)?;
-            bytes.extend_from_slice(&destination)?;
-        }
+        } => ipv4_header(alloc, source, destination, protocol, size),
         Addresses::V6 {
             source,
             destination,
-        } => {
-            let [high, low] = size.to_be_bytes();
-            bytes.extend_from_slice(&[0x60, 0, 0, 0, high, low, protocol, HOP_LIMIT])?;
-            bytes.extend_from_slice(&source)?;
-            bytes.extend_from_slice(&destination)?;
-        }
+        } => ipv6_header(alloc, source, destination, protocol, size),
     }
+}
+
+/// Returns the header of an IPv4 packet with so many bytes of data, and no options.
+fn ipv4_header(
+    alloc: Global,
+    source: [u8; 4],
+    destination: [u8; 4],
+    protocol: u8,
+    size: u16,
+) -> Result<Vec<u8>, AllocError>
+    requires { size ≤ 65515 }
+    ensures { IfOk result (λ v. (checksum : ℕ)
+        × (v.items ≡ ip_header (V4 source destination) protocol size checksum)) }
+{
+    let checksum = header_checksum(source, destination, protocol, size);
+    let mut bytes = Vec::with_capacity(alloc, 20 + size as usize)?;
+    bytes.extend_from_slice(&[0x45, 0])?;
+    bytes.extend_from_slice(&(20 + size).to_be_bytes())?;
+    bytes.extend_from_slice(&[0, 0, 0, 0, HOP_LIMIT, protocol])?;
+    bytes.extend_from_slice(&checksum.to_be_bytes())?;
+    bytes.extend_from_slice(&source)?;
+    bytes.extend_from_slice(&destination)?;
     Ok(bytes)
 }
 
-/// Returns the sum of the words of 16 bits of an address.
+/// Returns the checksum of that header: the complement of the sum of its words of 16 bits in
+/// ones' complement (RFC 791 section 3.1).
+fn header_checksum(source: [u8; 4], destination: [u8; 4], protocol: u8, size: u16) -> u16
+    requires { size ≤ 65515 }
+{
+    let fixed = 0x4500 + 256 * HOP_LIMIT as u32;
+    let sum = fixed + 20 + size as u32 + protocol as u32 + words_of(source) + words_of(destination);
+    let folded = sum % 65_536 + sum / 65_536;
+    let folded = folded % 65_536 + folded / 65_536;
+    !((folded % 65_536) as u16)
+}
+
+/// Returns the sum of the two words of 16 bits of an address.
 fn words_of(address: [u8; 4]) -> u32
     ensures { result ≤ 131070 }
 {
-    let [a, b, c, d] = address;
-    u16::from_be_bytes([a, b]) as u32 + u16::from_be_bytes([c, d]) as u32
+    let high = u16::from_be_bytes([address[0], address[1]]) as u32;
+    let low = u16::from_be_bytes([address[2], address[3]]) as u32;
+    high + low
+}
+
+/// Returns the header of an IPv6 packet with so many bytes of data, and no extension headers.
+fn ipv6_header(
+    alloc: Global,
+    source: [u8; 16],
+    destination: [u8; 16],
+    protocol: u8,
+    size: u16,
+) -> Result<Vec<u8>, AllocError>
+    ensures { IfOk result (λ v. (checksum : ℕ)
+        × (v.items ≡ ip_header (V6 source destination) protocol size checksum)) }
+{
+    let mut bytes = Vec::with_capacity(alloc, 40 + size as usize)?;
+    bytes.extend_from_slice(&[0x60, 0, 0, 0])?;
+    bytes.extend_from_slice(&size.to_be_bytes())?;
+    bytes.extend_from_slice(&[protocol, HOP_LIMIT])?;
+    bytes.extend_from_slice(&source)?;
+    bytes.extend_from_slice(&destination)?;
+    Ok(bytes)
 }
 
 /// Returns whether a kept fragment is this one.

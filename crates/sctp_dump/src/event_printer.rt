@@ -29,7 +29,8 @@ use dump_analysis::{
     ResentBrief, SeenPacket,
 };
 use dump_capture::event::{Part, Seen, Sink, Skipped, Time};
-use dump_capture::frame::{FoundPacket, packet_in};
+use dump_capture::frame::{FoundPacket, NoPacket, packet_in};
+use dump_capture::reassembler::PacketSink;
 use dump_io::output::Output;
 use dump_io::watched::Watched;
 use std::alloc::{AllocError, Global};
@@ -50,6 +51,7 @@ pub struct EventPrinter<W> {
     pub failure: Option<Failure>,
     /// How many accepted packets break each rule.
     pub warnings: Warnings,
+    is_fragment: bool,
     authentication: AuthenticationCounts,
     files: Files,
     tracker: Tracker,
@@ -72,6 +74,7 @@ impl<W: Write> EventPrinter<W> {
             counts: Counts::new(),
             failure: None,
             warnings: Warnings::new(),
+            is_fragment: false,
             authentication: AuthenticationCounts::new(),
             files: Files::new(alloc),
             tracker: Tracker::new(alloc),
@@ -104,8 +107,9 @@ impl<W: Write> EventPrinter<W> {
         self.warnings.are_some()
     }
 
-    /// Prints the associations that are asked for and the counts, and writes all.
-    pub fn finish(&mut self) -> Result<(), Failure>
+    /// Prints the associations that are asked for and the counts, and writes all. So many of the
+    /// packets were put together of fragments.
+    pub fn finish(&mut self, reassembled: u64) -> Result<(), Failure>
         ensures { self.new.counts ≡ self.old.counts }
     {
         let (messages, left_out) = self.tracker.finish_messages()?;
@@ -132,6 +136,7 @@ impl<W: Write> EventPrinter<W> {
         push_counts(
             &self.options,
             &self.counts,
+            reassembled,
             &self.warnings,
             &self.authentication,
             text,
@@ -193,6 +198,7 @@ impl<W: Write> EventPrinter<W> {
         let shown = Shown {
             seen: SeenLines {
                 number: seen.number,
+                part: seen.part,
                 file: self.files.last(),
                 when: self.clock.when(&seen.time, nanoseconds, since),
                 found,
@@ -401,6 +407,7 @@ impl<W: Write> Sink for EventPrinter<W> {
         if self.failure.is_some() {
             return;
         }
+        self.is_fragment = false;
         match packet_in(self.options.udp_port, link_type, original_length, bytes) {
             Ok(found) => {
                 let judged = self.counts.count_packet(&self.options, &found);
@@ -414,6 +421,7 @@ impl<W: Write> Sink for EventPrinter<W> {
                 self.note(outcome);
             }
             Err(why) => {
+                self.is_fragment = why == NoPacket::Fragment;
                 self.counts.count_no_packet(why);
                 let outcome = self.print_skipped(seen.part, seen.place, frame_reason_of(why));
                 self.note(outcome);
@@ -429,6 +437,12 @@ impl<W: Write> Sink for EventPrinter<W> {
         let reason = self.said.reason_to_say(why);
         let outcome = self.print_skipped(part, number, reason);
         self.note(outcome);
+    }
+}
+
+impl<W: Write> PacketSink for EventPrinter<W> {
+    fn is_fragment(&self) -> bool {
+        self.is_fragment
     }
 }
 

@@ -12,6 +12,7 @@ use crate::event_printer::EventPrinter;
 use crate::failure::Failure;
 use crate::input::read_input;
 use crate::stop::Stop;
+use dump_capture::reassembler::Reassembler;
 use dump_io::watched::Watched;
 use dump_io::window::Window;
 use std::io::Write;
@@ -97,22 +98,23 @@ fn dump_all(rt: &HostRuntime, request: &Request<'_>) -> Result<u8, Failure>
 {
     let mut window = Window::new(rt.alloc())?;
     let writer = Watched::new(io::writer(rt));
-    let mut printer = EventPrinter::new(rt.alloc(), request.options, writer);
+    let events = EventPrinter::new(rt.alloc(), request.options, writer);
+    let mut printer = Reassembler::new(rt.alloc(), request.options.udp_port, events);
     let mut failed = false;
     let is_named = request.files.len() > 1;
     for name in &request.files {
-        printer.begin_file(name, is_named)?;
+        printer.inner.begin_file(name, is_named)?;
         let outcome = dump_input(rt, name, request, &mut window, &mut printer);
         failed |= is_over(rt, name, outcome)?;
     }
-    let written = printer.finish();
-    if !failed && printer.counts.is_unread() {
+    let written = printer.inner.finish(printer.made);
+    if !failed && printer.inner.counts.is_unread() {
         // There is no other place to say that standard error doesn't take it.
         let _ = eprintln!(rt;
             "sctp_dump: no SCTP packet was found (in UDP, --udp-port says the port)"
         );
     }
-    end_of(written, failed, &printer)
+    end_of(written, failed, &printer.inner)
 }
 
 /// Returns what a run returns that ended with this last write.
@@ -173,10 +175,10 @@ fn dump_input<W: Write>(
     name: &str,
     request: &Request<'_>,
     window: &mut Window,
-    printer: &mut EventPrinter<W>,
+    printer: &mut Reassembler<EventPrinter<W>>,
 ) -> Result<(), Failure> {
     let (alloc, form) = (rt.alloc(), request.options.form);
-    let unfinished = printer.counts.unfinished;
+    let unfinished = printer.inner.counts.unfinished;
     let outcome = if name == STANDARD_INPUT {
         let mut input = Watched::new(rt.reader());
         read_input(alloc, form, window, &mut input, printer)
@@ -190,9 +192,18 @@ fn dump_input<W: Write>(
         }
     };
     match outcome {
-        Ok(()) if printer.counts.unfinished > unfinished => Err(Failure::Unfinished),
+        Ok(()) if printer.inner.counts.unfinished > unfinished => Err(Failure::Unfinished),
         Ok(()) => Ok(()),
-        Err(stop) => Err(failure_after(stop, printer.failure)),
+        Err(stop) => Err(failure_after(stop, failure_of(printer))),
+    }
+}
+
+/// Returns why a printer failed, if it did.
+fn failure_of<W: Write>(printer: &Reassembler<EventPrinter<W>>) -> Option<Failure> {
+    if printer.is_out_of_memory {
+        Some(Failure::OutOfMemory)
+    } else {
+        printer.inner.failure
     }
 }
 

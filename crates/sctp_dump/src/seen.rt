@@ -3,6 +3,7 @@
 use crate::tunnel_text::{TunnelLines, TunnelsJson};
 use crate::when::{When, WhenJson};
 use dcsctp_wire::packet::sctp_packet::CommonHeader;
+use dump_capture::event::Part;
 use dump_capture::frame::{Addresses, FoundPacket, UdpPorts};
 use dump_capture::line::Direction;
 use dump_text::json_text::JsonText;
@@ -29,6 +30,8 @@ pub struct SeenFrame<'a> {
 pub struct SeenLines<'t, 'f, 'a> {
     /// The packet's number.
     pub number: u64,
+    /// What it was in: a record, a line, or fragments.
+    pub part: Part,
     /// The name of its file, if there are several.
     pub file: Option<&'t str>,
     /// When it was seen.
@@ -57,6 +60,9 @@ impl<'t, 'f, 'a> fmt::Display for SeenLines<'t, 'f, 'a> {
         let (captured, length) = (self.found.packet.len(), self.found.length);
         if captured < length {
             write!(f, ", {captured} of {length} bytes")?;
+        }
+        if let Part::Fragments(count) = self.part {
+            write!(f, ", of {count} IP fragments")?;
         }
         f.write_str("\n")?;
         if let Some(addresses) = self.found.addresses {
@@ -102,7 +108,11 @@ impl<'t, 'f, 'a> fmt::Display for SeenBrief<'t, 'f, 'a> {
         f.write_str(" ")?;
         write_end(source, transport, from, f)?;
         f.write_str(" > ")?;
-        write_end(destination, transport, to, f)
+        write_end(destination, transport, to, f)?;
+        if let Part::Fragments(count) = seen.part {
+            write!(f, " (of {count} IP fragments)")?;
+        }
+        Ok(())
     }
 }
 
@@ -165,6 +175,9 @@ impl<'t, 'f, 'a> fmt::Display for SeenJson<'t, 'f, 'a> {
                 f,
                 ",\"udp_source\":{source},\"udp_destination\":{destination}"
             )?;
+        }
+        if let Part::Fragments(count) = seen.part {
+            write!(f, ",\"fragments\":{count}")?;
         }
         let tunnels = TunnelsJson(seen.frame);
         write!(f, "{tunnels}")

@@ -282,6 +282,7 @@ pub fn push_left_out(options: &Options, count: u64, text: &mut String) -> Result
 pub fn push_counts(
     options: &Options,
     counts: &Counts,
+    reassembled: u64,
     warnings: &Warnings,
     authentication: &AuthenticationCounts,
     text: &mut String,
@@ -301,6 +302,7 @@ pub fn push_counts(
         };
         let summary = SummaryJson {
             counts,
+            reassembled,
             warnings,
             authentication,
         };
@@ -312,6 +314,7 @@ pub fn push_counts(
     }
     let summary = Summary {
         counts,
+        reassembled,
         is_long: options.summary,
         authentication,
     };

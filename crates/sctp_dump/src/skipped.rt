@@ -38,6 +38,7 @@ fn name_of(part: Part) -> &'static str {
     match part {
         Part::Record => "record",
         Part::Line => "line",
+        Part::Fragments(_) => "fragments",
     }
 }
 

@@ -10,6 +10,8 @@ use std::fmt;
 pub struct Summary<'a> {
     /// What was counted.
     pub counts: &'a Counts,
+    /// How many packets were put together of fragments.
+    pub reassembled: u64,
     /// Whether lines of the types of chunks, of the checksums and of AUTH come before the last one.
     pub is_long: bool,
     /// What was counted of AUTH, if a key was given.
@@ -33,6 +35,10 @@ impl<'a> fmt::Display for Summary<'a> {
             }
         }
         write_packets(counts, f)?;
+        if self.reassembled > 0 {
+            let reassembled = self.reassembled;
+            write!(f, ", of fragments {reassembled}")?;
+        }
         write_skipped(counts, f)
     }
 }
@@ -51,7 +57,7 @@ fn write_packets<W: fmt::Write>(counts: &Counts, f: &mut fmt::Formatter<W>) -> f
         " (size {size}, length {length}, padding {padding}, value {value})"
     )?;
     let partial = counts.partial;
-    write!(f, ", cut off {partial}; ")
+    write!(f, ", cut off {partial}")
 }
 
 /// Writes how many records and lines had no packet, and why.
@@ -61,7 +67,7 @@ fn write_skipped<W: fmt::Write>(counts: &Counts, f: &mut fmt::Formatter<W>) -> f
     let (unknown, links) = (counts.unknown, counts.links);
     write!(
         f,
-        "skipped {skipped} (not SCTP {others}, fragment {fragments}, cut {cut}"
+        "; skipped {skipped} (not SCTP {others}, fragment {fragments}, cut {cut}"
     )?;
     writeln!(
         f,
@@ -115,6 +121,8 @@ impl fmt::Display for UnkeptJson {
 pub struct SummaryJson<'a> {
     /// What was counted.
     pub counts: &'a Counts,
+    /// How many packets were put together of fragments.
+    pub reassembled: u64,
     /// How many rules accepted packets break, where they are looked at.
     pub warnings: Option<u64>,
     /// What was counted of AUTH, if a key was given.
@@ -133,6 +141,9 @@ impl<'a> fmt::Display for SummaryJson<'a> {
         write_number(",\"padding\":", counts.padding, f)?;
         write_number(",\"value\":", counts.value, f)?;
         write_number(",\"cut_off\":", counts.partial, f)?;
+        if self.reassembled > 0 {
+            write_number(",\"reassembled\":", self.reassembled, f)?;
+        }
         write_number(",\"zero_checksums\":", counts.zero, f)?;
         write_number(",\"wrong_checksums\":", counts.wrong, f)?;
         if let Some(authentication) = self.authentication {
