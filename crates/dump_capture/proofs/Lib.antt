@@ -2,6 +2,7 @@ pub mod Headers
 pub mod FirstTunnel
 pub mod FirstFault
 pub mod Kept
+pub mod Expanding
 pub mod Records
 pub mod Sent
 pub mod Readings

@@ -18,6 +18,7 @@ pub mod Stamp
 pub mod Sent
 pub mod Event
 pub mod Reassembly
+pub mod Expanded
 pub mod Decoding
 pub mod PcapEvents
 pub mod Text

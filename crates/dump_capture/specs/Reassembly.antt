@@ -1,5 +1,5 @@
 -- IP packets put together of their fragments (RFC 791 section 3.2, RFC 8200 section 4.5).
-use Rattle.std.specs.Prelude.{◌≡◌, ◌+◌, ◌<◌, ◌≤◌, ℕ, Bool, true, false, List, [], ◌∷◌, ◌++◌, Option, Some, None, length, map}
+use Rattle.std.specs.Prelude.{◌≡◌, ◌+◌, ◌≤◌, ℕ, Bool, true, false, List, [], ◌∷◌, ◌++◌, Option, Some, None, length, map}
 use Rattle.std.specs.List.{All, Contains, concat, filter_map}
 use Rattle.std.specs.Int.{w16, to_be_bytes}
 use Rattle.dump_capture.specs.Event.{Event, Saw, Skip}
@@ -7,9 +7,6 @@ use Rattle.dump_capture.specs.IpFragment.{Fragment, fragment_in}
 use Rattle.dump_capture.specs.declared.frame.Addresses.{Addresses}
 use Rattle.dump_capture.specs.declared.frame.Addresses.TheVariants.{V4, V6}
 use Rattle.dump_capture.specs.declared.ip_fragment.FragmentKey.{FragmentKey}
-use Rattle.dump_capture.specs.declared.event.Part.{Part}
-use Rattle.dump_capture.specs.declared.event.Part.TheVariants as part
-use Rattle.dump_capture.specs.declared.event.Seen.{Seen}
 use Rattle.dump_capture.specs.declared.reassembly.KeptFragment.{KeptFragment}
 use Rattle.dump_capture.specs.declared.reassembly.PartialPacket.{PartialPacket}
 use Rattle.dump_capture.specs.declared.reassembly.Place.{Place}
@@ -98,21 +95,3 @@ fragment_of_event port (Skip place number why) = None
 
 abbrev pub fragments_in : ℕ → List Event → List Fragment
 fragments_in port events = filter_map (fragment_of_event port) events
-
--- as a frame was seen, but put together of so many fragments
-abbrev pub as_joined : Seen → ℕ → Seen
-as_joined seen count = record seen { part = part.Fragments count }
-
--- All of these events, and frames between them: each is a packet that was put together of fragments
--- in the frames before it, after the last of them, with whose number, place and time it was seen.
-pub data Expands (port : ℕ) : List Event → List Event → Type 0 where
-  none : (events all : List Event) → events ≡ [] → all ≡ [] → Expands port events all
-  event : (events first all before : List Event) (last : Event)
-      → Expands port first before → events ≡ first ++ last ∷ [] → all ≡ before ++ last ∷ []
-      → Expands port events all
-  packet : (events first all before : List Event) (seen : Seen) (link size count : ℕ)
-      (frame bytes : List ℕ)
-      → Expands port events before → events ≡ first ++ Saw seen link size frame ∷ []
-      → IsJoined (fragments_in port events) bytes
-      → all ≡ before ++ Saw (as_joined seen count) 101 (length bytes) bytes ∷ []
-      → Expands port events all

@@ -1,11 +1,16 @@
 //! A sink that puts IP fragments together before another one.
 
-ghost use Rattle.std.specs.Prelude.{◌≡◌, List};
-ghost use Rattle.dump_capture.specs.Event.{Event};
+ghost use Rattle.std.specs.Prelude.{◌≡◌, ℕ, false, List, [], ◌∷◌, ◌++◌};
+ghost use Rattle.std.specs.List.{Contains};
+ghost use Rattle.dump_capture.specs.Event.{Event, Saw};
+ghost use Rattle.dump_capture.specs.IpFragment.{fragment_of};
+ghost use Rattle.dump_capture.specs.Reassembly.{IsJoined, fragments_in};
+ghost use Rattle.dump_capture.specs.Expanded.{IsExpanded, as_joined};
 
-use crate::event::{Part, Seen, Sink, Skipped};
+use crate::event::{Part, Seen, Sink, Skipped, Time};
 use crate::frame::{link_type, packet_in};
 use crate::ip_fragment::{IpFragment, fragment_in};
+use crate::log_text::LogText;
 use crate::reassembly::{JoinedPacket, Reassembly};
 use std::alloc::{AllocError, Global};
 
@@ -49,42 +54,116 @@ impl<S: PacketSink> Reassembler<S> {
         }
     }
 
-    /// Adds a fragment, and hands on the packet that it completes.
-    fn take(&mut self, seen: &Seen<'_>, fragment: IpFragment<'_>) -> Result<(), AllocError> {
-        match self.table.add(fragment, self.frames)? {
-            Some(packet) => self.hand_on(seen, &packet),
-            None => Ok(()),
+    /// Adds a fragment of the last frame, and hands on the packet that it completes.
+    fn take(&mut self, seen: &Seen<'_>, fragment: IpFragment<'_>) -> Result<(), AllocError>
+        ensures port { self.new.udp_port ≡ self.old.udp_port }
+        ensures handed { (events first : List Event) (link size : ℕ) (frame : List ℕ)
+            → IsExpanded S.handed self.old.udp_port self.old.inner self.old.table.packets.items
+            events → events ≡ first ++ Saw seen.now link size frame ∷ []
+            → Contains (fragments_in self.old.udp_port events) (fragment_of fragment.entry)
+            → IsExpanded S.handed self.new.udp_port self.new.inner self.new.table.packets.items
+            events }
+    {
+        if let Some(packet) = self.table.add(fragment, self.frames)? {
+            self.hand_on(seen, &packet);
         }
+        Ok(())
     }
 
-    /// Hands on a packet, if an SCTP packet is in it.
-    fn hand_on(&mut self, seen: &Seen<'_>, packet: &JoinedPacket) -> Result<(), AllocError> {
+    /// Hands on a packet that the last frame completes, if an SCTP packet is in it.
+    fn hand_on(&mut self, seen: &Seen<'_>, packet: &JoinedPacket)
+        ensures port { self.new.udp_port ≡ self.old.udp_port }
+        ensures handed { (events first : List Event) (link size : ℕ) (frame : List ℕ)
+            → IsExpanded S.handed self.old.udp_port self.old.inner self.old.table.packets.items
+            events → events ≡ first ++ Saw seen.now link size frame ∷ []
+            → IsJoined (fragments_in self.old.udp_port events) packet.now.bytes.items
+            → IsExpanded S.handed self.new.udp_port self.new.inner self.new.table.packets.items
+            events }
+    {
         let bytes = packet.bytes.as_slice();
-        let length = bytes.len() as u32;
+        let Ok(length) = u32::try_from(bytes.len()) else {
+            return;
+        };
         if packet_in(self.udp_port, link_type::RAW_IP, length, bytes).is_err() {
-            return Ok(());
+            return;
         }
-        let mut seen = seen.clone()?;
-        seen.part = Part::Fragments(packet.fragments);
+        let seen = as_joined(seen, packet.fragments);
         self.made = self.made.saturating_add(1);
         self.inner.frame(&seen, link_type::RAW_IP, length, bytes);
-        Ok(())
     }
 }
 
 impl<S: PacketSink> Sink for Reassembler<S> {
+    ghost use Rattle.dump_capture.specs.Expanded.{IsExpanded};
+
+    ghost handed = { λ r events. IsExpanded S.handed r.udp_port r.inner r.table.packets.items events };
+
     fn frame(&mut self, seen: &Seen<'_>, link_type: u16, original_length: u32, bytes: &[u8]) {
         self.frames = self.frames.saturating_add(1);
         self.inner.frame(seen, link_type, original_length, bytes);
-        if !self.inner.is_fragment() || self.is_out_of_memory {
+        if !self.inner.is_fragment() {
+            return;
+        }
+        if self.is_out_of_memory {
             return;
         }
         if let Some(fragment) = fragment_in(self.udp_port, link_type, original_length, bytes) {
-            self.is_out_of_memory = self.take(seen, fragment).is_err();
+            let taken = self.take(seen, fragment);
+            self.is_out_of_memory = taken.is_err();
         }
     }
 
     fn skipped(&mut self, part: Part, number: u64, why: Skipped) {
         self.inner.skipped(part, number, why);
+    }
+}
+
+/// Returns where and when a packet of so many fragments was seen, of which this frame was the last.
+fn as_joined<'a>(seen: &Seen<'a>, count: usize) -> Seen<'a>
+    ensures { result ≡ as_joined seen.now count }
+{
+    Seen {
+        number: seen.number,
+        time: same_time(&seen.time),
+        part: Part::Fragments(count),
+        place: seen.place,
+    }
+}
+
+/// Returns the same time.
+fn same_time<'a>(time: &Time<'a>) -> Time<'a>
+    ensures { result ≡ time.now }
+{
+    match time {
+        Time::Unknown => Time::Unknown,
+        Time::Stamp {
+            seconds,
+            fraction,
+            resolution,
+        } => Time::Stamp {
+            seconds: *seconds,
+            fraction: *fraction,
+            resolution: *resolution,
+        },
+        Time::Ticks {
+            ticks,
+            resolution,
+            offset,
+        } => Time::Ticks {
+            ticks: *ticks,
+            resolution: *resolution,
+            offset: *offset,
+        },
+        Time::OfDay {
+            time,
+            direction,
+            transport,
+            stamp,
+        } => Time::OfDay {
+            time: LogText::new(time.as_bytes()),
+            direction: *direction,
+            transport: LogText::new(transport.as_bytes()),
+            stamp: *stamp,
+        },
     }
 }
