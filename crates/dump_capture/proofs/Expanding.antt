@@ -12,9 +12,16 @@ use Rattle.dump_capture.specs.declared.reassembly.PartialPacket.{PartialPacket}
 -- what is of some fragments is of these and others
 all_kept-more : (fs gs : List Fragment) (ps : List PartialPacket) → AreAllKept fs ps
     → AreAllKept (fs ++ gs) ps
-all_kept-more fs gs ps all = All-weaker (AreKept fs) (AreKept (fs ++ gs))
-    (λ p each. All-weaker (λ k. Contains fs (kept p.key k)) (λ k. Contains (fs ++ gs) (kept p.key k))
-    (λ k has. Contains-append_left fs gs (kept p.key k) has) p.fragments.items each) ps all
+all_kept-more fs gs ps all = record {
+  each = All-weaker (AreKept fs) (AreKept (fs ++ gs)) (λ p one. record {
+        known = All-weaker (λ k. Contains fs (kept p.key k)) (λ k. Contains (fs ++ gs) (kept p.key k))
+            (λ k has. Contains-append_left fs gs (kept p.key k) has) p.fragments.items one.known;
+        few = one.few;
+        size = one.size;
+        small = one.small;
+      }) ps all.each;
+  few = all.few;
+}
 
 pub expand-event : {S : Type 0} (handed : S → List Event → Type 0) (port : ℕ) (old new : S)
     (ps : List PartialPacket) (xs : List Event) (e : Event)

@@ -1,5 +1,5 @@
 -- What is kept of packets of which not all fragments were seen.
-use Rattle.std.proofs.Common.{◌≡◌, ◌+◌, ◌<◌, ℕ, suc, true, false, List, [], ◌∷◌, ◌++◌, length, map, take, drop, get_or, refl, ap, sym, ◌∙◌, subst, append-nil, length-append, arith}
+use Rattle.std.proofs.Common.{◌≡◌, ◌+◌, ◌<◌, ℕ, suc, true, false, List, [], ◌∷◌, ◌++◌, length, map, take, drop, get_or, refl, ap, sym, ◌∙◌, subst, append-nil, length-append, take-append-drop, arith}
 use Rattle.std.specs.List.{All, Contains, concat, insert, remove}
 use Rattle.std.proofs.lemmas.List.{map-append, take_more}
 use Rattle.std.proofs.lemmas.List.Folds.{concat-append}
@@ -20,11 +20,13 @@ All-insert P xs i x here all =
 
 -- ---- the data of fragments, and of one more
 
+joined-append : (fs gs : List Fragment) → joined (fs ++ gs) ≡ joined fs ++ joined gs
+joined-append fs gs = ap concat (map-append (λ (f : Fragment). f.bytes) fs gs)
+    ∙ concat-append (map (λ (f : Fragment). f.bytes) fs) (map (λ (f : Fragment). f.bytes) gs)
+
 joined-push : (first : List Fragment) (last : Fragment) → joined (first ++ last ∷ [])
     ≡ joined first ++ last.bytes
-joined-push first last = ap concat (map-append (λ (f : Fragment). f.bytes) first (last ∷ []))
-    ∙ concat-append (map (λ (f : Fragment). f.bytes) first) (last.bytes ∷ [])
-    ∙ ap (λ (x : List ℕ). joined first ++ x) (append-nil last.bytes)
+joined-push first last = joined-append first (last ∷ []) ∙ ap (λ (x : List ℕ). joined first ++ x) (append-nil last.bytes)
 
 kept-more : (key : FragmentKey) (xs : List KeptFragment) (i : ℕ) (x : KeptFragment)
     → i < length xs → x ≡ get_or xs i x
@@ -54,6 +56,26 @@ pub front-more : (key : FragmentKey) (xs : List KeptFragment) (i : ℕ) (x : Kep
 front-more key xs i x below is front begins =
     AreFront.next (map (kept key) (take (i + 1) xs)) (map (kept key) (take i xs)) (kept key x) x.more
     front begins (kept-more key xs i x below is) refl
+
+-- one fragment more among them
+pub size-insert : (key : FragmentKey) (xs : List KeptFragment) (i : ℕ) (x : KeptFragment)
+    → length (joined (map (kept key) (insert xs i x)))
+    ≡ length (joined (map (kept key) xs)) + length x.bytes.items
+size-insert key xs i x =
+    let m = map (kept key) in
+    let front = joined (m (take i xs)) in
+    let rest = joined (m (drop i xs)) in
+    let with : joined (m (insert xs i x)) ≡ front ++ (x.bytes.items ++ rest) =
+    ap joined (map-append (kept key) (take i xs) (x ∷ drop i xs))
+    ∙ joined-append (m (take i xs)) (kept key x ∷ m (drop i xs)) in
+    let without : front ++ rest ≡ joined (m xs) = sym (joined-append (m (take i xs)) (m (drop i xs)))
+    ∙ ap joined (sym (map-append (kept key) (take i xs) (drop i xs)))
+    ∙ ap (λ (ys : List KeptFragment). joined (m ys)) (take-append-drop i xs) in
+    let size : length (joined (m xs)) ≡ length front + length rest = ap length (sym without)
+    ∙ length-append front rest in
+    ap length with ∙ length-append front (x.bytes.items ++ rest)
+    ∙ ap (λ (n : ℕ). length front + n) (length-append x.bytes.items rest)
+    ∙ omega (arith, size)
 
 -- ---- all of a packet
 

@@ -5,6 +5,7 @@ pub mod Kept
 pub mod Expanding
 pub mod Records
 pub mod Sent
+pub mod JoinedPackets
 pub mod Readings
 pub mod Fronts
 pub mod PcapItems

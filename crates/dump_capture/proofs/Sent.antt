@@ -39,14 +39,14 @@ in_ipv4 f a b c d p q r s original size bytes fits =
     rw (some, enough, total, stated, holds, left) refl
 
 -- a list of four
-record Four (xs : List ℕ) : Type 0 where
+pub record Four (xs : List ℕ) : Type 0 where
   pub a : ℕ
   pub b : ℕ
   pub c : ℕ
   pub d : ℕ
   pub is : xs ≡ a ∷ b ∷ c ∷ d ∷ []
 
-four : (xs : List ℕ) → length xs ≡ 4 → Four xs
+pub four : (xs : List ℕ) → length xs ≡ 4 → Four xs
 four [] e = absurd (omega arith)
 four (a ∷ []) e = absurd (omega arith)
 four (a ∷ b ∷ []) e = absurd (omega arith)

@@ -3,10 +3,13 @@ use Rattle.std.specs.Prelude.{◌≡◌, ◌+◌, ◌≤◌, ℕ, Bool, true, fa
 use Rattle.std.specs.List.{All, Contains, concat, filter_map}
 use Rattle.std.specs.Int.{w16, to_be_bytes}
 use Rattle.dump_capture.specs.Event.{Event, Saw, Skip}
+use Rattle.dump_capture.specs.Payload.{Payload}
 use Rattle.dump_capture.specs.IpFragment.{Fragment, fragment_in}
 use Rattle.dump_capture.specs.declared.frame.Addresses.{Addresses}
 use Rattle.dump_capture.specs.declared.frame.Addresses.TheVariants.{V4, V6}
+use Rattle.dump_capture.specs.declared.payload.Protocol.TheVariants.{Number}
 use Rattle.dump_capture.specs.declared.ip_fragment.FragmentKey.{FragmentKey}
+use Rattle.dump_capture.specs.declared.reassembly.TheConstants.{MOST_PACKETS, MOST_FRAGMENTS, MOST_BYTES}
 use Rattle.dump_capture.specs.declared.reassembly.KeptFragment.{KeptFragment}
 use Rattle.dump_capture.specs.declared.reassembly.PartialPacket.{PartialPacket}
 use Rattle.dump_capture.specs.declared.reassembly.Place.{Place}
@@ -47,6 +50,15 @@ ip_header (V4 source destination) protocol size checksum =
 ip_header (V6 source destination) protocol size checksum =
     (0x60 ∷ 0 ∷ 0 ∷ 0 ∷ []) ++ to_be_bytes w16 size ++ (protocol ∷ 64 ∷ []) ++ source ++ destination
 
+-- what such a packet carries
+abbrev pub carried_by : Addresses → ℕ → List ℕ → Payload
+carried_by addresses protocol bytes = record {
+  addresses = Some addresses;
+  protocol = Number protocol;
+  size = length bytes;
+  bytes = bytes;
+}
+
 -- These bytes are a packet that was put together of some of these fragments: they are of one packet,
 -- and all of it; what it carries, the first of them says.
 pub record IsJoined (fs : List Fragment) (bytes : List ℕ) : Type 0 where
@@ -73,12 +85,17 @@ kept key k = record {
 abbrev pub all_kept : PartialPacket → List Fragment
 all_kept p = map (kept p.key) p.fragments.items
 
--- all that is kept of a packet is of these fragments
-abbrev pub AreKept : List Fragment → PartialPacket → Type 0
-AreKept fs p = All (λ k. Contains fs (kept p.key k)) p.fragments.items
+-- all that is kept of a packet is of these fragments, and not too much
+pub record AreKept (fs : List Fragment) (p : PartialPacket) : Type 0 where
+  pub known : All (λ k. Contains fs (kept p.key k)) p.fragments.items
+  pub few : length p.fragments.items ≤ MOST_FRAGMENTS
+  pub size : p.size ≡ length (joined (all_kept p))
+  pub small : p.size ≤ MOST_BYTES
 
-abbrev pub AreAllKept : List Fragment → List PartialPacket → Type 0
-AreAllKept fs ps = All (AreKept fs) ps
+-- so is what is kept of several
+pub record AreAllKept (fs : List Fragment) (ps : List PartialPacket) : Type 0 where
+  pub each : All (AreKept fs) ps
+  pub few : length ps ≤ MOST_PACKETS
 
 -- an index among so many, or after the last
 abbrev pub IsPlace : ℕ → Place → Type 0

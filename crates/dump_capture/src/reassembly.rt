@@ -1,6 +1,6 @@
 //! The fragments of IP packets, put together in bounded memory.
 
-ghost use Rattle.std.specs.Prelude.{◌≡◌, ◌≤◌, ◌<◌, ◌++◌, ℕ, [], List, IfOk, length, slice_index_or};
+ghost use Rattle.std.specs.Prelude.{◌≡◌, ◌≤◌, ◌<◌, ◌+◌, ◌++◌, ℕ, true, [], List, IfOk, length, slice_index_or};
 ghost use Rattle.std.specs.List.{Contains};
 ghost use Rattle.std.specs.Option.{IfSome};
 ghost use Rattle.dump_capture.specs.IpFragment.{Fragment, fragment_of};
@@ -12,14 +12,17 @@ use crate::frame::Addresses;
 use crate::ip_fragment::{FragmentKey, IpFragment};
 use std::alloc::{AllocError, Global};
 
-/// The most packets of which fragments are kept at a time, so that at most 64 * 65,535 bytes of
-/// data are kept, about 4 MB: of several senders, whose fragments lie among one another's.
+/// The most packets of which fragments are kept at a time: of several senders, whose fragments lie
+/// among one another's. So at most 64 * 65,535 bytes of data are kept, about 4 MB.
 pub const MOST_PACKETS: usize = 64;
 
 /// The most fragments of a packet that are kept, so that they take little more than their data. A
 /// packet of 65,535 bytes has 54 where links carry 1,280 bytes, which IPv6 wants of each (RFC 8200
 /// section 5), and 119 where they carry 576.
 pub const MOST_FRAGMENTS: usize = 256;
+
+/// The most bytes of data of a packet (RFC 8200 section 3).
+pub const MOST_BYTES: usize = 65_535;
 
 /// The most frames from the first to the last that was captured of a packet's fragments. IPv4 has
 /// 65,536 identifications, so by twice as many frames another packet may have the same.
@@ -48,6 +51,8 @@ pub(crate) struct PartialPacket {
     pub is_dropped: bool,
     /// Its fragments, in the order of their offsets.
     pub fragments: Vec<KeptFragment>,
+    /// How many bytes of data they have.
+    pub size: usize,
 }
 
 /// An IP packet that was put together.
@@ -72,8 +77,8 @@ enum Place {
 
 /// The packets of which fragments were seen, but not all.
 ///
-/// There are at most `MOST_PACKETS`, of at most `MOST_FRAGMENTS` fragments each, none of which
-/// overlap; where one more begins, that is given up to which nothing was added for longest.
+/// There are at most `MOST_PACKETS`, of at most `MOST_FRAGMENTS` fragments and `MOST_BYTES` bytes of
+/// data each; where one more begins, that is given up to which nothing was added for longest.
 #[derive(Drop)]
 pub struct Reassembly {
     alloc: Global,
@@ -130,6 +135,7 @@ impl Reassembly {
             begun: frame,
             is_dropped: false,
             fragments: Vec::new(self.alloc),
+            size: 0,
         };
         match self.find(key) {
             Some(index) => {
@@ -170,7 +176,8 @@ impl Reassembly {
     /// Gives the first packet up, if there is no room for another one.
     fn make_room(&mut self)
         ensures { (fs : List Fragment) → AreAllKept fs self.old.packets.items
-            → AreAllKept fs self.new.packets.items }
+            → AreAllKept fs self.new.packets.items
+            × (length self.new.packets.items < MOST_PACKETS) }
     {
         if self.packets.len() < MOST_PACKETS {
             return;
@@ -191,7 +198,7 @@ impl PartialPacket {
             return Ok(());
         }
         match self.place_of(fragment) {
-            Place::Before(index) if self.fragments.len() < MOST_FRAGMENTS => {
+            Place::Before(index) if self.has_room(fragment.bytes.len()) => {
                 let bytes = Vec::from_slice(alloc, fragment.bytes)?;
                 let kept = KeptFragment {
                     protocol: fragment.protocol,
@@ -200,14 +207,26 @@ impl PartialPacket {
                     bytes,
                 };
                 self.fragments.insert(index, kept)?;
+                self.size += fragment.bytes.len();
             }
             Place::Repeated => {}
             Place::Before(_) | Place::Overlaps => {
                 self.is_dropped = true;
                 self.fragments = Vec::new(alloc);
+                self.size = 0;
             }
         }
         Ok(())
+    }
+
+    /// Returns whether one fragment more, of so many bytes, may be kept.
+    fn has_room(&self, size: usize) -> bool
+        ensures { result ≡ true → (length self.now.fragments.items < MOST_FRAGMENTS)
+            × (self.now.size + size ≤ MOST_BYTES) }
+    {
+        self.fragments.len() < MOST_FRAGMENTS
+            && size <= MOST_BYTES
+            && self.size <= MOST_BYTES - size
     }
 
     /// Returns where a fragment goes.
@@ -238,7 +257,7 @@ impl PartialPacket {
         let mut end = 0;
         let mut more = true;
         for kept in &self.fragments {
-            if !more || kept.offset != end || end > 65_535 {
+            if !more || kept.offset != end || end > MOST_BYTES {
                 return None;
             }
             end += kept.bytes.len();

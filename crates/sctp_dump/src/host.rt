@@ -107,6 +107,17 @@ fn dump_all(rt: &HostRuntime, request: &Request<'_>) -> Result<u8, Failure>
         let outcome = dump_input(rt, name, request, &mut window, &mut printer);
         failed |= is_over(rt, name, outcome)?;
     }
+    finish_all(rt, failed, &mut printer)
+}
+
+/// Prints what comes after the packets of all inputs, and returns the status.
+fn finish_all<W: Write>(
+    rt: &HostRuntime,
+    failed: bool,
+    printer: &mut Reassembler<EventPrinter<W>>,
+) -> Result<u8, Failure>
+    ensures { IfOk result (λ status. status ≤ 3) }
+{
     let written = printer.inner.finish(printer.made);
     if !failed && printer.inner.counts.is_unread() {
         // There is no other place to say that standard error doesn't take it.
