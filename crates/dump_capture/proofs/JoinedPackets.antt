@@ -39,19 +39,16 @@ joined_ipv4 source destination bytes protocol checksum original of_source of_des
     let d = four destination of_destination in
     rw (s.is, d.is) (in_joined_ipv4 s.a s.b s.c s.d d.a d.b d.c d.d protocol checksum original bytes fits carries)
 
-pub joined_ipv6 : (source destination bytes : List ℕ) (protocol checksum original : ℕ)
+in_joined_ipv6 : (source destination bytes : List ℕ) (protocol original : ℕ)
     → length source ≡ 16 → length destination ≡ 16 → length bytes < 2 ^ 16
-    → behind_header (in_frame 101 original
-    (ip_header (V6 source destination) protocol (length bytes) checksum ++ bytes))
+    → behind_header (in_frame 101 original (((0x60 ∷ 0 ∷ 0 ∷ 0 ∷ [])
+    ++ to_be_bytes w16 (length bytes) ++ (protocol ∷ 64 ∷ []))
+    ++ (source ++ (destination ++ bytes))))
     ≡ Ok (carried_by (V6 source destination) protocol bytes)
 unfolding on_link ip ipv6
-joined_ipv6 source destination bytes protocol checksum original of_source of_destination fits =
+in_joined_ipv6 source destination bytes protocol original of_source of_destination fits =
     let size = length bytes in
-    let front = (0x60 ∷ 0 ∷ 0 ∷ 0 ∷ []) ++ to_be_bytes w16 size ++ (protocol ∷ 64 ∷ []) in
     let tail = source ++ (destination ++ bytes) in
-    let order : ip_header (V6 source destination) protocol size checksum ++ bytes ≡ front ++ tail =
-    append_assoc (front ++ source) destination bytes
-    ∙ append_assoc front source (destination ++ bytes) in
     let behind_source : drop 16 tail ≡ destination ++ bytes =
     drop_at source (destination ++ bytes) 16 of_source in
     let first : take 16 tail ≡ source = take_at source (destination ++ bytes) 16 of_source in
@@ -64,8 +61,21 @@ joined_ipv6 source destination bytes protocol checksum original of_source of_des
     length-append source (destination ++ bytes)
     ∙ ap (λ (n : ℕ). n + length (destination ++ bytes)) of_source
     ∙ ap (λ (n : ℕ). 16 + n) (length-append destination bytes) ∙ grind arith in
-    let head = λ (x : List ℕ). (0x60 ∷ 0 ∷ 0 ∷ 0 ∷ []) ++ to_be_bytes w16 size ++ (protocol ∷ 64 ∷ []) ++ x in
+    let head = λ (x : List ℕ). ((0x60 ∷ 0 ∷ 0 ∷ 0 ∷ []) ++ to_be_bytes w16 size
+    ++ (protocol ∷ 64 ∷ [])) ++ x in
     let some : (length (head tail) == 0) ≡ false = grind (arith, nat_tests) in
     let enough : nat_lt (length (head tail)) 40 ≡ false = grind (arith, nat_tests) in
     let stated : number16 (drop 4 (head tail)) ≡ size = from_be_bytes-to_be_bytes_2 size fits in
-    rw (order, some, enough, stated, first, second, third) refl
+    rw (some, enough, stated, first, second, third) refl
+
+pub joined_ipv6 : (source destination bytes : List ℕ) (protocol checksum original : ℕ)
+    → length source ≡ 16 → length destination ≡ 16 → length bytes < 2 ^ 16
+    → behind_header (in_frame 101 original
+    (ip_header (V6 source destination) protocol (length bytes) checksum ++ bytes))
+    ≡ Ok (carried_by (V6 source destination) protocol bytes)
+joined_ipv6 source destination bytes protocol checksum original of_source of_destination fits =
+    let front = (0x60 ∷ 0 ∷ 0 ∷ 0 ∷ []) ++ to_be_bytes w16 (length bytes) ++ (protocol ∷ 64 ∷ []) in
+    ap (λ (x : List ℕ). behind_header (in_frame 101 original x))
+    (append_assoc (front ++ source) destination bytes
+    ∙ append_assoc front source (destination ++ bytes))
+    ∙ in_joined_ipv6 source destination bytes protocol original of_source of_destination fits
