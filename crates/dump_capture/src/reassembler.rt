@@ -130,7 +130,7 @@ fn as_joined<'a>(seen: &Seen<'a>, count: usize) -> Seen<'a>
     }
 }
 
-/// Returns the same time.
+/// Returns a time again, as it is.
 fn same_time<'a>(time: &Time<'a>) -> Time<'a>
     ensures { result ≡ time.now }
 {
