@@ -14,12 +14,12 @@ all_kept-more : (fs gs : List Fragment) (ps : List PartialPacket) → AreAllKept
     → AreAllKept (fs ++ gs) ps
 all_kept-more fs gs ps all = record {
   each = All-weaker (AreKept fs) (AreKept (fs ++ gs)) (λ p one. record {
-        known = All-weaker (λ k. Contains fs (kept p.key k)) (λ k. Contains (fs ++ gs) (kept p.key k))
-            (λ k has. Contains-append_left fs gs (kept p.key k) has) p.fragments.items one.known;
-        few = one.few;
-        size = one.size;
-        small = one.small;
-      }) ps all.each;
+    known = All-weaker (λ k. Contains fs (kept p.key k)) (λ k. Contains (fs ++ gs) (kept p.key k))
+        (λ k has. Contains-append_left fs gs (kept p.key k) has) p.fragments.items one.known;
+    few = one.few;
+    size = one.size;
+    small = one.small;
+  }) ps all.each;
   few = all.few;
 }
 

@@ -61,6 +61,7 @@ fault_of found has_step step (suc n) p x is =
           → FaultOf found step (r >>= after_steps has_step step n) x
       by_result again (Ok q) e h = again q h
       by_result again (Err why) e h = record { at = p; why = why; fails = e; ends = refl; is = h }
+
       by_test : ((q : Payload) → first_fault found has_step step n q ≡ Some x
           → FaultOf found step (after_steps has_step step n q) x)
           → (b : Bool)

@@ -54,6 +54,13 @@ impl<S: PacketSink> Reassembler<S> {
         }
     }
 
+    /// Returns the other sink.
+    pub fn into_inner(self) -> S
+        ensures { result ≡ self.inner }
+    {
+        self.inner
+    }
+
     /// Adds a fragment of the last frame, and hands on the packet that it completes.
     fn take(&mut self, seen: &Seen<'_>, fragment: IpFragment<'_>) -> Result<(), AllocError>
         ensures port { self.new.udp_port ≡ self.old.udp_port }

@@ -100,32 +100,46 @@ fn dump_all(rt: &HostRuntime, request: &Request<'_>) -> Result<u8, Failure>
     let writer = Watched::new(io::writer(rt));
     let events = EventPrinter::new(rt.alloc(), request.options, writer);
     let mut printer = Reassembler::new(rt.alloc(), request.options.udp_port, events);
+    let failed = dump_inputs(rt, request, &mut window, &mut printer);
+    let made = printer.made;
+    let mut events = printer.into_inner();
+    finish(rt, failed?, made, &mut events)
+}
+
+/// Prints the packets of all inputs, and returns whether some couldn't be read.
+fn dump_inputs<W: Write>(
+    rt: &HostRuntime,
+    request: &Request<'_>,
+    window: &mut Window,
+    printer: &mut Reassembler<EventPrinter<W>>,
+) -> Result<bool, Failure> {
     let mut failed = false;
     let is_named = request.files.len() > 1;
     for name in &request.files {
-        printer.inner.begin_file(name, is_named)?;
-        let outcome = dump_input(rt, name, request, &mut window, &mut printer);
+        let outcome = dump_input(rt, name, request, is_named, window, printer);
         failed |= is_over(rt, name, outcome)?;
     }
-    finish_all(rt, failed, &mut printer)
+    Ok(failed)
 }
 
-/// Prints what comes after the packets of all inputs, and returns the status.
-fn finish_all<W: Write>(
+/// Prints what comes after the packets of all inputs, of which so many were put together of
+/// fragments, and returns the status.
+fn finish<W: Write>(
     rt: &HostRuntime,
     failed: bool,
-    printer: &mut Reassembler<EventPrinter<W>>,
+    reassembled: u64,
+    printer: &mut EventPrinter<W>,
 ) -> Result<u8, Failure>
     ensures { IfOk result (λ status. status ≤ 3) }
 {
-    let written = printer.inner.finish(printer.made);
-    if !failed && printer.inner.counts.is_unread() {
+    let written = printer.finish(reassembled);
+    if !failed && printer.counts.is_unread() {
         // There is no other place to say that standard error doesn't take it.
         let _ = eprintln!(rt;
             "sctp_dump: no SCTP packet was found (in UDP, --udp-port says the port)"
         );
     }
-    end_of(written, failed, &printer.inner)
+    end_of(written, failed, printer)
 }
 
 /// Returns what a run returns that ended with this last write.
@@ -180,14 +194,16 @@ fn is_over(rt: &HostRuntime, name: &str, outcome: Result<(), Failure>) -> Result
     }
 }
 
-/// Prints the packets of a file, or of standard input.
+/// Prints the packets of a file, or of standard input, after its name if it is to be printed.
 fn dump_input<W: Write>(
     rt: &HostRuntime,
     name: &str,
     request: &Request<'_>,
+    is_named: bool,
     window: &mut Window,
     printer: &mut Reassembler<EventPrinter<W>>,
 ) -> Result<(), Failure> {
+    printer.inner.begin_file(name, is_named)?;
     let (alloc, form) = (rt.alloc(), request.options.form);
     let unfinished = printer.inner.counts.unfinished;
     let outcome = if name == STANDARD_INPUT {
