@@ -41,15 +41,16 @@ pub expand-packet : {S : Type 0} (handed : S → List Event → Type 0) (port : 
     (frame bytes : List ℕ)
     → ((all : List Event) → handed old all
     → handed new (all ++ Saw (as_joined seen count) 101 (length bytes) bytes ∷ []))
-    → events ≡ first ++ Saw seen link size frame ∷ [] → IsJoined (fragments_in port events) bytes
+    → events ≡ first ++ Saw seen link size frame ∷ [] → IsJoined (fragments_in port events) bytes count
     → IsExpanded handed port old ps events → IsExpanded handed port new ps events
-expand-packet handed port old new ps events first seen link size count frame bytes gives last made was = (
-  was.0 ++ Saw (as_joined seen count) 101 (length bytes) bytes ∷ [],
-  gives was.0 was.1,
-  Expands.packet events first (was.0 ++ Saw (as_joined seen count) 101 (length bytes) bytes ∷ [])
-      was.0 seen link size count frame bytes was.2 last made refl,
-  was.3,
-)
+expand-packet handed port old new ps events first seen link size count frame bytes gives last made
+    was = (
+      was.0 ++ Saw (as_joined seen count) 101 (length bytes) bytes ∷ [],
+      gives was.0 was.1,
+      Expands.packet events first (was.0 ++ Saw (as_joined seen count) 101 (length bytes) bytes ∷ [])
+          was.0 seen link size count frame bytes was.2 last made refl,
+      was.3,
+    )
 
 -- a frame's fragment is among those of the events up to it
 pub fragment-last : (port : ℕ) (xs : List Event) (seen : Seen) (link size : ℕ) (bytes : List ℕ)

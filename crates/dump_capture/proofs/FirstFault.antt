@@ -11,7 +11,8 @@ use Rattle.dump_capture.specs.declared.frame.NoPacket.TheVariants.{Fragment as I
 one_fault : {A : Type 0} (found : Payload → NoPacket → Option A) (has_step : Payload → Bool)
     (step : Payload → Result Payload NoPacket) (n k : ℕ) (p : Payload) → k < n
     → first_fault found has_step step (n - k) p
-    ≡ cond (has_step p) (at_fault found p (step p) (first_fault found has_step step (n - (k + 1)))) None
+    ≡ cond (has_step p) (at_fault found p (step p) (first_fault found has_step step
+    (n - (k + 1)))) None
 unfolding first_fault
 one_fault found has_step step n k p below =
     let left : n - k ≡ suc (n - (k + 1)) = omega arith in rw left refl
@@ -38,7 +39,8 @@ end_fault found has_step step n k p end = let none : n - k ≡ 0 = omega arith i
 -- ---- `packet_in` ends there
 
 -- where the first step fails, and why
-record FaultOf {A : Type 0} (found : Payload → NoPacket → Option A) (step : Payload → Result Payload NoPacket)
+record FaultOf {A : Type 0} (found : Payload → NoPacket → Option A)
+    (step : Payload → Result Payload NoPacket)
     (all : Result Payload NoPacket) (x : A) : Type 0 where
   pub at : Payload
   pub why : NoPacket
@@ -98,8 +100,10 @@ tunnels_end port p f h =
 outer_ends : (port : ℕ) (p : Payload) (r : Result Payload NoPacket) (f : Fragment)
     → behind_headers (2 ^ 16) p ≡ r → in_outer port p r ≡ Some f
     → (r >>= behind_tunnels 4 port >>= carried port) ≡ Err IsFragment
-outer_ends port p (Ok outer) f e h = ap (λ (r : Result Payload NoPacket). r >>= carried port) (tunnels_end port outer f h)
-outer_ends port p (Err why) f e h = ap (λ (r : Result Payload NoPacket). r >>= behind_tunnels 4 port >>= carried port)
+outer_ends port p (Ok outer) f e h = ap (λ (r : Result Payload NoPacket). r >>= carried port)
+    (tunnels_end port outer f h)
+outer_ends port p (Err why) f e h = ap (λ (r : Result Payload NoPacket). r >>= behind_tunnels 4
+    port >>= carried port)
     (sym e ∙ headers_end p f h)
 
 pub is_no_packet : (port link original_length : ℕ) (frame : List ℕ) (f : Fragment)

@@ -18,7 +18,8 @@ in_joined_ipv4 : (a b c d p q r s protocol checksum original : ℕ) (bytes : Lis
 unfolding on_link ip ipv4
 in_joined_ipv4 a b c d p q r s protocol checksum original bytes fits carries =
     let size = length bytes in
-    let frame = ip_header (V4 (a ∷ b ∷ c ∷ d ∷ []) (p ∷ q ∷ r ∷ s ∷ [])) protocol size checksum ++ bytes in
+    let frame = ip_header (V4 (a ∷ b ∷ c ∷ d ∷ []) (p ∷ q ∷ r ∷ s ∷ [])) protocol size checksum ++
+    bytes in
     let some : (length frame == 0) ≡ false = grind (arith, nat_tests) in
     let enough : nat_lt (length frame) 20 ≡ false = grind (arith, nat_tests) in
     let total : number16 (drop 2 frame) ≡ 20 + size = from_be_bytes-to_be_bytes_2 (20 + size) fits
@@ -34,10 +35,12 @@ pub joined_ipv4 : (source destination bytes : List ℕ) (protocol checksum origi
     → behind_header (in_frame 101 original
     (ip_header (V4 source destination) protocol (length bytes) checksum ++ bytes))
     ≡ Ok (carried_by (V4 source destination) protocol bytes)
-joined_ipv4 source destination bytes protocol checksum original of_source of_destination fits carries =
+joined_ipv4 source destination bytes protocol checksum original of_source of_destination fits
+    carries =
     let s = four source of_source in
     let d = four destination of_destination in
-    rw (s.is, d.is) (in_joined_ipv4 s.a s.b s.c s.d d.a d.b d.c d.d protocol checksum original bytes fits carries)
+    rw (s.is, d.is) (in_joined_ipv4 s.a s.b s.c s.d d.a d.b d.c d.d protocol checksum original
+    bytes fits carries)
 
 in_joined_ipv6 : (source destination bytes : List ℕ) (protocol original : ℕ)
     → length source ≡ 16 → length destination ≡ 16 → length bytes < 2 ^ 16

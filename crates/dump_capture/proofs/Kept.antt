@@ -1,7 +1,7 @@
 -- What is kept of packets of which not all fragments were seen.
 use Rattle.std.proofs.Common.{◌≡◌, ◌+◌, ◌<◌, ℕ, suc, true, false, List, [], ◌∷◌, ◌++◌, length, map, take, drop, get_or, refl, ap, sym, ◌∙◌, subst, append-nil, length-append, take-append-drop, arith}
 use Rattle.std.specs.List.{All, Contains, concat, insert, remove}
-use Rattle.std.proofs.lemmas.List.{map-append, take_more}
+use Rattle.std.proofs.lemmas.List.{map-append, take_more, length-map}
 use Rattle.std.proofs.lemmas.List.Folds.{concat-append}
 use Rattle.std.proofs.lemmas.List.Elements.{All-take, All-drop, All-append, All-cons, All-map, All-weaker}
 use Rattle.dump_capture.specs.IpFragment.{Fragment}
@@ -9,8 +9,10 @@ use Rattle.dump_capture.specs.Reassembly.{joined, AreFront, AreWhole, AreOf, kep
 use Rattle.dump_capture.specs.declared.ip_fragment.FragmentKey.{FragmentKey}
 use Rattle.dump_capture.specs.declared.reassembly.KeptFragment.{KeptFragment}
 
-pub All-remove : {X : Type 0} (P : X → Type 0) (xs : List X) (i : ℕ) → All P xs → All P (remove xs i)
-All-remove P xs i all = All-append P (take i xs) (drop (suc i) xs) (All-take P i xs all) (All-drop P (suc i) xs all)
+pub All-remove : {X : Type 0} (P : X → Type 0) (xs : List X) (i : ℕ) → All P xs → All P
+    (remove xs i)
+All-remove P xs i all = All-append P (take i xs) (drop (suc i) xs) (All-take P i xs all)
+    (All-drop P (suc i) xs all)
 
 pub All-insert : {X : Type 0} (P : X → Type 0) (xs : List X) (i : ℕ) (x : X) → P x → All P xs
     → All P (insert xs i x)
@@ -26,7 +28,8 @@ joined-append fs gs = ap concat (map-append (λ (f : Fragment). f.bytes) fs gs)
 
 joined-push : (first : List Fragment) (last : Fragment) → joined (first ++ last ∷ [])
     ≡ joined first ++ last.bytes
-joined-push first last = joined-append first (last ∷ []) ∙ ap (λ (x : List ℕ). joined first ++ x) (append-nil last.bytes)
+joined-push first last = joined-append first (last ∷ []) ∙ ap (λ (x : List ℕ). joined first ++ x)
+    (append-nil last.bytes)
 
 kept-more : (key : FragmentKey) (xs : List KeptFragment) (i : ℕ) (x : KeptFragment)
     → i < length xs → x ≡ get_or xs i x
@@ -54,7 +57,8 @@ pub front-more : (key : FragmentKey) (xs : List KeptFragment) (i : ℕ) (x : Kep
     → x.offset ≡ length (joined (map (kept key) (take i xs)))
     → AreFront (map (kept key) (take (i + 1) xs)) x.more
 front-more key xs i x below is front begins =
-    AreFront.next (map (kept key) (take (i + 1) xs)) (map (kept key) (take i xs)) (kept key x) x.more
+    AreFront.next (map (kept key) (take (i + 1) xs)) (map (kept key) (take i xs)) (kept key x)
+    x.more
     front begins (kept-more key xs i x below is) refl
 
 -- one fragment more among them
@@ -68,7 +72,8 @@ size-insert key xs i x =
     let with : joined (m (insert xs i x)) ≡ front ++ (x.bytes.items ++ rest) =
     ap joined (map-append (kept key) (take i xs) (x ∷ drop i xs))
     ∙ joined-append (m (take i xs)) (kept key x ∷ m (drop i xs)) in
-    let without : front ++ rest ≡ joined (m xs) = sym (joined-append (m (take i xs)) (m (drop i xs)))
+    let without : front ++ rest ≡ joined (m xs) = sym (joined-append (m (take i xs))
+    (m (drop i xs)))
     ∙ ap joined (sym (map-append (kept key) (take i xs) (drop i xs)))
     ∙ ap (λ (ys : List KeptFragment). joined (m ys)) (take-append-drop i xs) in
     let size : length (joined (m xs)) ≡ length front + length rest = ap length (sym without)
@@ -80,17 +85,18 @@ size-insert key xs i x =
 -- ---- all of a packet
 
 pub is_joined : (fs : List Fragment) (key : FragmentKey) (xs : List KeptFragment) (x : KeptFragment)
-    (checksum : ℕ) (bytes : List ℕ)
+    (checksum count : ℕ) (bytes : List ℕ)
     → All (λ k. Contains fs (kept key k)) xs → AreWhole (map (kept key) xs)
-    → 0 < length xs → x ≡ get_or xs 0 x
+    → 0 < length xs → x ≡ get_or xs 0 x → count ≡ length xs
     → bytes ≡ ip_header key.addresses x.protocol (length (joined (map (kept key) xs))) checksum
     ++ joined (map (kept key) xs)
-    → IsJoined fs bytes
-is_joined fs key [] x checksum bytes all whole some first is = absurd (omega arith)
-is_joined fs key (y ∷ ys) x checksum bytes all whole some first is = record {
+    → IsJoined fs bytes count
+is_joined fs key [] x checksum count bytes all whole some first number is = absurd (omega arith)
+is_joined fs key (y ∷ ys) x checksum count bytes all whole some first number is = record {
   first = kept key y;
   others = map (kept key) ys;
   known = All-map (Contains fs) (kept key) (y ∷ ys) all;
+  number = number ∙ sym (length-map (y ∷ ys) (kept key));
   one = All-map (λ f. f.key ≡ key) (kept key) (y ∷ ys) (λ k d below. refl);
   whole = whole;
   checksum = checksum;

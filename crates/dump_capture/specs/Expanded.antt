@@ -21,12 +21,12 @@ pub data Expands (port : ℕ) : List Event → List Event → Type 0 where
   packet : (events first all before : List Event) (seen : Seen) (link size count : ℕ)
       (frame bytes : List ℕ)
       → Expands port events before → events ≡ first ++ Saw seen link size frame ∷ []
-      → IsJoined (fragments_in port events) bytes
+      → IsJoined (fragments_in port events) bytes count
       → all ≡ before ++ Saw (as_joined seen count) 101 (length bytes) bytes ∷ []
       → Expands port events all
 
--- A sink, of whose type `handed` is, was handed these events and frames between them; what is kept is
--- of fragments in these events.
+-- A sink, of whose type `handed` is, was handed these events and frames between them; what is kept
+-- is of fragments in these events.
 abbrev pub IsExpanded : {S : Type 0} → (S → List Event → Type 0) → ℕ → S → List PartialPacket
     → List Event → Type 0
 IsExpanded handed port sink packets events =

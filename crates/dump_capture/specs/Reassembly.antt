@@ -21,9 +21,9 @@ use Rattle.dump_capture.specs.declared.reassembly.Place.TheVariants as place
 abbrev pub joined : List Fragment → List ℕ
 joined fs = concat (map (λ f. f.bytes) fs)
 
--- Fragments, in this order, are the front of a packet: the data of each begins where that of the one
--- before ended, of the first at 0, and more follow each but the last. It says whether more follow
--- that one.
+-- Fragments, in this order, are the front of a packet: the data of each begins where that of the
+-- one before ended, of the first at 0, and more follow each but the last. It says whether more
+-- follow that one.
 pub data AreFront : List Fragment → Bool → Type 0 where
   none : (fs : List Fragment) (more : Bool) → fs ≡ [] → more ≡ true → AreFront fs more
   next : (fs first : List Fragment) (last : Fragment) (more : Bool)
@@ -59,12 +59,13 @@ carried_by addresses protocol bytes = record {
   bytes = bytes;
 }
 
--- These bytes are a packet that was put together of some of these fragments: they are of one packet,
--- and all of it; what it carries, the first of them says.
-pub record IsJoined (fs : List Fragment) (bytes : List ℕ) : Type 0 where
+-- These bytes are a packet that was put together of so many of these fragments: they are of one
+-- packet, and all of it; what it carries, the first of them says.
+pub record IsJoined (fs : List Fragment) (bytes : List ℕ) (count : ℕ) : Type 0 where
   pub first : Fragment
   pub others : List Fragment
   pub known : All (Contains fs) (first ∷ others)
+  pub number : count ≡ length (first ∷ others)
   pub one : AreOf first.key (first ∷ others)
   pub whole : AreWhole (first ∷ others)
   pub checksum : ℕ

@@ -53,8 +53,8 @@ pub struct IpFragment<'a> {
 ///
 /// Returns `None` of any other frame, and of a fragment that can't be used: one of whose data fewer
 /// bytes were captured than its header says, or of which there is none; one that isn't the last and
-/// whose size isn't a multiple of 8; one that reaches beyond the longest packet; and one with IPv6's
-/// header in IPv4.
+/// whose size isn't a multiple of 8; one that reaches beyond the longest packet; and one with the
+/// header of IPv6 in IPv4.
 #[tactic(auto, unfolding(crate::specs::IpFragment::fragment_in))]
 pub fn fragment_in(
     udp_port: u16,

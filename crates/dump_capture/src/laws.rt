@@ -104,7 +104,7 @@ pub fn sent_ipv6()
         }) }
 {}
 
-/// Proves that a frame in which a fragment is found is one for which `packet_in` returns `Fragment`.
+/// Proves that `packet_in` returns `Fragment` for each frame in which a fragment is found.
 pub fn fragment_is_no_packet()
     ensures { (port link original_length : ℕ) (frame : List ℕ) (f : Fragment)
         → fragment_in port link original_length frame ≡ Some f

@@ -84,6 +84,7 @@ impl<S: PacketSink> Reassembler<S> {
             → IsExpanded S.handed self.old.udp_port self.old.inner self.old.table.packets.items
             events → events ≡ first ++ Saw seen.now link size frame ∷ []
             → IsJoined (fragments_in self.old.udp_port events) packet.now.bytes.items
+            packet.now.fragments
             → IsExpanded S.handed self.new.udp_port self.new.inner self.new.table.packets.items
             events }
     {
@@ -103,7 +104,7 @@ impl<S: PacketSink> Reassembler<S> {
 impl<S: PacketSink> Sink for Reassembler<S> {
     ghost use Rattle.dump_capture.specs.Expanded.{IsExpanded};
 
-    ghost handed = { λ r events. IsExpanded S.handed r.udp_port r.inner r.table.packets.items events };
+    ghost handed = { λ r xs. IsExpanded S.handed r.udp_port r.inner r.table.packets.items xs };
 
     fn frame(&mut self, seen: &Seen<'_>, link_type: u16, original_length: u32, bytes: &[u8]) {
         self.frames = self.frames.saturating_add(1);

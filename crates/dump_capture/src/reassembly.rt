@@ -77,8 +77,8 @@ enum Place {
 
 /// The packets of which fragments were seen, but not all.
 ///
-/// There are at most `MOST_PACKETS`, of at most `MOST_FRAGMENTS` fragments and `MOST_BYTES` bytes of
-/// data each; where one more begins, that is given up to which nothing was added for longest.
+/// There are at most `MOST_PACKETS`, of at most `MOST_FRAGMENTS` fragments and `MOST_BYTES` bytes
+/// of data each; where one more begins, that is given up to which nothing was added for longest.
 #[derive(Drop)]
 pub struct Reassembly {
     alloc: Global,
@@ -100,8 +100,8 @@ impl Reassembly {
     /// fragments are there then, from the first to the last.
     ///
     /// One that is there, with the same bytes, changes nothing. Of a packet with a fragment that
-    /// overlaps another one otherwise, none is used, nor of one with more than `MOST_FRAGMENTS` (RFC
-    /// 8200 section 4.5, RFC 5722 section 4). Fragments more than `MOST_APART` frames apart are of
+    /// overlaps another one otherwise, none is used (RFC 8200 section 4.5, RFC 5722 section 4), nor
+    /// of one with more than `MOST_FRAGMENTS`. Fragments more than `MOST_APART` frames apart are of
     /// different packets.
     pub fn add(
         &mut self,
@@ -112,7 +112,7 @@ impl Reassembly {
             → Contains fs (fragment_of fragment.entry) → AreAllKept fs self.new.packets.items }
         ensures joined { (fs : List Fragment) → AreAllKept fs self.old.packets.items
             → Contains fs (fragment_of fragment.entry)
-            → IfOk result (λ made. IfSome made (λ p. IsJoined fs p.bytes.items)) }
+            → IfOk result (λ made. IfSome made (λ p. IsJoined fs p.bytes.items p.fragments)) }
     {
         let mut packet = self.take(fragment.key, frame);
         packet.add(self.alloc, fragment)?;
@@ -271,7 +271,7 @@ impl PartialPacket {
         requires whole { AreWhole (all_kept self.now) }
         requires size { size ≡ length (joined (all_kept self.now)) }
         ensures { (fs : List Fragment) → AreKept fs self.now
-            → IfOk result (λ made. IfSome made (λ p. IsJoined fs p.bytes.items)) }
+            → IfOk result (λ made. IfSome made (λ p. IsJoined fs p.bytes.items p.fragments)) }
     {
         if self.fragments.is_empty() || size > 65_515 {
             return Ok(None);

@@ -18,5 +18,15 @@ returns c =
     let enough : nat_lt (length bytes) 20 ≡ false = grind (arith, nat_tests) in
     let whole : nat_lt (length bytes) (ipv4_length (payload_of c.args.packet)) ≡ false =
     rw (← c.ipv4_length-total.ensures) (grind (arith, nat_tests)) in
-    rw (enough, whole, ← field, ← id, ← c.ipv4_length-total.ensures, ← c.front.ensures, ← c.after.ensures, ← c.ipv4_addresses.ensures)
+    rw (
+      enough,
+      whole,
+      ← field,
+      ← id,
+      ← c.ipv4_length-total.ensures,
+      ← c.front.ensures,
+      ←
+          c.after.ensures,
+      ← c.ipv4_addresses.ensures,
+    )
     c.well_formed-2.ensures

@@ -24,5 +24,5 @@ returns-in-Some-clause-handed g c = λ events first link size frame was last has
     (expand-kept g.S.Sink.handed c.args.self.now.udp_port c.args.self.now.inner
     c.args.self.now.table.packets.items c.add.new.self.packets.items events
     (λ all. c.add.ensures.kept fs all has) was) last
-    (subst (λ (o : Option JoinedPacket). IfSome o (λ p. IsJoined fs p.bytes.items)) c.in-Some.is
+    (subst (λ (o : Option JoinedPacket). IfSome o (λ p. IsJoined fs p.bytes.items p.fragments)) c.in-Some.is
     (c.in_ok-packet.ensures.joined fs was.3 has))

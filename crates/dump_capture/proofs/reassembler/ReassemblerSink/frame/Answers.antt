@@ -7,12 +7,14 @@ use Rattle.dump_capture.proofs.reassembler.ReassemblerSink.frame.Goals as goal
 pub returns-then-not-is_fragment : goal.returns-then-not-is_fragment
 returns-then-not-is_fragment g c = λ xs was. expand-event g.S.Sink.handed c.args.self.now.udp_port
     c.args.self.now.inner c.frame.new.self c.args.self.now.table.packets.items xs
-    (Saw c.args.seen.now c.args.link_type c.args.original_length c.args.bytes.now) c.frame.ensures was
+    (Saw c.args.seen.now c.args.link_type c.args.original_length c.args.bytes.now) c.frame.ensures
+    was
 
 pub returns-then-self : goal.returns-then-self
 returns-then-self g c = λ xs was. expand-event g.S.Sink.handed c.args.self.now.udp_port
     c.args.self.now.inner c.frame.new.self c.args.self.now.table.packets.items xs
-    (Saw c.args.seen.now c.args.link_type c.args.original_length c.args.bytes.now) c.frame.ensures was
+    (Saw c.args.seen.now c.args.link_type c.args.original_length c.args.bytes.now) c.frame.ensures
+    was
 
 pub returns-in-Some : goal.returns-in-Some
 returns-in-Some g c = λ xs was.
@@ -31,4 +33,5 @@ returns-in-Some g c = λ xs was.
 pub returns-in_default : goal.returns-in_default
 returns-in_default g c = λ xs was. expand-event g.S.Sink.handed c.args.self.now.udp_port
     c.args.self.now.inner c.frame.new.self c.args.self.now.table.packets.items xs
-    (Saw c.args.seen.now c.args.link_type c.args.original_length c.args.bytes.now) c.frame.ensures was
+    (Saw c.args.seen.now c.args.link_type c.args.original_length c.args.bytes.now) c.frame.ensures
+    was

@@ -11,7 +11,8 @@ use Rattle.dump_capture.proofs.reassembly.PartialPacket.add.Goals as goal
 pub returns-in_err-insert-in-Before-clause-kept : goal.returns-in_err-insert-in-Before-clause-kept
 returns-in_err-insert-in-Before-clause-kept c = λ fs all one.
     let key = c.args.self.now.key in record {
-      known = All-same (λ k. Contains fs (kept key k)) _ _ c.in_err-insert-in-Before.ensures.items all.known;
+      known = All-same (λ k. Contains fs (kept key k)) _ _ c.in_err-insert-in-Before.ensures.items
+          all.known;
       few = grind (arith, common_steps);
       size = all.size ∙ ap (λ (xs : List KeptFragment). length (joined (map (kept key) xs)))
           (sym c.in_err-insert-in-Before.ensures.items);

@@ -15,7 +15,12 @@ loop-kept-preserved c =
     let xs = c.args.self.now.fragments.items in
     let x = c.kept-item.result in
     let i = c.loop-kept.kept-index in
-    let below : i < length xs = omega (arith, c.deref-kept-items.ensures.len, ap length c.deref-kept-items.ensures.value) in
+    let below : i < length xs = omega (
+      arith,
+      c.deref-kept-items.ensures.len,
+      ap length
+          c.deref-kept-items.ensures.value,
+    ) in
     let is : x ≡ get_or xs i x = c.kept-item.is
     ∙ ap (λ (ys : List KeptFragment). get_or ys i x) c.deref-kept-items.ensures.value in
     let size : c.len-end.result ≡ length x.bytes.items = grind (arith, common_steps) in record {
@@ -32,7 +37,11 @@ returns-else-more c =
     let key = c.args.self.now.key in
     let xs = c.args.self.now.fragments.items in
     let i = c.loop-kept.kept-index in
-    let all : take i xs ≡ xs = take_all i xs (omega (arith, ap length c.deref-kept-items.ensures.value)) in (
+    let all : take i xs ≡ xs = take_all i xs (omega (
+      arith,
+      ap length
+          c.deref-kept-items.ensures.value,
+    )) in (
       subst (λ (ys : List KeptFragment). AreFront (map (kept key) ys) false) all
           (subst (λ (m : Bool). AreFront (map (kept key) (take i xs)) m) c.if-more.false
           c.loop-kept.invariant.front),
