@@ -1,6 +1,6 @@
 -- What a sink is handed of events, and of packets that are put together between them.
 use Rattle.std.proofs.Common.{◌≡◌, ℕ, List, [], ◌∷◌, ◌++◌, length, Option, Some, refl, ap, sym, subst, ◌∙◌}
-use Rattle.std.specs.List.{Contains, filter_map, cons_option}
+use Rattle.std.specs.List.{Contains, cons_option}
 use Rattle.std.proofs.lemmas.List.Elements.{All-weaker, Contains-append_left, Contains-push, filter_map-append}
 use Rattle.dump_capture.specs.Event.{Event, Saw}
 use Rattle.dump_capture.specs.IpFragment.{Fragment, fragment_in}

@@ -1,11 +1,11 @@
 -- What is kept of packets of which not all fragments were seen.
-use Rattle.std.proofs.Common.{◌≡◌, ◌+◌, ◌<◌, ℕ, suc, true, false, List, [], ◌∷◌, ◌++◌, length, map, take, drop, get_or, refl, ap, sym, ◌∙◌, subst, append-nil, length-append, take-append-drop, arith}
+use Rattle.std.proofs.Common.{◌≡◌, ◌+◌, ◌<◌, ℕ, suc, true, List, [], ◌∷◌, ◌++◌, length, map, take, drop, get_or, refl, ap, sym, ◌∙◌, subst, append-nil, length-append, take-append-drop, arith}
 use Rattle.std.specs.List.{All, Contains, concat, insert, remove}
 use Rattle.std.proofs.lemmas.List.{map-append, take_more, length-map}
 use Rattle.std.proofs.lemmas.List.Folds.{concat-append}
-use Rattle.std.proofs.lemmas.List.Elements.{All-take, All-drop, All-append, All-cons, All-map, All-weaker}
+use Rattle.std.proofs.lemmas.List.Elements.{All-take, All-drop, All-append, All-cons, All-map}
 use Rattle.dump_capture.specs.IpFragment.{Fragment}
-use Rattle.dump_capture.specs.Reassembly.{joined, AreFront, AreWhole, AreOf, kept, ip_header, IsJoined}
+use Rattle.dump_capture.specs.Reassembly.{joined, AreFront, AreWhole, kept, ip_header, IsJoined}
 use Rattle.dump_capture.specs.declared.ip_fragment.FragmentKey.{FragmentKey}
 use Rattle.dump_capture.specs.declared.reassembly.KeptFragment.{KeptFragment}
 

@@ -1,6 +1,6 @@
 -- A fragment of an IP packet in a frame (RFC 791 section 3.2, RFC 8200 section 4.5): where
 -- `packet_in` ends at the header of one.
-use Rattle.std.specs.Prelude.{◌+◌, ◌-◌, ◌*◌, ◌/◌, ◌%◌, ◌^◌, ◌==◌, ℕ, zero, suc, Bool, ◌&&◌, ◌||◌, not, nat_lt, if◌then◌else◌, List, Option, Some, None, Result, Ok, Err, length, take, drop}
+use Rattle.std.specs.Prelude.{◌-◌, ◌*◌, ◌/◌, ◌%◌, ◌^◌, ◌==◌, ℕ, zero, suc, Bool, ◌&&◌, ◌||◌, not, nat_lt, if◌then◌else◌, List, Option, Some, None, Result, Ok, Err, length, take, drop}
 use Rattle.std.specs.Int.{w32, from_be_bytes}
 use Rattle.dump_capture.specs.Number.{byte_at, number16}
 use Rattle.dump_capture.specs.Payload.{Payload}

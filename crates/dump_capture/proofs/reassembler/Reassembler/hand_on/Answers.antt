@@ -1,5 +1,5 @@
-use Rattle.std.proofs.Common.{ℕ, List, [], ◌∷◌, ◌++◌, length, ap, sym, subst, ◌∙◌}
-use Rattle.dump_capture.specs.Event.{Event, Saw}
+use Rattle.std.proofs.Common.{ℕ, List, [], ◌∷◌, ◌++◌, length, subst}
+use Rattle.dump_capture.specs.Event.{Saw}
 use Rattle.dump_capture.specs.Expanded.{as_joined}
 use Rattle.dump_capture.specs.declared.event.Seen.{Seen}
 use Rattle.dump_capture.proofs.Expanding.{expand-packet}

@@ -1,4 +1,4 @@
-use Rattle.std.proofs.Common.{◌≡◌, ◌+◌, ◌<◌, ℕ, List, [], ◌++◌, length, map, take, get_or, refl, ap, sym, ◌∙◌, append_assoc, arith}
+use Rattle.std.proofs.Common.{◌≡◌, ◌<◌, ℕ, List, ◌++◌, length, map, take, get_or, ap, sym, ◌∙◌, append_assoc, arith}
 use Rattle.dump_capture.specs.Reassembly.{joined, kept}
 use Rattle.dump_capture.specs.declared.reassembly.KeptFragment.{KeptFragment}
 use Rattle.dump_capture.proofs.Kept.{joined-more}

@@ -1,7 +1,7 @@
-use Rattle.std.proofs.Common.{◌≡◌, ◌<◌, ◌≤◌, sym, ap, subst, List, [], map, length, ◌∙◌, refl, arith}
+use Rattle.std.proofs.Common.{sym, ap, subst, List, [], map, length, arith}
 use Rattle.std.specs.List.{Contains, remove}
 use Rattle.std.proofs.lemmas.Grind.{common_steps}
-use Rattle.dump_capture.specs.Reassembly.{joined, kept, AreKept, AreAllKept}
+use Rattle.dump_capture.specs.Reassembly.{joined, kept, AreKept}
 use Rattle.dump_capture.specs.declared.reassembly.KeptFragment.{KeptFragment}
 use Rattle.std.proofs.lemmas.List.Elements.{All-same, All-nil}
 use Rattle.dump_capture.proofs.Kept.{All-remove}
