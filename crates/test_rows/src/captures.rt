@@ -3,6 +3,7 @@
 use crate::bytes::{from, short_at, word_at, write_digits};
 use dump_capture::frame::{UDP_PORT, is_known_link, packet_in};
 use dump_capture::hex_bytes::HexBytes;
+use dump_capture::ip_fragment::fragment_in;
 use dump_capture::line::{Line, LoggedPacket, place_of, read_line};
 use dump_capture::pcap::{ByteOrder, input_kind, read_file_header, read_record_header};
 use dump_capture::stamp::read_stamp;
@@ -67,6 +68,19 @@ fn write_tunnels(bytes: &[u8], out: &mut String) -> Result<(), AllocError> {
     Ok(())
 }
 
+/// Writes the fragment of an IP packet in a frame, of the same bytes.
+fn write_fragment(bytes: &[u8], out: &mut String) -> Result<(), AllocError> {
+    match fragment_in(
+        UDP_PORT,
+        short_at(bytes, 0),
+        word_at(bytes, 2),
+        from(bytes, 6),
+    ) {
+        Some(fragment) => write_debug(&fragment, out),
+        None => out.push_str("none"),
+    }
+}
+
 /// Writes the answer, if the call is one of this module; the offset of a line and how many bytes
 /// are held have four bytes each.
 pub fn write_answer(
@@ -82,6 +96,7 @@ pub fn write_answer(
         "known-link" => write_debug(&is_known_link(short_at(bytes, 0)), out)?,
         "link-frame" => write_found(UDP_PORT, bytes, out)?,
         "tunnels" => write_tunnels(bytes, out)?,
+        "fragment" => write_fragment(bytes, out)?,
         "link-frame-port" => write_found(short_at(bytes, 0), from(bytes, 2), out)?,
         "place" => write_debug(
             &place_of(word_at(bytes, 0), word_at(bytes, 4) as usize),
