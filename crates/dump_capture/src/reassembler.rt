@@ -61,6 +61,26 @@ impl<S: PacketSink> Reassembler<S> {
         self.inner
     }
 
+    /// Looks at the last frame, which is a fragment. It is apart from `frame`, which so pays nothing
+    /// at its entry for what is only needed here.
+    #[cold]
+    #[inline(never)]
+    fn look(&mut self, seen: &Seen<'_>, link_type: u16, original_length: u32, bytes: &[u8])
+        ensures { (xs : List Event)
+            → IsExpanded S.handed self.old.udp_port self.old.inner self.old.table.packets.items
+            (xs ++ Saw seen.now link_type original_length bytes.now ∷ [])
+            → IsExpanded S.handed self.new.udp_port self.new.inner self.new.table.packets.items
+            (xs ++ Saw seen.now link_type original_length bytes.now ∷ []) }
+    {
+        if self.is_out_of_memory {
+            return;
+        }
+        if let Some(fragment) = fragment_in(self.udp_port, link_type, original_length, bytes) {
+            let taken = self.take(seen, fragment);
+            self.is_out_of_memory = taken.is_err();
+        }
+    }
+
     /// Adds a fragment of the last frame, and hands on the packet that it completes.
     fn take(&mut self, seen: &Seen<'_>, fragment: IpFragment<'_>) -> Result<(), AllocError>
         ensures port { self.new.udp_port ≡ self.old.udp_port }
@@ -109,15 +129,8 @@ impl<S: PacketSink> Sink for Reassembler<S> {
     fn frame(&mut self, seen: &Seen<'_>, link_type: u16, original_length: u32, bytes: &[u8]) {
         self.frames = self.frames.saturating_add(1);
         self.inner.frame(seen, link_type, original_length, bytes);
-        if !self.inner.is_fragment() {
-            return;
-        }
-        if self.is_out_of_memory {
-            return;
-        }
-        if let Some(fragment) = fragment_in(self.udp_port, link_type, original_length, bytes) {
-            let taken = self.take(seen, fragment);
-            self.is_out_of_memory = taken.is_err();
+        if self.inner.is_fragment() {
+            self.look(seen, link_type, original_length, bytes);
         }
     }
 
