@@ -10,8 +10,8 @@ of its manual page, docs/sctp_dump.1, at which mandoc, if it is there, finds not
 ask the rules of the packets of rules.txt in examples/, it has the chunks of refused.txt and the captures in data/, reports.py compares
 what it prints of the packets of reports.txt, faults.py looks at lengths that are refused, objects.py at its JSON, forms.py
 at its three forms, logs.py at associations of logs, auth.py at AUTH, times.py at times, pcapng.py at the files that it writes; where tshark is, associations.py at
-associations of captures, messages.py at their messages, channels.py at their channels, fragments.py at IP fragments, and tshark.py at packets; where scapy is, scapy.py at the same; fields.py
-compares the JSON and the Python package, of each field of a real stack'\''s packets, with tshark and scapy; and it has a table that is full, and inputs and
+associations of captures, messages.py at their messages, channels.py at their channels, fragments.py at IP fragments, and tshark.py at
+packets; where scapy is, scapy.py at the same; fields.py compares the JSON and the Python package, of each field of a real stack'\''s packets, with tshark and scapy; and it has a table that is full, and inputs and
 outputs that fail. The last line is: dump: N passed, M failed. --quick leaves out the scripts, a word that isn'\''t UTF-8, and
 an output that is limited, for a program that runs in an emulator or under Wine.
 
@@ -192,8 +192,8 @@ judge 'lines that are too long' "${PIPESTATUS[1]}" 1
 # ---- JSON
 
 # Each line is an object, and each place holds the value of its key. Lines and blocks say the same. A log has the associations of
-# its capture, and captures have those of a model over tshark. IP fragments are put together as there. AUTH is right where Python's HMAC is. What --pcapng writes holds
-# the packets of the input, also for tshark.
+# its capture, and captures have those of a model over tshark, where IP fragments are put together. AUTH is right where Python's HMAC
+# is. What --pcapng writes holds the packets of the input, also for tshark.
 look "$root/tests/dump/objects.py" "$program"
 look "$root/tests/dump/forms.py" "$program"
 look "$root/tests/dump/logs.py" "$program"
