@@ -1,8 +1,8 @@
 //! The TSNs of the DATA that one end sent: which were repeated, and which were never seen.
 
-ghost use Rattle.std.specs.Prelude.{◌≡◌, ◌/◌, ◌%◌, ◌^◌, ◌↔◌, Some, IsTrue};
+ghost use Rattle.std.specs.Prelude.{◌≡◌, ◌+◌, ◌/◌, ◌%◌, ◌^◌, ◌<◌, ◌≤◌, ◌⊎◌, ◌↔◌, ℕ, Some, None, IsTrue, option_map};
 ghost use Rattle.dump_analysis.specs.Serial.{IsAfter};
-ghost use Rattle.dump_analysis.specs.Tsns.{Follows, IsMarked};
+ghost use Rattle.dump_analysis.specs.Tsns.{Follows, IsMarked, HaveOneBit, MarksOne, span_with, missing_with, RepeatsOne};
 
 use crate::counts::increase;
 use crate::packet_number::PacketNumber;
@@ -53,7 +53,13 @@ pub enum Step {
 
 impl Tsns {
     /// Returns the TSNs of an end that sent none.
-    pub fn new() -> Tsns {
+    pub fn new() -> Tsns
+        ensures span { result.span ≡ None }
+        ensures marks { (tsn : ℕ) → ¬ (IsMarked result.seen tsn) }
+        ensures repeated { result.repeated ≡ 0 }
+        ensures first { result.first_repeated ≡ None }
+        ensures missing { result.missing ≡ 0 }
+    {
         Tsns {
             span: None,
             repeated: 0,
@@ -65,57 +71,59 @@ impl Tsns {
     }
 
     /// Returns the first TSN of the sequence, and the last one.
-    pub fn span(&self) -> Option<(u32, u32)> {
+    pub fn span(&self) -> Option<(u32, u32)>
+        ensures { result ≡ option_map (λ s. (s.first, s.last)) self.now.span }
+    {
         let span = self.span?;
         Some((span.first, span.last))
     }
 
     /// Notes a TSN of the packet of this number, and returns how it follows those before.
     pub fn note(&mut self, tsn: u32, number: PacketNumber) -> Step
-        ensures { Follows self.old.span self.old.seen tsn result }
+        ensures step { Follows self.old.span self.old.seen tsn result }
+        ensures span { self.new.span ≡ Some (span_with self.old.span tsn result) }
+        ensures marks { MarksOne self.old.span self.old.seen tsn
+            (span_with self.old.span tsn result).last self.new.seen }
+        ensures missing { self.new.missing ≡ missing_with self.old.span tsn result
+            self.old.missing }
+        ensures repeated { RepeatsOne self.old tsn number result self.new }
     {
         let Some(span) = self.span else {
             self.span = Some(Span {
                 first: tsn,
                 last: tsn,
             });
-            self.mark(tsn);
+            mark(&mut self.seen, tsn);
             return Step::Ahead { missing: 0 };
         };
         if is_after(tsn, span.last) {
-            let ahead = tsn.wrapping_sub(span.last);
-            self.advance(span, ahead);
-            self.mark(tsn);
-            return Step::Ahead { missing: ahead - 1 };
+            let missing = tsn.wrapping_sub(span.last) - 1;
+            unmark_after(&mut self.seen, span.last, missing);
+            mark(&mut self.seen, tsn);
+            self.missing = self.missing.saturating_add(u64::from(missing));
+            self.span = Some(Span {
+                first: span.first,
+                last: tsn,
+            });
+            return Step::Ahead { missing };
         }
         self.note_earlier(span, tsn, number)
     }
 
-    /// Moves the last TSN on.
-    fn advance(&mut self, span: Span, ahead: u32) {
-        for step in 1..ahead.min(WINDOW) {
-            self.unmark(span.last.wrapping_add(step));
-        }
-        if ahead > WINDOW {
-            self.seen = [0; WORDS];
-        }
-        self.missing = self
-            .missing
-            .saturating_add(u64::from(ahead).saturating_sub(1));
-        self.span = Some(Span {
-            first: span.first,
-            last: span.last.wrapping_add(ahead),
-        });
-    }
-
     /// Notes a TSN that isn't beyond the last one.
     fn note_earlier(&mut self, span: Span, tsn: u32, number: PacketNumber) -> Step
-        requires { ¬ (IsAfter span.last tsn) }
-        ensures { Follows (Some span) self.old.seen tsn result }
+        requires span { self.old.span ≡ Some span }
+        requires earlier { ¬ (IsAfter span.last tsn) }
+        ensures step { Follows (Some span) self.old.seen tsn result }
+        ensures span { self.new.span ≡ Some (span_with (Some span) tsn result) }
+        ensures marks { MarksOne (Some span) self.old.seen tsn span.last self.new.seen }
+        ensures missing { self.new.missing ≡ missing_with (Some span) tsn result
+            self.old.missing }
+        ensures repeated { RepeatsOne self.old tsn number result self.new }
     {
         let behind = span.last.wrapping_sub(tsn);
         let size = span.last.wrapping_sub(span.first);
-        if behind >= WINDOW || self.is_marked(tsn) {
+        if behind >= WINDOW || is_marked(&self.seen, tsn) {
             increase(&mut self.repeated);
             if self.first_repeated.is_none() {
                 self.first_repeated = Some(number);
@@ -133,25 +141,39 @@ impl Tsns {
                 last: span.last,
             });
         }
-        self.mark(tsn);
+        mark(&mut self.seen, tsn);
         Step::Late
     }
+}
 
-    /// Returns whether the bit of a TSN is set.
-    fn is_marked(&self, tsn: u32) -> bool
-        ensures { IsTrue result ↔ IsMarked self.now.seen tsn }
-    {
-        self.seen[word_of(tsn)] & bit_of(tsn) != 0
-    }
+/// Returns whether the bit of a TSN is set.
+fn is_marked(seen: &[u64; WORDS], tsn: u32) -> bool
+    ensures { IsTrue result ↔ IsMarked seen.now tsn }
+{
+    seen[word_of(tsn)] & bit_of(tsn) != 0
+}
 
-    /// Sets the bit of a TSN.
-    fn mark(&mut self, tsn: u32) {
-        self.seen[word_of(tsn)] |= bit_of(tsn);
-    }
+/// Sets the bit of a TSN.
+fn mark(seen: &mut [u64; WORDS], tsn: u32)
+    ensures { (t : ℕ) → IsMarked seen.new t ↔ (HaveOneBit t tsn ⊎ IsMarked seen.old t) }
+{
+    seen[word_of(tsn)] |= bit_of(tsn);
+}
 
-    /// Clears the bit of a TSN.
-    fn unmark(&mut self, tsn: u32) {
-        self.seen[word_of(tsn)] &= !bit_of(tsn);
+/// Clears the bit of a TSN.
+fn unmark(seen: &mut [u64; WORDS], tsn: u32)
+    ensures { (t : ℕ) → IsMarked seen.new t ↔ (¬ (HaveOneBit t tsn) × IsMarked seen.old t) }
+{
+    seen[word_of(tsn)] &= !bit_of(tsn);
+}
+
+/// Clears the bits of as many TSNs after the last one.
+fn unmark_after(seen: &mut [u64; WORDS], last: u32, count: u32)
+    ensures { (t : ℕ) → IsMarked seen.new t ↔ (((k : ℕ) → 1 ≤ k → k ≤ count
+        → ¬ (HaveOneBit t (last + k))) × IsMarked seen.old t) }
+{
+    for step in 1..count.min(WINDOW) + 1 {
+        unmark(seen, last.wrapping_add(step));
     }
 }
 
