@@ -1,7 +1,7 @@
 //! What one end asked, and which of it was answered.
 
-ghost use Rattle.std.specs.Prelude.{◌≡◌, ◌-◌, ◌↔◌, Any, IsTrue};
-ghost use Rattle.dump_analysis.specs.Questions.{HasKey, IsOpen};
+ghost use Rattle.std.specs.Prelude.{◌≡◌, ◌-◌, ◌↔◌, All, Any, IsTrue, IfSome, IfNone, None, true};
+ghost use Rattle.dump_analysis.specs.Questions.{HasKey, IsOpen, Asks, forgets, IsOldest, AnswersOldest, first_open, last_open};
 
 use crate::counts::increase;
 use crate::packet_number::PacketNumber;
@@ -16,11 +16,9 @@ const MOST: usize = 8;
 pub struct Unanswered {
     /// How many weren't answered.
     pub count: u64,
-    // the last ones, answered or not, in a ring
+    // the last ones, answered or not, the oldest first
     asked: [Question; MOST],
-    // where the next one goes
-    next: usize,
-    // the first one and the last one that weren't answered and are no longer in the ring
+    // the first one and the last one that weren't answered and are no longer remembered
     first_forgotten: Option<PacketNumber>,
     forgotten: Option<PacketNumber>,
 }
@@ -35,7 +33,11 @@ struct Question {
 
 impl Unanswered {
     /// Returns the questions of an end that asked none.
-    pub fn new() -> Unanswered {
+    pub fn new() -> Unanswered
+        ensures count { result.count ≡ 0 }
+        ensures asked { All (λ q. (q.packet ≡ None) × (q.is_answered ≡ true)) result.asked }
+        ensures forgotten { (result.first_forgotten ≡ None) × (result.forgotten ≡ None) }
+    {
         let none = Question {
             key: 0,
             packet: None,
@@ -44,27 +46,34 @@ impl Unanswered {
         Unanswered {
             count: 0,
             asked: [none; MOST],
-            next: 0,
             first_forgotten: None,
             forgotten: None,
         }
     }
 
     /// Notes a question with this key in the packet of this number.
-    pub fn ask(&mut self, key: u64, packet: PacketNumber) {
+    pub fn ask(&mut self, key: u64, packet: PacketNumber)
+        ensures { Asks self.old key packet self.new }
+    {
+        let oldest = self.asked[0];
+        self.forget(oldest);
         increase(&mut self.count);
-        let place = self.next % MOST;
-        let oldest = self.asked[place];
-        if !oldest.is_answered {
-            self.first_forgotten = self.first_forgotten.or(oldest.packet);
-            self.forgotten = oldest.packet;
-        }
-        self.asked[place] = Question {
+        self.asked.rotate_left(1);
+        self.asked[MOST - 1] = Question {
             key,
             packet: Some(packet),
             is_answered: false,
         };
-        self.next = (place + 1) % MOST;
+    }
+
+    /// Notes that a question is no longer remembered.
+    fn forget(&mut self, oldest: Question)
+        ensures { self.new ≡ forgets oldest self.old }
+    {
+        if !oldest.is_answered {
+            self.first_forgotten = self.first_forgotten.or(oldest.packet);
+            self.forgotten = oldest.packet;
+        }
     }
 
     /// Returns whether one of the last 8 questions has this key, answered or not.
@@ -83,38 +92,43 @@ impl Unanswered {
     pub fn awaits(&self, key: u64) -> bool
         ensures { IsTrue result ↔ Any (IsOpen key) self.now.asked }
     {
-        for question in &self.asked {
-            if !question.is_answered && question.key == key {
-                return true;
-            }
-        }
-        false
+        matches!(self.oldest(key), Some(_))
     }
 
     /// Notes an answer with this key: to the oldest question with the same one.
     pub fn answer(&mut self, key: u64)
         ensures answered { Any (IsOpen key) self.old.asked → self.new.count ≡ self.old.count - 1 }
+        ensures oldest { Any (IsOpen key) self.old.asked → AnswersOldest key self.old self.new }
         ensures other { ¬ (Any (IsOpen key) self.old.asked) → self.new ≡ self.old }
     {
-        for step in 0..MOST {
-            let place = self.next.wrapping_add(step) % MOST;
-            let question = &mut self.asked[place];
-            if !question.is_answered && question.key == key {
-                question.is_answered = true;
-                self.count = self.count.saturating_sub(1);
-                return;
-            }
+        if let Some(place) = self.oldest(key) {
+            self.asked[place].is_answered = true;
+            self.count = self.count.saturating_sub(1);
         }
     }
 
+    /// Returns the place of the oldest question that has this key, and no answer.
+    fn oldest(&self, key: u64) -> Option<usize>
+        ensures some { IfSome result (IsOldest key self.now.asked) }
+        ensures none { IfNone result (¬ (Any (IsOpen key) self.now.asked)) }
+    {
+        for place in 0..MOST {
+            let question = self.asked[place];
+            if !question.is_answered && question.key == key {
+                return Some(place);
+            }
+        }
+        None
+    }
+
     /// Returns the packet of the first question that wasn't answered; `None` if all were.
-    pub fn first(&self) -> Option<PacketNumber> {
+    pub fn first(&self) -> Option<PacketNumber>
+        ensures { result ≡ first_open self.now }
+    {
         if self.first_forgotten.is_some() {
             return self.first_forgotten;
         }
-        for step in 0..MOST {
-            let place = self.next.wrapping_add(step) % MOST;
-            let question = self.asked[place];
+        for question in &self.asked {
             if !question.is_answered {
                 return question.packet;
             }
@@ -123,11 +137,11 @@ impl Unanswered {
     }
 
     /// Returns the packet of the last question that wasn't answered; `None` if all were.
-    pub fn last(&self) -> Option<PacketNumber> {
+    pub fn last(&self) -> Option<PacketNumber>
+        ensures { result ≡ last_open self.now }
+    {
         let mut last = self.forgotten;
-        for step in 0..MOST {
-            let place = self.next.wrapping_add(step) % MOST;
-            let question = self.asked[place];
+        for question in &self.asked {
             if !question.is_answered {
                 last = question.packet;
             }
