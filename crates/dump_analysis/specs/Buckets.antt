@@ -1,5 +1,5 @@
 -- Times counted by buckets, of which eight are an octave.
-use Rattle.std.specs.Prelude.{◌≡◌, ◌⊎◌, ◌+◌, ◌-◌, ◌*◌, ◌/◌, ◌^◌, ◌<◌, ◌≤◌, ℕ, List, take, min, max, sum}
+use Rattle.std.specs.Prelude.{◌≡◌, ◌⊎◌, ◌+◌, ◌-◌, ◌*◌, ◌/◌, ◌^◌, ◌<◌, ◌≤◌, ℕ, List, take, min, max, sum, slice_index, slice_set}
 
 -- the width of a bucket, and the least time in it, in units
 abbrev pub width_of : ℕ → ℕ
@@ -7,6 +7,16 @@ width_of bucket = 2 ^ (bucket / 8 - 1)
 
 abbrev pub least_of : ℕ → ℕ
 least_of bucket = (bucket - 8 * (bucket / 8 - 1)) * width_of bucket
+
+-- A time is in the bucket that begins last of those that begin up to it; there are 192.
+abbrev pub IsIn : ℕ → ℕ → Type 0
+IsIn units bucket =
+    (bucket < 192) × (least_of bucket ≤ units) × (bucket < 191 → units < least_of (bucket + 1))
+
+-- Its bucket has one more, up to 2^32 - 1, and the others have as many as before.
+abbrev pub CountsOneIn : ℕ → List ℕ → List ℕ → Type 0
+CountsOneIn units before after = (bucket : ℕ) × IsIn units bucket
+    × (after ≡ slice_set before bucket (min (slice_index before bucket + 1) (2 ^ 32 - 1)))
 
 -- the half of them, rounded up, lies in the buckets up to this one, and not in those before it
 abbrev pub HoldsMedian : List ℕ → ℕ → ℕ → Type 0

@@ -1,7 +1,7 @@
 //! How long something took, each time that it happened: of all the least, the median and the greatest.
 
-ghost use Rattle.std.specs.Prelude.{◌≡◌, ◌≤◌, ◌<◌, ◌+◌, ◌*◌};
-ghost use Rattle.dump_analysis.specs.Buckets.{least_of, width_of, IsMedian};
+ghost use Rattle.std.specs.Prelude.{◌≡◌, ◌≤◌, ◌<◌, ◌+◌, ◌*◌, ◌/◌, replicate};
+ghost use Rattle.dump_analysis.specs.Buckets.{least_of, width_of, CountsOneIn, IsMedian};
 ghost use Rattle.dump_analysis.specs.Delays.{least_with, IsGreatest};
 ghost use Rattle.dump_capture.specs.Number.{one_more};
 
@@ -36,7 +36,10 @@ pub struct Delays {
 
 impl Delays {
     /// Returns none.
-    pub fn new() -> Delays {
+    pub fn new() -> Delays
+        ensures count { result.count ≡ 0 }
+        ensures buckets { result.buckets ≡ replicate 192 0 }
+    {
         Delays {
             count: 0,
             least: 0,
@@ -52,6 +55,7 @@ impl Delays {
         ensures count { self.new.count ≡ one_more self.old.count }
         ensures least { self.new.least ≡ least_with self.old nanoseconds }
         ensures greatest { IsGreatest self.old nanoseconds tsn packet self.new }
+        ensures bucket { CountsOneIn (nanoseconds / 1024) self.old.buckets self.new.buckets }
     {
         if self.count == 0 || nanoseconds < self.least {
             self.least = nanoseconds;
