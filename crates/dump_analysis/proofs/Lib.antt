@@ -4,3 +4,5 @@ pub mod ChunkCounts
 pub mod HeaderCounts
 pub mod Slots
 pub mod Ahead
+pub mod Marks
+pub mod Questions
