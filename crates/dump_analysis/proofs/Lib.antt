@@ -6,3 +6,4 @@ pub mod Slots
 pub mod Ahead
 pub mod Marks
 pub mod Questions
+pub mod Firsts

@@ -1,10 +1,13 @@
 -- What is counted of the messages of a channel, and of all channels of an association.
-use Rattle.std.specs.Prelude.{◌≡◌, ◌+◌, ℕ, List}
-use Rattle.std.specs.List.{sum_by}
+use Rattle.std.specs.Prelude.{◌≡◌, ◌+◌, ◌<◌, ◌⊎◌, ◌++◌, ◌∷◌, ◌||◌, ℕ, Bool, false, nat_lt, if◌then◌else◌, List, [], length, take, slice_get, slice_set, Option, Some, None, IsSome, All}
+use Rattle.std.specs.List.{sum_by, HoldsAt}
 use Rattle.dump_capture.specs.Number.{capped, one_more}
 use Rattle.dump_analysis.specs.declared.association.Side.{Side}
 use Rattle.dump_analysis.specs.declared.association.Side.TheVariants.{First, Second}
 use Rattle.dump_analysis.specs.declared.channel.Channel.{Channel}
+use Rattle.dump_analysis.specs.declared.channel.Reset.{Reset}
+use Rattle.dump_analysis.specs.declared.data_channel.Opened.{Opened}
+use Rattle.dump_analysis.specs.declared.packet_number.PacketNumber.{PacketNumber}
 use Rattle.dump_analysis.specs.declared.channel.Tally.{Tally}
 use Rattle.dump_analysis.specs.declared.channel.Traffic.{Traffic}
 use Rattle.dump_analysis.specs.declared.message.Message.{Message}
@@ -55,3 +58,74 @@ messages_seen channels others = messages_on channels + messages_of others
 
 abbrev pub bytes_seen : List Channel → Tally → ℕ
 bytes_seen channels others = bytes_on channels + bytes_of others
+
+-- ---- which channel a message is of
+
+-- a packet of an earlier file, or an earlier one of the same file
+abbrev pub ComesBefore : PacketNumber → PacketNumber → Type 0
+ComesBefore packet other =
+    (packet.file < other.file) ⊎ ((packet.file ≡ other.file) × (packet.number < other.number))
+
+-- there is such a packet, and this one is it or comes after it
+abbrev pub IsFrom : Option PacketNumber → PacketNumber → Type 0
+IsFrom None packet = ⊥
+IsFrom (Some first) packet = ¬ (ComesBefore packet first)
+
+-- the response, if it says success: "Nothing to do" or "Performed" (RFC 6525 section 4.4)
+abbrev pub succeeded_at : Option (ℕ × PacketNumber) → Option PacketNumber
+succeeded_at None = None
+succeeded_at (Some answer) = if nat_lt answer.0 2 then Some answer.1 else None
+
+abbrev pub reset_of : Side → Channel → Option Reset
+reset_of First c = c.first_reset
+reset_of Second c = c.second_reset
+
+abbrev pub reset_at : Option Reset → Option PacketNumber
+reset_at None = None
+reset_at (Some r) = succeeded_at r.result
+
+-- What an end sends is over from the reset of its stream on, and from where that is opened anew.
+abbrev pub IsOver : Channel → Side → PacketNumber → Type 0
+IsOver c side packet = IsFrom (reset_at (reset_of side c)) packet ⊎ IsFrom c.replaced packet
+
+-- A message is of a channel that has its stream, and whose opening was seen or that has its
+-- payload protocol, if the channel isn't over.
+abbrev pub IsOf : Message → Channel → Type 0
+IsOf m c =
+    (c.stream ≡ m.key.stream) × (IsSome c.opened ⊎ (c.ppid ≡ m.ppid))
+    × ¬ (IsOver c m.sender m.sent.packet)
+
+-- ---- a message is counted of one channel
+
+abbrev pub IsNew : ℕ → Option ℕ → Option Opened → Channel → Type 0
+IsNew stream ppid opened c =
+    (c.stream ≡ stream) × (c.ppid ≡ ppid) × (c.opened ≡ opened) × (c.first_reset ≡ None)
+    × (c.second_reset ≡ None) × (c.replaced ≡ None) × (c.passes ≡ false)
+    × nothing_sent c.tally.first × nothing_sent c.tally.second
+
+-- The channel has it; nothing else of it changes.
+abbrev pub CountsOn : Message → Channel → Channel → Type 0
+CountsOn m before after =
+    Adds before.tally m after.tally
+    × (after ≡ record before { passes = before.passes || m.passes; tally = after.tally })
+
+-- the place of the first one that is so
+abbrev pub IsFirst : (Channel → Type 0) → List Channel → ℕ → Type 0
+IsFirst P channels place =
+    (place < length channels) × All (λ c. ¬ (P c)) (take place channels) × HoldsAt P channels place
+
+-- the channel in this place has it, and all others are as they were
+abbrev pub CountsAt : Message → ℕ → List Channel → List Channel → Type 0
+CountsAt m place before after = (c with_it : Channel) × (slice_get before place ≡ Some c)
+    × CountsOn m c with_it × (after ≡ slice_set before place with_it)
+
+-- It is of one of them: the first one that it is of has it.
+abbrev pub AddsToFirst : Message → List Channel → List Channel → Type 0
+AddsToFirst m before after =
+    (place : ℕ) × IsFirst (IsOf m) before place × CountsAt m place before after
+
+-- It is of none of them: a new one at the end has it.
+abbrev pub AddsToNew : Message → List Channel → List Channel → Type 0
+AddsToNew m before after =
+    (new with_it : Channel) × IsNew m.key.stream m.ppid None new × CountsOn m new with_it
+    × (after ≡ before ++ with_it ∷ [])

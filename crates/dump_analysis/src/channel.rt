@@ -1,7 +1,7 @@
 //! A channel: the messages of a stream from when it was opened until it was reset.
 
-ghost use Rattle.std.specs.Prelude.{◌≡◌, ◌<◌, ◌+◌, ◌-◌, ◌^◌};
-ghost use Rattle.dump_analysis.specs.Channels.{nothing_sent, CountsMessage, Adds, messages_of, bytes_of};
+ghost use Rattle.std.specs.Prelude.{◌≡◌, ◌<◌, ◌+◌, ◌-◌, ◌^◌, ◌↔◌, IsTrue};
+ghost use Rattle.dump_analysis.specs.Channels.{nothing_sent, CountsMessage, Adds, CountsOn, messages_of, bytes_of, succeeded_at, reset_of, IsFrom, IsOver, IsOf, IsNew};
 
 use crate::association::Side;
 use crate::counts::increase;
@@ -113,7 +113,9 @@ pub struct Reset {
 
 impl Reset {
     /// Returns the packet from which on the stream is reset: that of a response of success.
-    pub fn performed(&self) -> Option<PacketNumber> {
+    pub fn performed(&self) -> Option<PacketNumber>
+        ensures { result ≡ succeeded_at self.now.result }
+    {
         match self.result {
             Some((0 | 1, packet)) => Some(packet),
             _ => None,
@@ -190,6 +192,7 @@ pub struct Channel {
 impl Channel {
     /// Returns a channel without messages.
     pub fn new(stream: u16, ppid: Option<u32>, opened: Option<Opened>) -> Channel
+        ensures new { IsNew stream ppid opened result }
         ensures first { nothing_sent result.tally.first }
         ensures second { nothing_sent result.tally.second }
     {
@@ -205,8 +208,18 @@ impl Channel {
         }
     }
 
+    /// Counts a message.
+    pub fn count(&mut self, message: &Message)
+        ensures { CountsOn message.now self.old self.new }
+    {
+        self.passes |= message.passes;
+        self.tally.add(message);
+    }
+
     /// Returns the reset of what an end sends.
-    fn reset(&self, side: Side) -> Option<Reset> {
+    fn reset(&self, side: Side) -> Option<Reset>
+        ensures { result ≡ reset_of side self.now }
+    {
         match side {
             Side::First => self.first_reset,
             Side::Second => self.second_reset,
@@ -214,14 +227,18 @@ impl Channel {
     }
 
     /// Returns whether a message is of this channel, if it is of none before it.
-    pub fn has(&self, message: &Message) -> bool {
+    pub fn has(&self, message: &Message) -> bool
+        ensures { IsTrue result ↔ IsOf message.now self.now }
+    {
         self.stream == message.key.stream
             && (self.opened.is_some() || self.ppid == message.ppid)
             && !self.is_over(message.sender, message.sent.packet)
     }
 
     /// Returns whether what an end sends in a packet comes after the end of this channel.
-    pub fn is_over(&self, side: Side, packet: PacketNumber) -> bool {
+    pub fn is_over(&self, side: Side, packet: PacketNumber) -> bool
+        ensures { IsTrue result ↔ IsOver self.now side packet }
+    {
         let reset = match self.reset(side) {
             Some(reset) => reset.performed(),
             None => None,
@@ -332,7 +349,9 @@ fn has(streams: Part<'_>, stream: u16) -> bool {
 }
 
 /// Returns whether a packet is another one, if there is one, or comes after it.
-fn is_from(packet: PacketNumber, other: Option<PacketNumber>) -> bool {
+fn is_from(packet: PacketNumber, other: Option<PacketNumber>) -> bool
+    ensures { IsTrue result ↔ IsFrom other packet }
+{
     match other {
         Some(other) => !comes_before(packet, other),
         None => false,

@@ -1,7 +1,7 @@
 //! The channels of an association, and those of all.
 
-ghost use Rattle.std.specs.Prelude.{◌≡◌, ◌≤◌, ◌<◌, ◌+◌, ◌-◌, ◌^◌, if◌then◌else◌, vec_len, IfOk};
-ghost use Rattle.dump_analysis.specs.Channels.{messages_on, messages_seen, bytes_on, bytes_seen, AreAlike};
+ghost use Rattle.std.specs.Prelude.{◌≡◌, ◌≤◌, ◌<◌, ◌+◌, ◌-◌, ◌^◌, ◌||◌, vec_len, Any, IfOk, OnOk, IfSome, IfNone, IsTrue};
+ghost use Rattle.dump_analysis.specs.Channels.{messages_on, messages_seen, bytes_on, bytes_seen, AreAlike, IsOf, IsFirst, Adds, CountsAt, AddsToFirst, AddsToNew};
 
 use crate::association::Side;
 use crate::channel::{Channel, News, Tally};
@@ -106,34 +106,39 @@ impl Channels {
         ensures bytes { bytes_seen self.old.list.items self.old.others + message.now.size < 2 ^ 64
             → IfOk result (λ _. bytes_seen self.new.list.items self.new.others
             ≡ bytes_seen self.old.list.items self.old.others + message.now.size) }
+        ensures known { Any (IsOf message.now) self.old.list.items
+            → AddsToFirst message.now self.old.list.items self.new.list.items
+            × (self.new.others ≡ self.old.others)
+            × (self.new.others_pass ≡ self.old.others_pass) }
+        ensures new { ¬ (Any (IsOf message.now) self.old.list.items)
+            → IsTrue has_room → vec_len self.old.list < 1024
+            → OnOk result (AddsToNew message.now self.old.list.items self.new.list.items
+            × (self.new.others ≡ self.old.others)
+            × (self.new.others_pass ≡ self.old.others_pass)) }
+        ensures full { ¬ (Any (IsOf message.now) self.old.list.items)
+            → ¬ (IsTrue has_room × (vec_len self.old.list < 1024))
+            → (self.new.list.items ≡ self.old.list.items)
+            × Adds self.old.others message.now self.new.others
+            × (self.new.others_pass ≡ (self.old.others_pass || message.now.passes)) }
     {
-        let place = self.place_of(message, has_room)?;
-        if !add_at(&mut self.list, place, message) {
+        if let Some(place) = self.find(message) {
+            add_at(&mut self.list, place, message);
+        } else if has_room && self.list.len() < MOST {
+            let mut channel = Channel::new(message.key.stream, message.ppid, None);
+            channel.count(message);
+            self.list.push(channel)?;
+        } else {
             self.others.add(message);
             self.others_pass |= message.passes;
         }
         Ok(())
     }
 
-    /// Returns the place of a message's channel in the list, where it is put if it is new and there
-    /// is room; beyond the list if there is none.
-    fn place_of(&mut self, message: &Message, has_room: bool) -> Result<usize, AllocError>
-        ensures others { self.new.others ≡ self.old.others }
-        ensures counts { AreAlike self.old.list.items self.new.list.items }
-    {
-        if let Some(place) = self.find(message) {
-            return Ok(place);
-        }
-        let place = self.list.len();
-        if has_room && place < MOST {
-            let channel = Channel::new(message.key.stream, message.ppid, None);
-            self.list.push(channel)?;
-        }
-        Ok(place)
-    }
-
     /// Returns the place of a message's channel in the list, if it is there.
-    fn find(&self, message: &Message) -> Option<usize> {
+    fn find(&self, message: &Message) -> Option<usize>
+        ensures some { IfSome result (IsFirst (IsOf message.now) self.now.list.items) }
+        ensures none { IfNone result (¬ (Any (IsOf message.now) self.now.list.items)) }
+    {
         for (place, channel) in self.list.iter().enumerate() {
             if channel.has(message) {
                 return Some(place);
@@ -159,22 +164,17 @@ impl Channels {
     }
 }
 
-/// Counts a message of the channel in a place. Returns false if there is none.
-fn add_at(list: &mut Vec<Channel>, place: usize, message: &Message) -> bool
+/// Counts a message of the channel in a place.
+fn add_at(list: &mut Vec<Channel>, place: usize, message: &Message)
+    requires { place < vec_len list.old }
     ensures size { vec_len list.new ≡ vec_len list.old }
+    ensures channel { CountsAt message.now place list.old.items list.new.items }
     ensures messages { messages_on list.old.items < 2 ^ 64 - 1 → messages_on list.new.items
-        ≡ messages_on list.old.items + (if result then 1 else 0) }
+        ≡ messages_on list.old.items + 1 }
     ensures bytes { bytes_on list.old.items + message.now.size < 2 ^ 64 → bytes_on list.new.items
-        ≡ bytes_on list.old.items + (if result then message.now.size else 0) }
+        ≡ bytes_on list.old.items + message.now.size }
 {
-    match list.get_mut(place) {
-        Some(channel) => {
-            channel.passes |= message.passes;
-            channel.tally.add(message);
-            true
-        }
-        None => false,
-    }
+    list[place].count(message);
 }
 
 /// Returns whether a DATA_CHANNEL_OPEN is of a channel in the list.

@@ -1,5 +1,8 @@
 //! A user message, and what became of it.
 
+ghost use Rattle.std.specs.Prelude.{◌↔◌, IsTrue};
+ghost use Rattle.dump_analysis.specs.Channels.{ComesBefore};
+
 use crate::association::Side;
 use crate::counts::increase;
 use crate::end::Closed;
@@ -190,7 +193,9 @@ impl Message {
 }
 
 /// Returns whether a packet comes before another.
-pub fn comes_before(packet: PacketNumber, other: PacketNumber) -> bool {
+pub fn comes_before(packet: PacketNumber, other: PacketNumber) -> bool
+    ensures { IsTrue result ↔ ComesBefore packet other }
+{
     packet.file < other.file || packet.file == other.file && packet.number < other.number
 }
 
