@@ -7,3 +7,4 @@ pub mod Ahead
 pub mod Marks
 pub mod Questions
 pub mod Firsts
+pub mod PathCounts

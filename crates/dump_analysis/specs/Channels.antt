@@ -1,7 +1,8 @@
 -- What is counted of the messages of a channel, and of all channels of an association.
-use Rattle.std.specs.Prelude.{◌≡◌, ◌+◌, ◌<◌, ◌⊎◌, ◌++◌, ◌∷◌, ◌||◌, ℕ, Bool, false, nat_lt, if◌then◌else◌, List, [], length, take, slice_get, slice_set, Option, Some, None, IsSome, All}
-use Rattle.std.specs.List.{sum_by, HoldsAt}
+use Rattle.std.specs.Prelude.{◌≡◌, ◌+◌, ◌<◌, ◌⊎◌, ◌++◌, ◌∷◌, ◌||◌, ℕ, Bool, false, nat_lt, if◌then◌else◌, List, [], slice_get, slice_set, Option, Some, None, IsSome}
+use Rattle.std.specs.List.{sum_by}
 use Rattle.dump_capture.specs.Number.{capped, one_more}
+use Rattle.dump_analysis.specs.Firsts.{IsFirst}
 use Rattle.dump_analysis.specs.declared.association.Side.{Side}
 use Rattle.dump_analysis.specs.declared.association.Side.TheVariants.{First, Second}
 use Rattle.dump_analysis.specs.declared.channel.Channel.{Channel}
@@ -108,11 +109,6 @@ abbrev pub CountsOn : Message → Channel → Channel → Type 0
 CountsOn m before after =
     Adds before.tally m after.tally
     × (after ≡ record before { passes = before.passes || m.passes; tally = after.tally })
-
--- the place of the first one that is so
-abbrev pub IsFirst : (Channel → Type 0) → List Channel → ℕ → Type 0
-IsFirst P channels place =
-    (place < length channels) × All (λ c. ¬ (P c)) (take place channels) × HoldsAt P channels place
 
 -- the channel in this place has it, and all others are as they were
 abbrev pub CountsAt : Message → ℕ → List Channel → List Channel → Type 0

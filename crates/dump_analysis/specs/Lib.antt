@@ -15,5 +15,6 @@ pub mod StaleCookies
 pub mod Table
 pub mod Tsns
 pub mod Filter
+pub mod Firsts
 pub mod Seen
 pub mod Warnings

@@ -1,7 +1,16 @@
--- How many packets were counted of the paths of an association.
-use Rattle.std.specs.Prelude.{◌+◌, ℕ, List}
+-- The paths of an association, and how many packets were counted of them.
+use Rattle.std.specs.Prelude.{◌≡◌, ◌≢◌, ◌+◌, ◌<◌, ◌≤◌, ◌⊎◌, ◌++◌, ◌∷◌, ℕ, List, [], length, slice_index_or, Option, Some, None, Any}
 use Rattle.std.specs.List.{sum_by}
-use Rattle.dump_analysis.specs.declared.path.Path.{Path}
+use Rattle.std.specs.Net.Addr.{IsV4And, IsV6And, ipv4_octets, ipv6_segments, segments_of}
+use Rattle.std.specs.declared.net.ip_addr.IpAddr.{IpAddr}
+use Rattle.dump_capture.specs.Number.{one_more}
+use Rattle.dump_capture.specs.declared.frame.Addresses.{Addresses}
+use Rattle.dump_capture.specs.declared.frame.Addresses.TheVariants.{V4, V6}
+use Rattle.dump_analysis.specs.Counts.{Packet, CountsPacket, nothing}
+use Rattle.dump_analysis.specs.Firsts.{IsFirst}
+use Rattle.dump_analysis.specs.declared.association.Side.{Side}
+use Rattle.dump_analysis.specs.declared.counts.SeenPacket.{SeenPacket}
+use Rattle.dump_analysis.specs.declared.path.{Path.{Path}, Way.{Way}}
 
 abbrev pub packets_on : List Path → ℕ
 packets_on paths = sum_by (λ p. p.counts.packets) paths
@@ -9,3 +18,73 @@ packets_on paths = sum_by (λ p. p.counts.packets) paths
 -- those on the paths that are kept, and those on others
 abbrev pub seen_on : List Path → ℕ → ℕ
 seen_on paths others = packets_on paths + others
+
+-- ---- the way that a packet takes
+
+abbrev pub IsIpv4 : List ℕ → Option IpAddr → Type 0
+IsIpv4 octets (Some a) = IsV4And a (λ ip. ipv4_octets ip ≡ octets)
+IsIpv4 octets None = ⊥
+
+abbrev pub IsIpv6 : List ℕ → Option IpAddr → Type 0
+IsIpv6 octets (Some a) = IsV6And a (λ ip. ipv6_segments ip ≡ segments_of octets)
+IsIpv6 octets None = ⊥
+
+-- the source address and the destination address, if packets have them
+abbrev pub AreAddresses : Option Addresses → Option IpAddr → Option IpAddr → Type 0
+AreAddresses (Some (V4 source destination)) from to = IsIpv4 source from × IsIpv4 destination to
+AreAddresses (Some (V6 source destination)) from to = IsIpv6 source from × IsIpv6 destination to
+AreAddresses None from to = (from ≡ None) × (to ≡ None)
+
+-- whose packet it is, and between which addresses
+abbrev pub Takes : Side → SeenPacket → Way → Type 0
+Takes sender p way = (way.sender ≡ sender) × AreAddresses p.found.addresses way.from way.to
+
+abbrev pub Goes : Way → Path → Type 0
+Goes way path = path.way ≡ way
+
+-- ---- a packet is counted of one path
+
+-- These paths go the same ways as those, and have the same counts.
+abbrev pub CountAlike : List Path → List Path → Type 0
+CountAlike before after =
+    (length after ≡ length before)
+    × ((k : ℕ) (d : Path) → k < length before
+    → (slice_index_or after k d).way ≡ (slice_index_or before k d).way)
+    × ((k : ℕ) (d : Path) → k < length before
+    → (slice_index_or after k d).counts ≡ (slice_index_or before k d).counts)
+
+-- The path in this place has the packet too; all other counts are the same, and so are the ways.
+abbrev pub CountsAt : Packet → ℕ → List Path → List Path → Type 0
+CountsAt p place before after =
+    (place < length before) × (length after ≡ length before)
+    × ((k : ℕ) (d : Path) → k < length before
+    → (slice_index_or after k d).way ≡ (slice_index_or before k d).way)
+    × ((k : ℕ) (d : Path) → k < length before → k ≢ place
+    → (slice_index_or after k d).counts ≡ (slice_index_or before k d).counts)
+    × ((d : Path)
+    → CountsPacket (slice_index_or before place d).counts p (slice_index_or after place d).counts)
+
+-- A path goes this way and has no packets.
+abbrev pub IsNew : Way → Path → Type 0
+IsNew way path = (path.way ≡ way) × (path.counts ≡ nothing)
+
+-- Where a path goes this way, the first one has the packet; else a new one at the end, if 16 are
+-- not kept yet; else it is one of the packets on others.
+abbrev pub CountsOnce : Packet → Way → List Path → ℕ → List Path → ℕ → Type 0
+CountsOnce p way before others after others_after =
+    ((place : ℕ) × IsFirst (Goes way) before place × CountsAt p place before after
+    × (others_after ≡ others))
+    ⊎ (¬ (Any (Goes way) before) × (length before < 16) × ((new : Path) × IsNew way new
+    × CountsAt p (length before) (before ++ new ∷ []) after) × (others_after ≡ others))
+    ⊎ (¬ (Any (Goes way) before) × (16 ≤ length before) × CountAlike before after
+    × (others_after ≡ one_more others))
+
+-- The place of the path that goes this way: it is put at the end if it is new and there is room,
+-- and is beyond the end if there is none.
+abbrev pub FindsPlace : Way → List Path → ℕ → List Path → Type 0
+FindsPlace way before place after =
+    (IsFirst (Goes way) before place × (after ≡ before))
+    ⊎ (¬ (Any (Goes way) before) × (length before < 16) × (place ≡ length before)
+    × ((new : Path) × IsNew way new × (after ≡ before ++ new ∷ [])))
+    ⊎ (¬ (Any (Goes way) before) × (16 ≤ length before) × (place ≡ length before)
+    × (after ≡ before))

@@ -1,8 +1,8 @@
 -- The questions of one end: its HEARTBEATs (RFC 9260 section 8.3), or its requests to reconfigure
 -- streams (RFC 6525 section 3.1). The last 8 are remembered, the oldest first, and the packets of
 -- the first and the last one of others without an answer.
-use Rattle.std.specs.Prelude.{◌≡◌, ◌-◌, ◌<◌, ◌++◌, take, length, ◌∷◌, ℕ, Bool, true, false, not, List, [], Option, Some, None, All, IsSome, reverse, if◌then◌else◌}
-use Rattle.std.specs.List.{find, HoldsAt}
+use Rattle.std.specs.Prelude.{◌≡◌, ◌-◌, ◌++◌, ◌∷◌, ℕ, Bool, true, false, not, List, [], Option, Some, None, All, IsSome, reverse, if◌then◌else◌}
+use Rattle.std.specs.List.{find}
 use Rattle.std.specs.Option.{option_or}
 use Rattle.dump_capture.specs.Number.{one_more}
 use Rattle.dump_analysis.specs.declared.packet_number.PacketNumber.{PacketNumber}
@@ -41,12 +41,6 @@ Asks before key number after =
     })
 
 -- ---- an answer
-
--- the place of the oldest question that has the key, and no answer
-abbrev pub IsOldest : ℕ → List Question → ℕ → Type 0
-IsOldest key asked place =
-    (place < length asked) × All (λ q. ¬ (IsOpen key q)) (take place asked)
-    × HoldsAt (IsOpen key) asked place
 
 -- The oldest question with the key that has none has one now; all else is as it was.
 abbrev pub AnswersOldest : ℕ → Unanswered → Unanswered → Type 0

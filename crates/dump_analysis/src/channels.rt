@@ -1,7 +1,8 @@
 //! The channels of an association, and those of all.
 
 ghost use Rattle.std.specs.Prelude.{◌≡◌, ◌≤◌, ◌<◌, ◌+◌, ◌-◌, ◌^◌, ◌||◌, vec_len, Any, IfOk, OnOk, IfSome, IfNone, IsTrue};
-ghost use Rattle.dump_analysis.specs.Channels.{messages_on, messages_seen, bytes_on, bytes_seen, AreAlike, IsOf, IsFirst, Adds, CountsAt, AddsToFirst, AddsToNew};
+ghost use Rattle.dump_analysis.specs.Firsts.{IsFirst};
+ghost use Rattle.dump_analysis.specs.Channels.{messages_on, messages_seen, bytes_on, bytes_seen, AreAlike, IsOf, Adds, CountsAt, AddsToFirst, AddsToNew};
 
 use crate::association::Side;
 use crate::channel::{Channel, News, Tally};

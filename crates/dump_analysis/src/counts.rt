@@ -3,6 +3,7 @@
 ghost use Rattle.std.specs.Prelude.{◌≡◌};
 ghost use Rattle.dcsctp_borrowed.specs.Part.{item_of, part_of};
 ghost use Rattle.dump_capture.specs.Number.{one_more};
+ghost use Rattle.dump_analysis.specs.Paths.{AreAddresses};
 ghost use Rattle.dump_analysis.specs.Counts.{nothing, with_chunk, with_data, with_i_data, with_forward_tsn, with_sack, with_nr_sack, with_report, with_error, with_header, with_window, CountsChunks, CountsPacket, packet_of};
 
 use crate::chunk_type::{
@@ -45,7 +46,9 @@ pub struct SeenPacket<'a> {
 
 impl<'a> SeenPacket<'a> {
     /// Returns the addresses of the sender and of the receiver.
-    pub fn addresses(&self) -> (Option<IpAddr>, Option<IpAddr>) {
+    pub fn addresses(&self) -> (Option<IpAddr>, Option<IpAddr>)
+        ensures { AreAddresses self.now.found.addresses result.0 result.1 }
+    {
         match self.found.addresses {
             None => (None, None),
             Some(

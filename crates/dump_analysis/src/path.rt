@@ -1,7 +1,8 @@
 //! A path of an association: what one end sent from one address to another.
 
-ghost use Rattle.std.specs.Prelude.{◌≡◌};
-ghost use Rattle.dump_analysis.specs.Counts.{CountsPacket, nothing, packet_of};
+ghost use Rattle.std.specs.Prelude.{◌≡◌, ◌↔◌, IsTrue};
+ghost use Rattle.dump_analysis.specs.Counts.{CountsPacket, packet_of};
+ghost use Rattle.dump_analysis.specs.Paths.{Takes, Goes, IsNew};
 ghost use Rattle.dump_capture.specs.Number.{one_more};
 
 use crate::association::Side;
@@ -25,7 +26,7 @@ pub struct Way {
 impl Way {
     /// Returns which path a packet takes.
     pub fn of(sender: Side, packet: &SeenPacket<'_>) -> Way
-        ensures { result.sender ≡ sender }
+        ensures { Takes sender packet.now result }
     {
         let (from, to) = packet.addresses();
         Way { sender, from, to }
@@ -56,7 +57,7 @@ pub struct Path {
 impl Path {
     /// Returns a path of which a packet is the first, without it.
     pub fn new(way: Way, packet: &SeenPacket<'_>) -> Path
-        ensures { result.counts ≡ nothing }
+        ensures { IsNew way result }
     {
         let first = Moment::of(packet);
         Path {
@@ -70,10 +71,18 @@ impl Path {
         }
     }
 
+    /// Returns whether it is the one that goes this way.
+    pub fn goes(&self, way: Way) -> bool
+        ensures { IsTrue result ↔ Goes way self.now }
+    {
+        self.way == way
+    }
+
     /// Counts a packet and its chunks.
     pub fn count(&mut self, packet: &SeenPacket<'_>)
         ensures counts { CountsPacket self.old.counts (packet_of packet.now) self.new.counts }
         ensures packets { self.new.counts.packets ≡ one_more self.old.counts.packets }
+        ensures way { self.new.way ≡ self.old.way }
     {
         self.last = Moment::of(packet);
         self.counts.count_packet(packet);

@@ -1,7 +1,11 @@
 //! The paths of an association.
 
-ghost use Rattle.std.specs.Prelude.{◌≡◌, ◌≤◌, ◌<◌, ◌+◌, ◌-◌, ◌^◌, if◌then◌else◌, vec_len, IfOk};
-ghost use Rattle.dump_analysis.specs.Paths.{packets_on, seen_on};
+ghost use Rattle.std.specs.Prelude.{◌≡◌, ◌≤◌, ◌<◌, ◌+◌, ◌-◌, ◌^◌, if◌then◌else◌, vec_len, Any, IfOk, OnOk, IfSome, IfNone, IsTrue};
+ghost use Rattle.dump_capture.specs.Number.{one_more};
+ghost use Rattle.dump_analysis.specs.Counts.{packet_of};
+ghost use Rattle.dump_analysis.specs.Firsts.{IsFirst};
+ghost use Rattle.dump_analysis.specs.Paths.{packets_on, seen_on, Takes, Goes, CountAlike, CountsAt, CountsOnce, FindsPlace};
+ghost use Rattle.dump_analysis.specs.declared.path.Way.{Way};
 
 use crate::acknowledgement::Acknowledgement;
 use crate::association::Side;
@@ -62,19 +66,33 @@ impl Paths {
         ensures counted { seen_on self.old.list.items self.old.others < 2 ^ 64 - 1
             → IfOk result (λ _. seen_on self.new.list.items self.new.others
             ≡ seen_on self.old.list.items self.old.others + 1) }
+        ensures path { OnOk result ((way : Way) × Takes sender packet.now way
+            × CountsOnce (packet_of packet.now) way self.old.list.items self.old.others
+            self.new.list.items self.new.others) }
     {
         let way = Way::of(sender, packet);
         let place = self.place_of(way, packet)?;
         self.count(place, packet);
+        self.note_chunks(place, sender, packet);
+        Ok(())
+    }
+
+    /// Notes the chunks of a packet on the path in a place of the list.
+    fn note_chunks(&mut self, place: usize, sender: Side, packet: &SeenPacket<'_>)
+        ensures others { self.new.others ≡ self.old.others }
+        ensures packets { packets_on self.new.list.items ≡ packets_on self.old.list.items }
+        ensures alike { CountAlike self.old.list.items self.new.list.items }
+    {
         for chunk in packet.chunks() {
             self.note(place, sender, packet, chunk);
         }
-        Ok(())
     }
 
     /// Returns the place of a path in the list, where it is put if it is new and there is room;
     /// beyond the list if there is none.
     fn place_of(&mut self, way: Way, packet: &SeenPacket<'_>) -> Result<usize, AllocError>
+        ensures place { IfOk result
+            (λ place. FindsPlace way self.old.list.items place self.new.list.items) }
         ensures others { self.new.others ≡ self.old.others }
         ensures packets { packets_on self.new.list.items ≡ packets_on self.old.list.items }
     {
@@ -89,9 +107,12 @@ impl Paths {
     }
 
     /// Returns the place of a path in the list, if it is there.
-    fn find(&self, way: Way) -> Option<usize> {
+    fn find(&self, way: Way) -> Option<usize>
+        ensures some { IfSome result (IsFirst (Goes way) self.now.list.items) }
+        ensures none { IfNone result (¬ (Any (Goes way) self.now.list.items)) }
+    {
         for (place, path) in self.list.iter().enumerate() {
-            if path.way == way {
+            if path.goes(way) {
                 return Some(place);
             }
         }
@@ -100,7 +121,12 @@ impl Paths {
 
     /// Counts a packet on the path in a place of the list, or among those on others.
     fn count(&mut self, place: usize, packet: &SeenPacket<'_>)
-        ensures { seen_on self.old.list.items self.old.others < 2 ^ 64 - 1
+        ensures on_path { place < vec_len self.old.list → CountsAt (packet_of packet.now) place
+            self.old.list.items self.new.list.items × (self.new.others ≡ self.old.others) }
+        ensures on_others { vec_len self.old.list ≤ place
+            → (self.new.list.items ≡ self.old.list.items)
+            × (self.new.others ≡ one_more self.old.others) }
+        ensures counted { seen_on self.old.list.items self.old.others < 2 ^ 64 - 1
             → seen_on self.new.list.items self.new.others
             ≡ seen_on self.old.list.items self.old.others + 1 }
     {
@@ -113,6 +139,7 @@ impl Paths {
     fn note(&mut self, place: usize, sender: Side, packet: &SeenPacket<'_>, chunk: Item<'_>)
         ensures others { self.new.others ≡ self.old.others }
         ensures packets { packets_on self.new.list.items ≡ packets_on self.old.list.items }
+        ensures alike { CountAlike self.old.list.items self.new.list.items }
     {
         let value = chunk.value.bytes;
         match chunk.first {
@@ -139,6 +166,7 @@ impl Paths {
     fn note_data(&mut self, place: usize, sender: Side, packet: &SeenPacket<'_>, tsn: u32)
         ensures others { self.new.others ≡ self.old.others }
         ensures packets { packets_on self.new.list.items ≡ packets_on self.old.list.items }
+        ensures alike { CountAlike self.old.list.items self.new.list.items }
     {
         if self.step_of(sender, packet.number, tsn) == Step::Repeated {
             repeat(&mut self.list, place);
@@ -163,6 +191,10 @@ impl Paths {
 /// Counts a packet on the path in a place. Returns false if there is none.
 fn count_on(list: &mut Vec<Path>, place: usize, packet: &SeenPacket<'_>) -> bool
     ensures size { vec_len list.new ≡ vec_len list.old }
+    ensures counted { IsTrue result
+        → CountsAt (packet_of packet.now) place list.old.items list.new.items }
+    ensures beyond { ¬ (IsTrue result)
+        → (vec_len list.old ≤ place) × (list.new.items ≡ list.old.items) }
     ensures packets { packets_on list.old.items < 2 ^ 64 - 1 → packets_on list.new.items
         ≡ packets_on list.old.items + (if result then 1 else 0) }
 {
@@ -179,6 +211,7 @@ fn count_on(list: &mut Vec<Path>, place: usize, packet: &SeenPacket<'_>) -> bool
 fn repeat(list: &mut Vec<Path>, place: usize)
     ensures size { vec_len list.new ≡ vec_len list.old }
     ensures packets { packets_on list.new.items ≡ packets_on list.old.items }
+    ensures alike { CountAlike list.old.items list.new.items }
 {
     if let Some(path) = list.get_mut(place) {
         increase(&mut path.repeated);
@@ -189,6 +222,7 @@ fn repeat(list: &mut Vec<Path>, place: usize)
 fn wait(list: &mut Vec<Path>, place: usize, packet: &SeenPacket<'_>, tsn: u32)
     ensures size { vec_len list.new ≡ vec_len list.old }
     ensures packets { packets_on list.new.items ≡ packets_on list.old.items }
+    ensures alike { CountAlike list.old.items list.new.items }
 {
     if let Some(nanoseconds) = packet.nanoseconds
         && let Some(path) = list.get_mut(place)
@@ -201,6 +235,7 @@ fn wait(list: &mut Vec<Path>, place: usize, packet: &SeenPacket<'_>, tsn: u32)
 fn ask(list: &mut Vec<Path>, place: usize, key: u64, packet: &SeenPacket<'_>)
     ensures size { vec_len list.new ≡ vec_len list.old }
     ensures packets { packets_on list.new.items ≡ packets_on list.old.items }
+    ensures alike { CountAlike list.old.items list.new.items }
 {
     if let Some(path) = list.get_mut(place) {
         path.heartbeats.ask(key, packet.number);
@@ -211,6 +246,7 @@ fn ask(list: &mut Vec<Path>, place: usize, key: u64, packet: &SeenPacket<'_>)
 fn answer(list: &mut Vec<Path>, asker: Side, key: u64)
     ensures size { vec_len list.new ≡ vec_len list.old }
     ensures packets { packets_on list.new.items ≡ packets_on list.old.items }
+    ensures alike { CountAlike list.old.items list.new.items }
 {
     for place in 0..list.len() {
         if answer_at(list, place, asker, key) {
@@ -224,6 +260,7 @@ fn answer(list: &mut Vec<Path>, asker: Side, key: u64)
 fn answer_at(list: &mut Vec<Path>, place: usize, asker: Side, key: u64) -> bool
     ensures size { vec_len list.new ≡ vec_len list.old }
     ensures packets { packets_on list.new.items ≡ packets_on list.old.items }
+    ensures alike { CountAlike list.old.items list.new.items }
 {
     let Some(path) = list.get_mut(place) else {
         return false;
@@ -239,6 +276,7 @@ fn answer_at(list: &mut Vec<Path>, place: usize, asker: Side, key: u64) -> bool
 fn tell(list: &mut Vec<Path>, sender: Side, packet: &SeenPacket<'_>, news: News<'_>)
     ensures size { vec_len list.new ≡ vec_len list.old }
     ensures packets { packets_on list.new.items ≡ packets_on list.old.items }
+    ensures alike { CountAlike list.old.items list.new.items }
 {
     for place in 0..list.len() {
         tell_at(list, place, sender, packet, news);
@@ -255,6 +293,7 @@ fn tell_at(
 )
     ensures size { vec_len list.new ≡ vec_len list.old }
     ensures packets { packets_on list.new.items ≡ packets_on list.old.items }
+    ensures alike { CountAlike list.old.items list.new.items }
 {
     let Some(path) = list.get_mut(place) else {
         return;

@@ -1,7 +1,8 @@
 //! What one end asked, and which of it was answered.
 
 ghost use Rattle.std.specs.Prelude.{◌≡◌, ◌-◌, ◌↔◌, All, Any, IsTrue, IfSome, IfNone, None, true};
-ghost use Rattle.dump_analysis.specs.Questions.{HasKey, IsOpen, Asks, forgets, IsOldest, AnswersOldest, first_open, last_open};
+ghost use Rattle.dump_analysis.specs.Firsts.{IsFirst};
+ghost use Rattle.dump_analysis.specs.Questions.{HasKey, IsOpen, Asks, forgets, AnswersOldest, first_open, last_open};
 
 use crate::counts::increase;
 use crate::packet_number::PacketNumber;
@@ -109,7 +110,7 @@ impl Unanswered {
 
     /// Returns the place of the oldest question that has this key, and no answer.
     fn oldest(&self, key: u64) -> Option<usize>
-        ensures some { IfSome result (IsOldest key self.now.asked) }
+        ensures some { IfSome result (IsFirst (IsOpen key) self.now.asked) }
         ensures none { IfNone result (¬ (Any (IsOpen key) self.now.asked)) }
     {
         for place in 0..MOST {

@@ -1,8 +1,9 @@
 -- The paths have the packets that they had before the chunks were looked at.
 use Rattle.std.proofs.Common.{◌≡◌}
-use Rattle.dump_analysis.specs.Paths.{packets_on}
-use Rattle.dump_analysis.proofs.paths.Paths.see.Given as goal
+use Rattle.dump_analysis.specs.Paths.{packets_on, CountAlike}
+use Rattle.dump_analysis.proofs.paths.Paths.note_chunks.Given as goal
 
 abbrev pub invariant-loop-chunk : goal.invariant-loop-chunk
 invariant-loop-chunk l =
     (l.self.others ≡ l.initial.self.others) × (packets_on l.self.list.items ≡ packets_on l.initial.self.list.items)
+    × CountAlike l.initial.self.list.items l.self.list.items
