@@ -13,7 +13,9 @@ module _ {X : Type 0} (P : X → Type 0) (xs : List X) (i : ℕ) where
       let same = get_or-take (i + 1) xs k e below in
       elim (cases_eq k i) [
         | inl here ↦
-            not_it (subst P (same ∙ ap (λ (n : ℕ). slice_index_or xs n e) here ∙ get_or_default xs i e d within) holds)
+            not_it (subst P
+            (same ∙ ap (λ (n : ℕ). slice_index_or xs n e) here ∙ get_or_default xs i e d within)
+            holds)
         | inr apart ↦
             let less : k < i = omega (arith, below, apart) in
             before k e (omega (arith, less, within, length-take i xs))
@@ -28,4 +30,6 @@ module _ {X : Type 0} (P : X → Type 0) (xs : List X) (i : ℕ) where
   pub none_of_all : length xs ≤ i → All (λ y. ¬ (P y)) (take i xs) → ¬ (Any P xs)
   none_of_all past before any =
       before any.0 any.1 (omega (arith, any.2, past, length-take i xs))
-      (subst P (sym (ap (λ (l : List X). slice_index_or l any.0 any.1) (take_all i xs past) ∙ any.3)) any.4)
+      (subst P
+      (sym (ap (λ (l : List X). slice_index_or l any.0 any.1) (take_all i xs past) ∙ any.3))
+      any.4)

@@ -1,10 +1,10 @@
 -- Paths whose ways and counts are as they were, but that one has a packet more.
-use Rattle.std.proofs.Common.{◌≡◌, ◌+◌, ◌<◌, ◌≤◌, ◌⊎◌, ◌++◌, ◌∷◌, [], ℕ, List, length, slice_index_or, slice_set, inl, inr, refl, sym, ap, subst, ◌∙◌, arith, get_or-set_same, get_or-set_other, length-set}
+use Rattle.std.proofs.Common.{◌≡◌, ◌<◌, ◌≤◌, ℕ, List, length, slice_index_or, slice_set, inl, inr, refl, sym, ap, subst, ◌∙◌, arith, get_or-set_same, get_or-set_other, length-set}
 use Rattle.std.proofs.lemmas.Bool.{cases_eq}
 use Rattle.std.proofs.lemmas.List.{get_or_default, length_push}
 use Rattle.dump_capture.specs.Number.{one_more}
 use Rattle.dump_analysis.specs.Counts.{Packet, CountsPacket}
-use Rattle.dump_analysis.specs.Paths.{Goes, IsNew, CountAlike, CountsAt, CountsOnce, FindsPlace}
+use Rattle.dump_analysis.specs.Paths.{CountAlike, CountsAt, CountsOnce, FindsPlace}
 use Rattle.dump_analysis.specs.declared.counts.Counts.{Counts}
 use Rattle.dump_analysis.specs.declared.path.{Path.{Path}, Way.{Way}}
 
@@ -31,7 +31,8 @@ module _ (xs : List Path) (i : ℕ) (y d : Path) (within : i < length xs) where
   ways : y.way ≡ (slice_index_or xs i d).way → (k : ℕ) (e : Path) → k < length xs
       → (slice_index_or (slice_set xs i y) k e).way ≡ (slice_index_or xs k e).way
   ways way k e _ = elim (cases_eq k i) [
-    | inl same ↦ ap (λ (p : Path). p.way) (there k e same) ∙ way ∙ ap (λ (p : Path). p.way) (was k e same)
+    | inl same ↦ ap (λ (p : Path). p.way) (there k e same) ∙ way
+        ∙ ap (λ (p : Path). p.way) (was k e same)
     | inr apart ↦ ap (λ (p : Path). p.way) (get_or-set_other xs i k y e apart)
   ]
 
@@ -41,7 +42,8 @@ module _ (xs : List Path) (i : ℕ) (y d : Path) (within : i < length xs) where
     length-set xs i y,
     ways way,
     λ k e _. elim (cases_eq k i) [
-      | inl same ↦ ap (λ (p : Path). p.counts) (there k e same) ∙ counts ∙ ap (λ (p : Path). p.counts) (was k e same)
+      | inl same ↦ ap (λ (p : Path). p.counts) (there k e same) ∙ counts
+          ∙ ap (λ (p : Path). p.counts) (was k e same)
       | inr apart ↦ ap (λ (p : Path). p.counts) (get_or-set_other xs i k y e apart)
     ],
   )
@@ -54,9 +56,9 @@ module _ (xs : List Path) (i : ℕ) (y d : Path) (within : i < length xs) where
     ways way,
     λ k e _ apart. ap (λ (p : Path). p.counts) (get_or-set_other xs i k y e apart),
     λ e. subst (λ (c : Counts). CountsPacket c p (slice_index_or (slice_set xs i y) i e).counts)
-      (ap (λ (p : Path). p.counts) (was i e refl))
-      (subst (λ (c : Counts). CountsPacket (slice_index_or xs i d).counts p c)
-      (sym (ap (λ (p : Path). p.counts) (there i e refl))) counts),
+        (ap (λ (p : Path). p.counts) (was i e refl))
+        (subst (λ (c : Counts). CountsPacket (slice_index_or xs i d).counts p c)
+        (sym (ap (λ (p : Path). p.counts) (there i e refl))) counts),
   )
 
 pub counted_then : (p : Packet) (place : ℕ) (xs ys zs : List Path) → CountsAt p place xs ys
@@ -68,12 +70,13 @@ counted_then p place xs ys zs a b =
       λ k d within. b.1 k d (omega (arith, size, within)) ∙ a.2 k d within,
       λ k d within apart. b.2 k d (omega (arith, size, within)) ∙ a.3 k d within apart,
       λ d. subst (λ (c : Counts). CountsPacket (slice_index_or xs place d).counts p c)
-        (sym (b.2 place d (omega (arith, size, a.0)))) (a.4 d),
+          (sym (b.2 place d (omega (arith, size, a.0)))) (a.4 d),
     )
 
 -- a packet is counted in the place that was found, and then its chunks are noted
-pub once : (p : Packet) (way : Way) (before : List Path) (others place : ℕ) (found counted : List Path)
-    (others_after : ℕ) (after : List Path) → FindsPlace way before place found
+pub once : (p : Packet) (way : Way) (before : List Path) (others place : ℕ)
+    (found counted : List Path) (others_after : ℕ) (after : List Path)
+    → FindsPlace way before place found
     → (place < length found → CountsAt p place found counted × (others_after ≡ others))
     → (length found ≤ place → (counted ≡ found) × (others_after ≡ one_more others))
     → CountAlike counted after → CountsOnce p way before others after others_after
@@ -82,22 +85,40 @@ once p way before others place found counted others_after after finds on_path on
       | inl known ↦
           let same = known.1 in
           let one = on_path (subst (λ (l : List Path). place < length l) (sym same) known.0.0) in
-          inl (place, known.0, subst (λ (l : List Path). CountsAt p place l after) same
-          (counted_then p place found counted after one.0 alike), one.1)
+          inl (
+            place,
+            known.0,
+            subst (λ (l : List Path). CountsAt p place l after) same
+                (counted_then p place found counted after one.0 alike),
+            one.1,
+          )
       | inr other ↦ elim other [
         | inl new ↦
             let at = new.2 in
             let is = new.3.2 in
-            let one = on_path (omega (arith, at, ap (λ (l : List Path). length l) is, length_push before new.3.0)) in
-            inr (inl (new.0, new.1, (new.3.0, new.3.1,
-            subst (λ (l : List Path). CountsAt p (length before) l after) is
-            (subst (λ (n : ℕ). CountsAt p n found after) at
-            (counted_then p place found counted after one.0 alike))), one.1))
+            let size = ap (λ (l : List Path). length l) is in
+            let one = on_path (omega (arith, at, size, length_push before new.3.0)) in
+            inr (inl (
+              new.0,
+              new.1,
+              (
+                new.3.0,
+                new.3.1,
+                subst (λ (l : List Path). CountsAt p (length before) l after) is
+                    (subst (λ (n : ℕ). CountsAt p n found after) at
+                    (counted_then p place found counted after one.0 alike)),
+              ),
+              one.1,
+            ))
         | inr full ↦
             let at = full.2 in
             let same = full.3 in
             let none = on_others (omega (arith, at, ap (λ (l : List Path). length l) same)) in
-            inr (inr (full.0, full.1,
-            subst (λ (l : List Path). CountAlike l after) (none.0 ∙ same) alike, none.1))
+            inr (inr (
+              full.0,
+              full.1,
+              subst (λ (l : List Path). CountAlike l after) (none.0 ∙ same) alike,
+              none.1,
+            ))
       ]
     ]

@@ -1,5 +1,5 @@
 -- The parts of a list of questions.
-use Rattle.std.proofs.Common.{◌≡◌, ◌+◌, ◌-◌, ◌<◌, ℕ, suc, List, [], ◌∷◌, ◌++◌, length, take, drop, slice_index_or, slice_set, sym, ap, ◌∙◌, refl, arith}
+use Rattle.std.proofs.Common.{◌≡◌, ◌+◌, ◌<◌, ℕ, suc, List, [], ◌∷◌, ◌++◌, length, take, drop, slice_index_or, slice_set, sym, ap, ◌∙◌, refl, arith}
 use Rattle.std.proofs.lemmas.List.{drop_more, take-append-drop, set_split, set_at}
 use Rattle.dump_analysis.specs.declared.unanswered.Question.{Question}
 
@@ -7,7 +7,8 @@ use Rattle.dump_analysis.specs.declared.unanswered.Question.{Question}
 pub split : (qs : List Question) (place : ℕ) (d : Question) → place < length qs
     → qs ≡ take place qs ++ slice_index_or qs place d ∷ drop (place + 1) qs
 split qs place d within =
-    sym (take-append-drop place qs) ∙ ap (λ rest. take place qs ++ rest) (drop_more qs place d within)
+    sym (take-append-drop place qs)
+    ∙ ap (λ rest. take place qs ++ rest) (drop_more qs place d within)
 
 pub split_set : (qs : List Question) (place : ℕ) (q : Question) → place < length qs
     → slice_set qs place q ≡ take place qs ++ q ∷ drop (place + 1) qs
@@ -22,6 +23,7 @@ turned [] all q long is = absurd (omega (arith, long))
 turned (x ∷ qs) all q long is =
     ap (λ (l : List Question). slice_set l 7 q) is ∙ set_at qs x [] q 7 (omega (arith, long))
 
-pub front : (qs : List Question) (d : Question) → 0 < length qs → qs ≡ slice_index_or qs 0 d ∷ drop 1 qs
+pub front : (qs : List Question) (d : Question) → 0 < length qs
+    → qs ≡ slice_index_or qs 0 d ∷ drop 1 qs
 front [] d some = absurd (omega (arith, some))
 front (x ∷ qs) d some = refl

@@ -1,5 +1,5 @@
 -- What is counted of the messages of a channel, and of all channels of an association.
-use Rattle.std.specs.Prelude.{◌≡◌, ◌+◌, ◌<◌, ◌⊎◌, ◌++◌, ◌∷◌, ◌||◌, ℕ, Bool, false, nat_lt, if◌then◌else◌, List, [], slice_get, slice_set, Option, Some, None, IsSome}
+use Rattle.std.specs.Prelude.{◌≡◌, ◌+◌, ◌<◌, ◌⊎◌, ◌++◌, ◌∷◌, ◌||◌, ℕ, false, nat_lt, if◌then◌else◌, List, [], slice_get, slice_set, Option, Some, None, IsSome}
 use Rattle.std.specs.List.{sum_by}
 use Rattle.dump_capture.specs.Number.{capped, one_more}
 use Rattle.dump_analysis.specs.Firsts.{IsFirst}

@@ -15,6 +15,7 @@ pub mod StaleCookies
 pub mod Table
 pub mod Tsns
 pub mod Filter
+pub mod Routes
 pub mod Firsts
 pub mod Seen
 pub mod Warnings

@@ -1,5 +1,5 @@
 -- How many packets the table of associations has counted.
-use Rattle.std.specs.Prelude.{◌≡◌, ◌+◌, ℕ, List, Box, Option, Some, None}
+use Rattle.std.specs.Prelude.{◌≡◌, ◌+◌, ◌++◌, ◌∷◌, ℕ, true, List, [], length, slice_get, slice_set, Box, Option, Some, None}
 use Rattle.std.specs.List.{sum_by}
 use Rattle.std.specs.declared.alloc.Global.{Global}
 use Rattle.dump_capture.specs.Number.{one_more}
@@ -26,3 +26,19 @@ packets_left None = 0
 abbrev pub CountsUnknown : Option Membership → ℕ → ℕ → Type 0
 CountsUnknown (Some _) before after = after ≡ before
 CountsUnknown None before after = after ≡ one_more before
+
+-- ---- an association takes its place
+
+-- it is put at the end, and none leaves
+abbrev pub TakesEnd : List (Box Association Global) → Box Association Global → ℕ
+    → Option (Box Association Global) → List (Box Association Global) → Type 0
+TakesEnd before new slot left after =
+    (slot ≡ length before) × (left ≡ None) × (after ≡ before ++ new ∷ [])
+
+-- it is put into the slot of another, which leaves and says so
+abbrev pub TakesSlot : ℕ → List (Box Association Global) → Box Association Global
+    → Option (Box Association Global) → List (Box Association Global) → Type 0
+TakesSlot slot before new left after =
+    (old : Box Association Global) × (slice_get before slot ≡ Some old)
+    × (left ≡ Some (record old { value = record (old.value) { has_left = true } }))
+    × (after ≡ slice_set before slot new)

@@ -3,10 +3,11 @@
 ghost use Rattle.std.specs.Prelude.{◌≤◌, ◌<◌, ◌≡◌, ◌+◌, ◌-◌, ◌^◌, max, if◌then◌else◌, is_some, vec_len, IfOk};
 ghost use Rattle.std.specs.List.{Any};
 ghost use Rattle.std.specs.List.Sorted.{IsNonDecreasingBy};
-ghost use Rattle.std.specs.Option.{IfSome};
+ghost use Rattle.std.specs.Option.{IfSome, unwrap_or};
 ghost use Rattle.dump_analysis.specs.Sides.{HasLeft, SaysOfZero};
 ghost use Rattle.dump_capture.specs.Number.{one_more};
-ghost use Rattle.dump_analysis.specs.Table.{CountsUnknown, counted, packets_of, packets_in, packets_left};
+ghost use Rattle.dump_analysis.specs.Order.{first_of};
+ghost use Rattle.dump_analysis.specs.Table.{TakesEnd, TakesSlot, CountsUnknown, counted, packets_of, packets_in, packets_left};
 
 use crate::association::{Association, Began, Side};
 use crate::chunk_type::COOKIE_ECHO;
@@ -359,6 +360,14 @@ impl Associations {
         requires { packets_of association.value ≡ 0 }
         ensures unknown { self.new.unknown ≡ self.old.unknown }
         ensures left { IfOk result (λ placed. HasLeft placed.1) }
+        ensures room { vec_len self.old.table < self.old.most
+            → IfOk result (λ placed. TakesEnd self.old.table.items association placed.0 placed.1
+            self.new.table.items) }
+        ensures full { self.old.most ≤ vec_len self.old.table
+            → IfOk result (λ placed. (placed.0 ≡ unwrap_or (first_of
+            self.old.order.living.entries self.old.order.ended.entries) 0)
+            × (placed.0 < vec_len self.old.table → TakesSlot placed.0 self.old.table.items
+            association placed.1 self.new.table.items)) }
         ensures counted { IfOk result (λ placed. counted self.new.table.items self.new.unknown
             + packets_left placed.1 ≡ counted self.old.table.items self.old.unknown) }
     {
@@ -370,15 +379,23 @@ impl Associations {
         }
         // A full table has a slot at least.
         let slot = self.order.first().unwrap_or(0);
-        if let Some(leaving) = self.table.get(slot) {
-            self.keys.forget(slot, leaving)?;
-        }
+        self.forget(slot)?;
         self.order.touch(slot)?;
         let left = replace(&mut self.table, slot, association);
-        if left.is_some() {
-            increase(&mut self.left);
-        }
+        self.left = self.left.saturating_add(u64::from(left.is_some()));
         Ok((slot, left))
+    }
+
+    /// Forgets by what the association in a slot is known, if there is one.
+    fn forget(&mut self, slot: usize) -> Result<(), AllocError>
+        ensures table { self.new.table ≡ self.old.table }
+        ensures order { self.new.order ≡ self.old.order }
+        ensures unknown { self.new.unknown ≡ self.old.unknown }
+    {
+        match self.table.get(slot) {
+            Some(leaving) => self.keys.forget(slot, leaving),
+            None => Ok(()),
+        }
     }
 }
 
@@ -474,6 +491,8 @@ fn replace(
 ) -> Option<Box<Association>>
     requires { packets_of association.value ≡ 0 }
     ensures size { vec_len table.new ≡ vec_len table.old }
+    ensures slot { slot < vec_len table.old
+        → TakesSlot slot table.old.items association result table.new.items }
     ensures left { HasLeft result }
     ensures packets { packets_in table.new.items + packets_left result
         ≡ packets_in table.old.items }

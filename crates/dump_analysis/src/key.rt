@@ -1,5 +1,8 @@
 //! By what it is known which association a packet belongs to.
 
+ghost use Rattle.std.specs.Prelude.{◌≡◌, ◌↔◌, IsTrue};
+ghost use Rattle.dump_analysis.specs.Routes.{origins_of, back_of, IsExclusive, flow_of};
+
 use crate::association::Side;
 use crate::chunk_type::{ABORT, INIT, INIT_ACK, SHUTDOWN_COMPLETE};
 use crate::counts::SeenPacket;
@@ -27,7 +30,9 @@ pub enum Origin {
 
 impl Origin {
     /// Returns which end of a log sent a packet, and which one it went to.
-    fn of(direction: Option<Direction>) -> (Origin, Origin) {
+    fn of(direction: Option<Direction>) -> (Origin, Origin)
+        ensures { result ≡ origins_of direction }
+    {
         match direction {
             Some(Direction::Outgoing) => (Origin::Local, Origin::Remote),
             Some(Direction::Incoming) => (Origin::Remote, Origin::Local),
@@ -60,7 +65,9 @@ pub struct Route {
 
 impl Route {
     /// Returns the way back.
-    pub fn back(self) -> Route {
+    pub fn back(self) -> Route
+        ensures { result ≡ back_of self }
+    {
         Route {
             transport: self.transport,
             from: self.to,
@@ -69,13 +76,17 @@ impl Route {
     }
 
     /// Returns whether nothing but tags tells the two ends apart.
-    pub fn has_equal_ends(self) -> bool {
+    pub fn has_equal_ends(self) -> bool
+        ensures { IsTrue result ↔ (self.from ≡ self.to) }
+    {
         self.from == self.to
     }
 
     /// Returns whether at most one association lives on it at a time: its addresses are known (RFC
     /// 9260 section 1.3), or its transport.
-    pub fn is_exclusive(self) -> bool {
+    pub fn is_exclusive(self) -> bool
+        ensures { IsTrue result ↔ IsExclusive self }
+    {
         let has_addresses = self.from.address.is_some() && self.to.address.is_some();
         let is_named = matches!(self.transport, TransportKey::Named(_));
         !self.has_equal_ends() && (has_addresses || is_named)
@@ -83,7 +94,9 @@ impl Route {
 
     /// Returns by what the packets are known that an end of an association on this route sends with
     /// this tag.
-    pub fn flow(self, sender: Side, tag: u32) -> FlowKey {
+    pub fn flow(self, sender: Side, tag: u32) -> FlowKey
+        ensures { result ≡ flow_of self sender tag }
+    {
         let route = match sender {
             Side::First => self,
             Side::Second => self.back(),

@@ -1,6 +1,6 @@
 //! An endpoint pair shared key (RFC 4895 section 6.1).
 
-ghost use Rattle.std.specs.Prelude.{◌≤◌, length};
+ghost use Rattle.std.specs.Prelude.{◌≡◌, ◌≤◌, ◌<◌, length, take, IfSome, IfNone};
 ghost use Rattle.dump_analysis.specs.declared.pair_key.TheConstants.{MOST_KEY};
 
 /// The most bytes of an endpoint pair shared key.
@@ -20,7 +20,11 @@ pub struct PairKey {
 
 impl PairKey {
     /// Returns a key; `None` if it is longer than 128 bytes.
-    pub fn new(identifier: u16, key: &[u8]) -> Option<PairKey> {
+    pub fn new(identifier: u16, key: &[u8]) -> Option<PairKey>
+        ensures some { IfSome result (λ k. (k.identifier ≡ identifier)
+            × (take k.size k.bytes ≡ key.now)) }
+        ensures none { IfNone result (MOST_KEY < length key.now) }
+    {
         if key.len() > MOST_KEY {
             return None;
         }
@@ -35,7 +39,8 @@ impl PairKey {
 
     /// Returns the bytes of the key.
     pub fn as_bytes(&self) -> &[u8]
-        ensures { length result.now ≤ MOST_KEY }
+        ensures bounded { length result.now ≤ MOST_KEY }
+        ensures bytes { result.now ≡ take self.now.size self.now.bytes }
     {
         &self.bytes[..self.size]
     }

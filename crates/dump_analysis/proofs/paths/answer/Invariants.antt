@@ -6,5 +6,6 @@ use Rattle.dump_analysis.proofs.paths.answer.Given as goal
 
 abbrev pub invariant-loop-place : goal.invariant-loop-place
 invariant-loop-place l =
-    (vec_len l.list ≡ vec_len l.initial.list) × (packets_on l.list.items ≡ packets_on l.initial.list.items)
+    (vec_len l.list ≡ vec_len l.initial.list)
+    × (packets_on l.list.items ≡ packets_on l.initial.list.items)
     × CountAlike l.initial.list.items l.list.items

@@ -1,5 +1,4 @@
 use Rattle.std.proofs.Common.{◌%◌}
-use Rattle.std.specs.List.{slice_index_or}
 use Rattle.dump_analysis.proofs.Marks.{is_set}
 use Rattle.dump_analysis.proofs.tsns.is_marked.Goals as goal
 

@@ -1,4 +1,4 @@
-use Rattle.std.proofs.Common.{arith, ◌<◌, ◌≤◌, length}
+use Rattle.std.proofs.Common.{arith}
 use Rattle.dump_analysis.specs.Channels.{IsOf}
 use Rattle.dump_analysis.proofs.Firsts.{none_more, none_of_all}
 use Rattle.dump_analysis.proofs.channels.Channels.find.Goals as goal
@@ -12,4 +12,5 @@ loop-place-preserved c =
 
 pub returns-clause-none : goal.returns-clause-none
 returns-clause-none c =
-    none_of_all (IsOf c.args.message.now) c.args.self.now.list.items c.loop-place.place (omega arith) c.loop-place.invariant
+    none_of_all (IsOf c.args.message.now) c.args.self.now.list.items c.loop-place.place
+    (omega arith) c.loop-place.invariant

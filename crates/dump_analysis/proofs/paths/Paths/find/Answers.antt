@@ -1,4 +1,4 @@
-use Rattle.std.proofs.Common.{◌<◌, ◌≤◌, length, arith}
+use Rattle.std.proofs.Common.{arith}
 use Rattle.dump_analysis.specs.Paths.{Goes}
 use Rattle.dump_analysis.proofs.Firsts.{none_more_at, none_of_all}
 use Rattle.dump_analysis.proofs.paths.Paths.find.Goals as goal
@@ -11,4 +11,5 @@ loop-place-preserved c =
 
 pub returns-clause-none : goal.returns-clause-none
 returns-clause-none c =
-    none_of_all (Goes c.args.way) c.args.self.now.list.items c.loop-place.place (omega arith) c.loop-place.invariant
+    none_of_all (Goes c.args.way) c.args.self.now.list.items c.loop-place.place (omega arith)
+    c.loop-place.invariant

@@ -5,5 +5,6 @@ use Rattle.dump_analysis.proofs.paths.Paths.note_chunks.Given as goal
 
 abbrev pub invariant-loop-chunk : goal.invariant-loop-chunk
 invariant-loop-chunk l =
-    (l.self.others ≡ l.initial.self.others) × (packets_on l.self.list.items ≡ packets_on l.initial.self.list.items)
+    (l.self.others ≡ l.initial.self.others)
+    × (packets_on l.self.list.items ≡ packets_on l.initial.self.list.items)
     × CountAlike l.initial.self.list.items l.self.list.items

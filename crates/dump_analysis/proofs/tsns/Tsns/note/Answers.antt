@@ -1,4 +1,4 @@
-use Rattle.std.proofs.Common.{◌<◌, refl, arith}
+use Rattle.std.proofs.Common.{refl, arith}
 use Rattle.dump_analysis.proofs.Marks.{moved_on}
 use Rattle.dump_analysis.proofs.tsns.Tsns.note.Goals as goal
 

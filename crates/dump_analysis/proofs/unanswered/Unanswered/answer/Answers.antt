@@ -1,4 +1,4 @@
-use Rattle.std.proofs.Common.{ℕ, ◌+◌, ◌<◌, take, drop, length, slice_index_or, None, false, true, arith, refl}
+use Rattle.std.proofs.Common.{◌+◌, take, drop, slice_index_or, None, false, true, refl}
 use Rattle.dump_analysis.specs.declared.unanswered.Question.{Question}
 use Rattle.dump_analysis.proofs.Questions.{split, split_set}
 use Rattle.dump_analysis.proofs.unanswered.Unanswered.answer.Goals as goal
@@ -9,6 +9,13 @@ returns-in-Some-clause-oldest c _ =
     let place = c.in-Some.place in
     let is = c.in-Some.ensures.some in
     let d : Question = record { key = 0; packet = None; is_answered = false } in
-    let q = slice_index_or qs place d in
-    (take place qs, q, drop (place + 1) qs, split qs place d is.0, is.1, is.2 d,
-    rw (c.saturating_sub-self.ensures, split_set qs place (record q { is_answered = true }) is.0) refl)
+    let q = slice_index_or qs place d in (
+      take place qs,
+      q,
+      drop (place + 1) qs,
+      split qs place d is.0,
+      is.1,
+      is.2 d,
+      rw (c.saturating_sub-self.ensures, split_set qs place (record q { is_answered = true }) is.0)
+          refl,
+    )

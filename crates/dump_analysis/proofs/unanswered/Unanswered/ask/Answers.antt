@@ -1,6 +1,6 @@
-use Rattle.std.proofs.Common.{◌≡◌, ◌++◌, ◌∷◌, [], List, length, take, drop, slice_index_or, slice_set, None, false, sym, ap, subst, ◌∙◌, refl, arith}
+use Rattle.std.proofs.Common.{◌≡◌, ◌++◌, ◌∷◌, [], List, length, take, drop, slice_index_or, slice_set, None, false, ap, ◌∙◌, refl, arith}
 use Rattle.dump_capture.specs.Number.{one_more}
-use Rattle.dump_analysis.specs.Questions.{question, forgets}
+use Rattle.dump_analysis.specs.Questions.{question}
 use Rattle.dump_analysis.specs.declared.unanswered.{Question.{Question}, Unanswered.{Unanswered}}
 use Rattle.dump_analysis.proofs.Questions.{turned, front}
 use Rattle.dump_analysis.proofs.unanswered.Unanswered.ask.Goals as goal
@@ -16,10 +16,10 @@ returns c =
     let same : c.forget.new.self.asked ≡ qs = ap (λ (u : Unanswered). u.asked) left in
     let long : length qs ≡ 8 = omega arith in
     let count : c.increase.new.count ≡ one_more before.count =
-        c.increase.ensures ∙ ap (λ (u : Unanswered). one_more u.count) left in
+    c.increase.ensures ∙ ap (λ (u : Unanswered). one_more u.count) left in
     let first = ap (λ (u : Unanswered). u.first_forgotten) left in
     let last = ap (λ (u : Unanswered). u.forgotten) left in
     let asked : slice_set c.rotate_left.new.self 7 q ≡ drop 1 qs ++ q ∷ [] =
-        turned qs c.rotate_left.new.self q long
-        (c.rotate_left.ensures.after ∙ ap (λ (l : List Question). drop 1 l ++ take 1 l) same) in
+    turned qs c.rotate_left.new.self q long
+    (c.rotate_left.ensures.after ∙ ap (λ (l : List Question). drop 1 l ++ take 1 l) same) in
     (oldest, drop 1 qs, front qs d (omega (arith, long)), rw (count, asked, first, last) refl)

@@ -6,4 +6,5 @@ use Rattle.dump_analysis.proofs.unanswered.Unanswered.last.Given as goal
 
 abbrev pub invariant-loop-question : goal.invariant-loop-question
 invariant-loop-question l =
-    l.last ≡ packet_or l.self.forgotten (find is_open (reverse (take l.question-index l.self.asked)))
+    l.last ≡ packet_or l.self.forgotten
+    (find is_open (reverse (take l.question-index l.self.asked)))
