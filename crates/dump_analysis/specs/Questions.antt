@@ -22,7 +22,8 @@ IsOpen key q = (q.is_answered ≡ false) × (q.key ≡ key)
 abbrev pub question : ℕ → PacketNumber → Question
 question key number = record { key = key; packet = Some number; is_answered = false }
 
--- one that is no longer remembered has no answer any more
+-- Of one that is no longer remembered, and has no answer, the packet is kept: it is the last such
+-- one, and the first if there was none.
 abbrev pub forgets : Question → Unanswered → Unanswered
 forgets q u =
     record u {
