@@ -16,6 +16,7 @@ pub mod Table
 pub mod Tsns
 pub mod Filter
 pub mod Routes
+pub mod Transports
 pub mod Firsts
 pub mod Seen
 pub mod Warnings

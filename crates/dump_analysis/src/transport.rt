@@ -1,5 +1,8 @@
 //! The names of transports, which tell the associations of a log apart.
 
+ghost use Rattle.std.specs.Prelude.{◌≡◌, ◌<◌, ◌⊎◌, length, take, All, Any, IfSome, IfNone};
+ghost use Rattle.dump_analysis.specs.Transports.{IsPrintable, AreUnnamed, AreOther};
+
 use std::alloc::{AllocError, Global};
 use std::collections::HashMap;
 use std::str;
@@ -31,7 +34,12 @@ pub struct TransportName {
 
 impl TransportName {
     /// Returns a name; `None` if it has more than 64 bytes, or others than printable ASCII.
-    fn of(name: &[u8]) -> Option<TransportName> {
+    fn of(name: &[u8]) -> Option<TransportName>
+        ensures some { IfSome result (λ kept. (take kept.size kept.bytes ≡ name.now)
+            × All IsPrintable name.now) }
+        ensures none { IfNone result ((64 < length name.now)
+            ⊎ Any (λ byte. ¬ (IsPrintable byte)) name.now) }
+    {
         let mut bytes = [0; LONGEST];
         if name.len() > LONGEST {
             return None;
@@ -86,7 +94,11 @@ impl TransportNames {
     }
 
     /// Returns the transport of a name, and which one it is: a new one gets the next number.
-    pub fn find(&self, name: &[u8]) -> (Transport, TransportKey) {
+    pub fn find(&self, name: &[u8]) -> (Transport, TransportKey)
+        ensures unnamed { length name.now ≡ 0 → AreUnnamed result }
+        ensures other { (64 < length name.now) ⊎ Any (λ byte. ¬ (IsPrintable byte)) name.now
+            → AreOther result }
+    {
         if name.is_empty() {
             return (Transport::Unnamed, TransportKey::Unnamed);
         }
