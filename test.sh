@@ -69,6 +69,11 @@ answers_rows_alone() {
     sed '/^ /d; /^#/!s/ = .*//' crates/test_rows/stdin | crates/test_rows/out/test_rows | cmp - crates/test_rows/stdout
 }
 
+# Whether the packages, and loops without them in their languages, get the same sums of packets, those of random chunks among them.
+sums_agree() {
+    bench/packages.py --turns 1 --rounds 0
+}
+
 # Runs what tries sctp_dump or the page, unless the library is tried alone.
 for_tool() {
     [ "$library" ] || "$@"
@@ -84,7 +89,7 @@ run_gate() {
         tests/refusals/test.sh && answers_rows_alone && tests/show/test.sh && for_tool tests/dump/test.sh || exit 1
         tools/take_libraries.py
         tests/c/test.sh && dist/make.py --jobs 4 --compare "${modules[@]}" && compare_wasm && dist/test.sh ${library:+--library} &&
-            tools/commands.py && tools/examples.py --try && for_tool page/test.sh &&
+            sums_agree && tools/commands.py && tools/examples.py --try && for_tool page/test.sh &&
             for_tool tests/peers/test.sh crates/sctp_dump/out/sctp_dump || exit 1
     fi
     cat "$work/last"
@@ -252,6 +257,7 @@ run_without_rt() {
     older=$(changed_crates)
     if has "$cc x86-64" 'texts of dist'; then start 'texts of dist' dist/test.sh ${library:+--library}; fi
     with "$cc" C tests/c/test.sh 100000
+    with "$cc x86-64 python3" 'sums of packets' sums_agree
     with "$cc x86-64 python3" 'commands of the pages' tools/commands.py
     for_tool with node 'scripts of the page' node page/tests/units.mjs
     for_tool with 'node python3' page page/test.sh

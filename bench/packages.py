@@ -22,12 +22,12 @@ packages and the plain loops have to accept the same ones.
 A program is called with ROUNDS MILLIS FILE.. A file has packets, each after its size in four bytes, most significant first. In each
 round a program goes over the file by each of its calls in turn, again and again for MILLIS milliseconds of processor time; it prints
 for each file and call their names, the sum, and the nanoseconds a packet of the best round, tab separated. The programs take turns, and
-of these too the best counts. With 0 rounds nothing is timed, and the peers' parsers, which check less, aren't called.
+of these too the best counts. With 0 rounds, as in the gate, nothing is timed, and the peers' parsers, which check less, aren't called.
 
 The packages are built of dist/ and bindings/. Needed are gcc, and cargo, python3 with aiortc (PYTHON names another than the one that
 runs this), go with pion/sctp (PION is the GOPATH that has it, if it isn't /usr/share/gocode, where Debian's package
-golang-github-pion-sctp-dev puts it), and node: what isn't there is left out, and said. It takes a minute; what it makes goes to
-bench/out/packages/."""
+golang-github-pion-sctp-dev puts it), and node: what isn't there is left out, and said. It takes a minute, with 0 rounds a half; what
+it makes goes to bench/out/packages/."""
 import argparse
 import glob
 import os
@@ -290,16 +290,24 @@ def main():
         except Missing as missing:
             left_out.append('%s, since %s' % (language, missing))
     print('packages.py: built in %.0f s' % (time.monotonic() - begin), file=sys.stderr)
-    totals, best = {}, {}
+    totals, best, sums = {}, {}, 0
     for language, program in programs.items():
-        compare(language, figures(*program, 0, 0, [paths['random']]), totals)
+        found = figures(*program, 0, 0, [paths['random']])
+        compare(language, found, totals)
+        sums += len(found)
     for _ in range(asked.turns):
         for language, program in programs.items():
             found = figures(*program, asked.rounds, asked.millis, [paths[name] for name in TIMED])
             compare(language, found, totals)
+            sums += len(found)
             for (name, call), (_, took) in found.items():
                 key = language, name, call
                 best[key] = min(took, best.get(key, took))
+    if not asked.rounds:
+        for it in left_out:
+            print('packages: %s' % it.replace(', since', ': left out, since'))
+        print('packages: %d sums by %s: passed' % (sums, ', '.join(programs)))
+        return
     said = '%s, %s, the best of %d turns of %d rounds of %d ms.' % (
         time.strftime('%Y-%m-%d %H:%M UTC', time.gmtime()), ', '.join(versions), asked.turns, asked.rounds, asked.millis)
     said += (' Nanoseconds of processor time a packet where no other unit is said; in brackets how many times as long the first of its '
