@@ -6,18 +6,15 @@ use crate::message::{Fate, Message};
 use crate::moment::Moment;
 use crate::packet_number::{PacketText, write_packet_keys};
 use crate::time::{TimeStyle, write_time_key};
-use dump_text::hexadecimal::{write_digits, write_row};
+use dump_text::hexadecimal::write_digits;
 use dump_text::json_text::JsonText;
 use dump_text::names::ChunkName;
-use dump_text::printed::Quoted;
+use dump_text::payload::{ByteCount, Rows, TextLine};
 use dump_text::registry::payload_protocol;
 use std::fmt;
 
 /// The payload protocol identifier of a WebRTC string, which is UTF-8 (RFC 8831 section 6.6).
 const STRING: u32 = 51;
-
-/// How many bytes a row shows.
-const ROW: usize = 16;
 
 /// A user message as a line, without its line break.
 #[derive(Clone, Copy)]
@@ -170,17 +167,13 @@ impl<'a> MessageReport<'a> {
         let Some(bytes) = self.payload else {
             return f.write_str("\n  payload: not known");
         };
-        let (size, rows) = (bytes.len(), Rows(bytes));
-        let unit = if size == 1 { "byte" } else { "bytes" };
-        write!(f, "\n  payload: {size} {unit}{rows}")?;
+        let (size, rows) = (ByteCount(bytes.len()), Rows(bytes));
+        write!(f, "\n  payload: {size}{rows}")?;
         if self.message.ppid != Some(STRING) {
             return Ok(());
         }
-        if str::from_utf8(bytes).is_err() {
-            return f.write_str("\n  text: not UTF-8");
-        }
-        let text = Quoted(bytes);
-        write!(f, "\n  text: {text}")
+        let text = TextLine(bytes);
+        write!(f, "{text}")
     }
 
     /// Writes a time, if it is known, and the packet's number.
@@ -203,22 +196,6 @@ impl<'a> MessageReport<'a> {
             packet: moment.packet,
             files: self.files,
         }
-    }
-}
-
-/// Bytes in rows of sixteen, each after a line break.
-#[derive(Clone, Copy)]
-struct Rows<'a>(&'a [u8]);
-
-impl<'a> fmt::Display for Rows<'a> {
-    fn fmt<W: fmt::Write>(&self, f: &mut fmt::Formatter<W>) -> fmt::Result {
-        let mut rest = self.0;
-        for i in 0..rest.len().div_ceil(ROW) {
-            let (row, after) = rest.split_at(rest.len().min(ROW));
-            write_row(ROW * i, row, f)?;
-            rest = after;
-        }
-        Ok(())
     }
 }
 

@@ -41,7 +41,8 @@ pub fn is_list(list: Part<'_>) -> bool {
     rest.size == 0 || rest.size >= HEADER_SIZE && rest.bytes.len() < HEADER_SIZE
 }
 
-/// Returns the list that lies after the first bytes; `None` where these aren't there, or no list is.
+/// Returns the list that lies after the first bytes; `None` where these aren't there, or no list
+/// is.
 pub fn list_after(value: Part<'_>, count: usize) -> Option<Part<'_>> {
     let list = value.after(count);
     if value.bytes.len() < count || !is_list(list) {

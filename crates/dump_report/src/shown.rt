@@ -1,7 +1,8 @@
 //! How bytes of a packet are printed.
 
 use dcsctp_borrowed::part::Part;
-use dump_text::hexadecimal::{ROW, write_digits, write_row};
+use dump_text::hexadecimal::write_digits;
+use dump_text::payload::ByteCount;
 use std::fmt;
 
 /// The most bytes of a value that are shown, unless all are.
@@ -13,9 +14,8 @@ pub struct Size<'a>(pub Part<'a>);
 
 impl<'a> fmt::Display for Size<'a> {
     fn fmt<W: fmt::Write>(&self, f: &mut fmt::Formatter<W>) -> fmt::Result {
-        let (captured, size) = (self.0.bytes.len(), self.0.size);
-        let unit = if size == 1 { "byte" } else { "bytes" };
-        write!(f, "{size} {unit}")?;
+        let (captured, size) = (self.0.bytes.len(), ByteCount(self.0.size));
+        write!(f, "{size}")?;
         if self.0.is_whole() {
             return Ok(());
         }
@@ -46,23 +46,6 @@ impl<'a> fmt::Display for Shown<'a> {
         write_digits(&bytes[..shown], f)?;
         if shown < self.part.size {
             f.write_str(" ..")?;
-        }
-        Ok(())
-    }
-}
-
-/// Rows of sixteen bytes, each after a line break: the last four digits of its offset, its bytes in
-/// hexadecimal, and as ASCII, where a dot stands for what isn't printable.
-#[derive(Clone, Copy)]
-pub struct Rows<'a>(pub &'a [u8]);
-
-impl<'a> fmt::Display for Rows<'a> {
-    fn fmt<W: fmt::Write>(&self, f: &mut fmt::Formatter<W>) -> fmt::Result {
-        let mut rest = self.0;
-        for i in 0..rest.len().div_ceil(ROW) {
-            let (row, after) = rest.split_at(rest.len().min(ROW));
-            write_row(ROW * i, row, f)?;
-            rest = after;
         }
         Ok(())
     }

@@ -2,12 +2,13 @@
 
 use crate::fault::Fault;
 use crate::fields::{Block, Bytes, Fields, Flag, Form, Number, Text};
-use crate::shown::{Rows, Shown, Size};
+use crate::shown::{Shown, Size};
 use dcsctp_borrowed::checksum::Checksum;
 use dcsctp_borrowed::part::{Item, Part};
 use dcsctp_wire::packet::sctp_packet::CommonHeader;
 use dcsctp_wire::packet::{read_u16_be, read_u32_be};
 use dump_text::names::{ChunkName, ItemName, Level, Named, NamedBy};
+use dump_text::payload::{Rows, TextLine};
 use dump_text::printed::{Quoted, text_front};
 use std::fmt;
 use std::net::IpAddr;
@@ -49,16 +50,6 @@ impl<'f, W: fmt::Write> TextFields<'f, W> {
             self.f.write_str("  ")?;
         }
         self.f.write_str(line)
-    }
-
-    /// Writes a string of WebRTC, whose bytes are in rows above: all of it, if it is UTF-8 (RFC 8831
-    /// section 6.6).
-    fn put_text(&mut self, bytes: &[u8]) -> fmt::Result {
-        if str::from_utf8(bytes).is_err() {
-            return self.f.write_str("\n  text: not UTF-8");
-        }
-        let quoted = Quoted(bytes);
-        write!(self.f, "\n  text: {quoted}")
     }
 }
 
@@ -208,7 +199,8 @@ impl<'f, W: fmt::Write> Fields for TextFields<'f, W> {
             return Ok(());
         }
         if self.shows_all {
-            return self.put_text(payload.bytes);
+            let text = TextLine(payload.bytes);
+            return write!(self.f, "{text}");
         }
         let text = text_front(payload.bytes, MOST_OF_TEXT);
         let (quoted, is_cut) = (Quoted(text), text.len() < payload.size);
