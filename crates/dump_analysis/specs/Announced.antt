@@ -45,7 +45,8 @@ is_request id None = false
 -- The first answer that says whether it succeeded stays.
 abbrev pub with_answer : RequestId → Answer → Statement → Statement
 with_answer id answer s =
-    if is_request id s.request && not (is_settled s.answer) then record s { answer = Some answer } else s
+    if is_request id s.request && not (is_settled s.answer)
+    then record s { answer = Some answer } else s
 
 -- whatever it says of an address
 abbrev pub answered : RequestId → Answer → Announced → Announced
@@ -56,7 +57,8 @@ answered id answer a = record a {
 }
 
 -- of each address that is kept
-abbrev pub AreAnswered : RequestId → Answer → List (Option Announced) → List (Option Announced) → Type 0
+abbrev pub AreAnswered : RequestId → Answer → List (Option Announced) → List (Option Announced)
+    → Type 0
 AreAnswered id answer before after =
     (i : ℕ) → i < length before
     → get_or after i None ≡ option_map (answered id answer) (get_or before i None)

@@ -15,6 +15,7 @@ use dcsctp_registry::registered_parameter::{
 use dcsctp_wire::packet::init_chunk::InitNumbers;
 use dcsctp_wire::packet::parameter::RawParameter;
 use dcsctp_wire::packet::read_u32_be;
+use std::alloc::{AllocError, Global};
 use std::net::IpAddr;
 
 /// How many addresses of an end are kept.
@@ -248,7 +249,7 @@ impl Announcements {
     }
 
     /// Notes what a chunk that this end sent says of its addresses.
-    pub fn note_sent(&mut self, packet: &SeenPacket<'_>, chunk: Item<'_>) {
+    fn note_sent(&mut self, packet: &SeenPacket<'_>, chunk: Item<'_>) {
         match chunk.first {
             INIT | INIT_ACK => self.note_initiation(chunk, packet.number),
             ASCONF => {
@@ -259,10 +260,11 @@ impl Announcements {
         }
     }
 
-    /// Notes what a chunk that the other end sent answers. Where an ASCONF ACK has no response to a
-    /// request, this succeeded, unless one before it failed (RFC 5061 section 5.1, rules A7 and A8).
-    pub fn note_received(&mut self, packet: &SeenPacket<'_>, chunk: Item<'_>) {
-        if chunk.first != ASCONF_ACK || chunk.value.bytes.len() < SEQUENCE_NUMBER_SIZE {
+    /// Notes what an ASCONF ACK that the other end sent answers. Where it has no response to a
+    /// request, this succeeded, unless one before it failed (RFC 5061 section 5.1, rules A7 and
+    /// A8).
+    fn note_received(&mut self, packet: &SeenPacket<'_>, chunk: Item<'_>) {
+        if chunk.value.bytes.len() < SEQUENCE_NUMBER_SIZE {
             return;
         }
         let sequence_number = read_u32_be(chunk.value.bytes);
@@ -286,10 +288,7 @@ impl Announcements {
     }
 
     /// Notes that a packet of this end came from an address.
-    pub fn note_source(&mut self, source: Option<IpAddr>) {
-        let Some(source) = source else {
-            return;
-        };
+    fn note_source(&mut self, source: IpAddr) {
         for slot in self.list.iter_mut() {
             if let Some(known) = slot {
                 known.is_used |= known.address == source;
@@ -409,6 +408,81 @@ impl Announcements {
             self.list[i] = answered_address(self.list[i], id, answer);
         }
     }
+}
+
+/// What an end announced. Memory is taken once it says something of an address: most ends don't.
+#[derive(Debug, Drop)]
+pub struct Announcer(Option<Box<Announcements>>);
+
+impl Announcer {
+    /// Returns that of an end that said nothing.
+    pub fn new() -> Announcer {
+        Announcer(None)
+    }
+
+    /// Returns the addresses of which the end said something; `None` if there is none.
+    pub fn said(&self) -> Option<&Announcements> {
+        match &self.0 {
+            Some(said) => Some(said),
+            None => None,
+        }
+    }
+
+    /// Takes memory for what a packet of this end says, if it says something of an address: without
+    /// it nothing is noted.
+    pub fn make_room(&mut self, alloc: Global, packet: &SeenPacket<'_>) -> Result<(), AllocError> {
+        if self.0.is_none() && says_something(packet) {
+            self.0 = Some(Box::new(alloc, Announcements::new())?);
+        }
+        Ok(())
+    }
+
+    /// Notes what a chunk that this end sent says of its addresses.
+    pub fn note_sent(&mut self, packet: &SeenPacket<'_>, chunk: Item<'_>) {
+        if let Some(said) = &mut self.0 {
+            said.note_sent(packet, chunk);
+        }
+    }
+
+    /// Notes what a chunk that the other end sent answers.
+    pub fn note_received(&mut self, packet: &SeenPacket<'_>, chunk: Item<'_>) {
+        if chunk.first != ASCONF_ACK {
+            return;
+        }
+        if let Some(said) = &mut self.0 {
+            said.note_received(packet, chunk);
+        }
+    }
+
+    /// Notes that a packet of this end came from an address.
+    pub fn note_source(&mut self, source: Option<IpAddr>) {
+        if let (Some(said), Some(source)) = (&mut self.0, source) {
+            said.note_source(source);
+        }
+    }
+}
+
+/// Returns whether a packet says something of its sender's addresses: an ASCONF does, and an INIT
+/// or an INIT ACK that has one.
+fn says_something(packet: &SeenPacket<'_>) -> bool {
+    for chunk in packet.chunks() {
+        match chunk.first {
+            ASCONF => return true,
+            INIT | INIT_ACK if has_address(chunk) => return true,
+            _ => {}
+        }
+    }
+    false
+}
+
+/// Returns whether an INIT or an INIT ACK has an address.
+fn has_address(chunk: Item<'_>) -> bool {
+    for parameter in chunk.value.after(InitNumbers::SIZE).items() {
+        if matches!(parameter.code(), IPV4_ADDRESS | IPV6_ADDRESS) {
+            return true;
+        }
+    }
+    false
 }
 
 /// Returns the correlation id of a parameter of an ASCONF; `None` if it is no request, but the

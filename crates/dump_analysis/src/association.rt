@@ -16,6 +16,7 @@ use crate::membership::Sequence;
 use crate::packet_number::PacketNumber;
 use crate::transport::Transport;
 use dcsctp_borrowed::part::Item;
+use std::alloc::{AllocError, Global};
 
 /// Which end of an association.
 #[derive(Clone, Copy, Debug, PartialEq, Eq)]
@@ -77,7 +78,7 @@ pub struct Ended {
 }
 
 /// An association, as a capture shows it.
-#[derive(Clone, Debug, Drop)]
+#[derive(Debug, Drop)]
 pub struct Association {
     /// The association's number: from 1 on, in order of the first packet.
     pub number: u64,
@@ -167,6 +168,22 @@ impl Association {
         }
     }
 
+    /// Takes memory for what an end announces, if a packet of it says something of an address.
+    pub fn make_room(
+        &mut self,
+        alloc: Global,
+        side: Side,
+        packet: &SeenPacket<'_>,
+    ) -> Result<(), AllocError>
+        ensures first { self.new.first.counts ≡ self.old.first.counts }
+        ensures second { self.new.second.counts ≡ self.old.second.counts }
+    {
+        match side {
+            Side::First => self.first.announced.make_room(alloc, packet),
+            Side::Second => self.second.announced.make_room(alloc, packet),
+        }
+    }
+
     /// Counts a packet that an end sent, and in which this is found of AUTH. Returns how its TSNs
     /// follow those before.
     pub fn note(&mut self, sender: Side, packet: &SeenPacket<'_>, found: Authentication) -> Sequence
@@ -213,8 +230,8 @@ fn authenticate_between(sender: &mut End, receiver: &End, packet: &SeenPacket<'_
     found
 }
 
-/// Counts a packet that one end sent to another, and in which this is found of AUTH. Returns how its
-/// TSNs follow those before.
+/// Counts a packet that one end sent to another, and in which this is found of AUTH. Returns how
+/// its TSNs follow those before.
 fn note_between(
     sender: &mut End,
     receiver: &mut End,

@@ -274,6 +274,7 @@ impl Associations {
             self.learn(flow.slot, receiver, arrival.tag)?;
         }
         let had_ended = !self.lives(flow.slot);
+        make_room(&mut self.table, self.alloc, flow, arrival.packet)?;
         let of = count_of(&mut self.table, flow, arrival.packet);
         if of.is_none() {
             increase(&mut self.unknown);
@@ -422,6 +423,22 @@ fn begun_by(arrival: &Arrival<'_, '_>, number: u64, restart_of: Option<u64>) -> 
         ended: None,
         last: packet.nanoseconds,
         out_of_the_blue: 0,
+    }
+}
+
+/// Takes memory for what a packet announces.
+fn make_room(
+    table: &mut Vec<Box<Association>>,
+    alloc: Global,
+    flow: Flow,
+    packet: &SeenPacket<'_>,
+) -> Result<(), AllocError>
+    ensures size { vec_len table.new ≡ vec_len table.old }
+    ensures packets { packets_in table.new.items ≡ packets_in table.old.items }
+{
+    match table.get_mut(flow.slot) {
+        Some(association) => association.make_room(alloc, flow.sender, packet),
+        None => Ok(()),
     }
 }
 

@@ -5,7 +5,7 @@ ghost use Rattle.dump_analysis.specs.Counts.{nothing};
 ghost use Rattle.dump_analysis.specs.Tsns.{Follows};
 
 use crate::acknowledgement::Acknowledgement;
-use crate::announced::{Announced, Announcements};
+use crate::announced::{Announced, Announcer};
 use crate::authentication::AuthenticationCounts;
 use crate::chunk_type::{
     DATA, FORWARD_TSN, HEARTBEAT, HEARTBEAT_ACK, I_DATA, I_FORWARD_TSN, INIT, INIT_ACK, NR_SACK,
@@ -61,14 +61,14 @@ pub struct Closed {
 }
 
 /// One end of an association, and what it sent.
-#[derive(Clone, Debug, Drop)]
+#[derive(Debug, Drop)]
 pub struct End {
     /// The addresses from which or to which packets went, the first ones of them.
     pub addresses: [Option<IpAddr>; MOST_ADDRESSES],
     /// Whether there were more.
     pub has_more_addresses: bool,
     /// The addresses that it announced.
-    pub announced: Announcements,
+    pub announced: Announcer,
     /// The port.
     pub port: u16,
     /// The tag that it chose: packets to it carry it (RFC 9260 section 3.1).
@@ -93,8 +93,8 @@ pub struct End {
     pub skipped: Option<Skipped>,
     /// When it had no room, if it ever said so.
     pub closed: Option<Closed>,
-    /// The number of the packet of its first SACK with an a_rwnd that isn't 0 after the last one with
-    /// 0, if there was one.
+    /// The number of the packet of its first SACK with an a_rwnd that isn't 0 after the last one
+    /// with 0, if there was one.
     pub opened: Option<PacketNumber>,
     /// Its HEARTBEATs that weren't answered.
     pub heartbeats: Unanswered,
@@ -124,7 +124,7 @@ impl End {
         End {
             addresses: [address, None, None, None],
             has_more_addresses: false,
-            announced: Announcements::new(),
+            announced: Announcer::new(),
             port,
             tag: None,
             other_tag: None,

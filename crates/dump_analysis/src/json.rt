@@ -199,8 +199,11 @@ impl<'a> AssociationJson<'a> {
     /// Writes the addresses of which an end said something, if there are some, and how many
     /// statements found no room.
     fn write_announced<W: fmt::Write>(&self, end: &End, f: &mut fmt::Formatter<W>) -> fmt::Result {
+        let Some(said) = end.announced.said() else {
+            return Ok(());
+        };
         let mut separator = ",\"announced\":[";
-        for announced in &end.announced.list {
+        for announced in &said.list {
             if let Some(announced) = announced {
                 f.write_str(separator)?;
                 separator = ",";
@@ -214,7 +217,7 @@ impl<'a> AssociationJson<'a> {
         if separator == "," {
             f.write_str("]")?;
         }
-        let more = end.announced.more;
+        let more = said.more;
         if more == 0 {
             return Ok(());
         }

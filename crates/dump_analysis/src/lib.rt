@@ -61,7 +61,7 @@ mod tsns;
 mod unanswered;
 pub mod warnings;
 
-pub use crate::announced::{Announced, Announcements, RequestId, Statement};
+pub use crate::announced::{Announced, Announcements, Announcer, RequestId, Statement};
 pub use crate::association::{Association, Began, Ended, Established, Side};
 pub use crate::associations::{Associations, Noted};
 pub use crate::authentication::{AuthVerdict, Authentication, AuthenticationCounts};

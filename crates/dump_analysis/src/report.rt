@@ -65,7 +65,10 @@ impl<'a> AssociationReport<'a> {
     /// Writes a line for each address of which an end said something, and for those that found no
     /// room.
     fn write_announced<W: fmt::Write>(&self, end: &End, f: &mut fmt::Formatter<W>) -> fmt::Result {
-        for announced in &end.announced.list {
+        let Some(said) = end.announced.said() else {
+            return Ok(());
+        };
+        for announced in &said.list {
             if let Some(announced) = announced {
                 self.write_address(announced, f)?;
                 if end.is_unused(announced) {
@@ -74,7 +77,7 @@ impl<'a> AssociationReport<'a> {
                 f.write_str("\n")?;
             }
         }
-        let more = end.announced.more;
+        let more = said.more;
         if more == 0 {
             return Ok(());
         }
