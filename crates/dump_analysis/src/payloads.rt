@@ -83,7 +83,11 @@ impl Payloads {
             match self.kept.remove(&Key::new(association, sender, piece.tsn)) {
                 Some(bytes) => {
                     self.size = self.size.saturating_sub(bytes.len());
-                    joined.extend_from_slice(bytes.as_slice())?;
+                    if joined.is_empty() {
+                        joined = bytes;
+                    } else {
+                        joined.extend_from_slice(bytes.as_slice())?;
+                    }
                 }
                 None => is_whole = false,
             }
