@@ -242,7 +242,8 @@ impl Options {
         Ok(())
     }
 
-    /// Takes an option of the filter with its values, which commas separate. A name may hold commas.
+    /// Takes an option of the filter with its values, which commas separate. A name may hold
+    /// commas.
     fn take_filter(&mut self, name: &str, values: &str) -> Result<(), Failure> {
         match name {
             "--from" => self.filter.from = bound_of(values, FROM_USAGE)?,
@@ -270,38 +271,23 @@ impl Options {
         match name {
             "--port" => {
                 let usage = "--port takes a number up to 65535";
-                add(
-                    &mut filter.ports,
-                    number_of(value, 0, 65_535, usage)? as u16,
-                )
+                add_u16(&mut filter.ports, value, usage)
             }
             "--tag" => {
                 let usage = "--tag takes a number of four bytes, as 0x0da73798";
-                add(
-                    &mut filter.tags,
-                    number_of(value, 0, LARGEST, usage)? as u32,
-                )
+                add_u32(&mut filter.tags, value, usage)
             }
             "--stream" => {
                 let usage = "--stream takes a number up to 65535";
-                add(
-                    &mut filter.streams,
-                    number_of(value, 0, 65_535, usage)? as u16,
-                )
+                add_u16(&mut filter.streams, value, usage)
             }
             "--ppid" => {
                 let usage = "--ppid takes a number of four bytes";
-                add(
-                    &mut filter.ppids,
-                    number_of(value, 0, LARGEST, usage)? as u32,
-                )
+                add_u32(&mut filter.ppids, value, usage)
             }
             "--tsn" => {
                 let usage = "--tsn takes a number of four bytes";
-                add(
-                    &mut filter.tsns,
-                    number_of(value, 0, LARGEST, usage)? as u32,
-                )
+                add_u32(&mut filter.tsns, value, usage)
             }
             "--host" => {
                 let usage = "--host takes an IPv4 or IPv6 address";
@@ -320,6 +306,24 @@ impl Options {
             _ => Err(Failure::Usage("unknown option (try --help)")),
         }
     }
+}
+
+/// Asks for a number of two bytes.
+fn add_u16(
+    asked: &mut [Option<u16>; VALUES],
+    value: &str,
+    usage: &'static str,
+) -> Result<(), Failure> {
+    add(asked, number_of(value, 0, 65_535, usage)? as u16)
+}
+
+/// Asks for a number of four bytes.
+fn add_u32(
+    asked: &mut [Option<u32>; VALUES],
+    value: &str,
+    usage: &'static str,
+) -> Result<(), Failure> {
+    add(asked, number_of(value, 0, LARGEST, usage)? as u32)
 }
 
 /// Asks for a value beside those that are asked for, if there is room.
