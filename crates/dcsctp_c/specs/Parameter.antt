@@ -18,8 +18,8 @@ ParameterMeans bytes p tree = ValueMeans (parameter_row p.typ) (parameter_value 
 abbrev pub CauseMeans : List ℕ → DcsctpParameter → CauseTree → Type 0
 CauseMeans bytes p tree = ValueMeans (cause_row p.typ) (parameter_value bytes p) tree
 
--- The parameter or the cause that begins at an offset of a list in the bytes. The list is said as in
--- `IsItemAt`.
+-- The parameter or the cause that begins at an offset of a list in the bytes. The list is said as
+-- in `IsItemAt`.
 pub record IsListedAt (bytes : List ℕ) (from : ℕ → List ℕ) (end offset : ℕ)
     (p : DcsctpParameter) : Type 0 where
   pub typ : p.typ ≡ number16 (from offset)

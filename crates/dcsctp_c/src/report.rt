@@ -53,9 +53,9 @@ pub extern "C" fn dcsctp_add_unrecognized_parameters(
     }
 }
 
-/// Adds an ERROR with a cause Unrecognized Parameters (RFC 9260 section 3.3.10.8) for each parameter
-/// of an INIT ACK, or of another chunk but INIT, that is reported (section 3.2.2); no ERROR where
-/// there is none. `list` are its parameters, and the same are reported as by
+/// Adds an ERROR with a cause Unrecognized Parameters (RFC 9260 section 3.3.10.8) for each
+/// parameter of an INIT ACK, or of another chunk but INIT, that is reported (section 3.2.2); no
+/// ERROR where there is none. `list` are its parameters, and the same are reported as by
 /// `dcsctp_add_unrecognized_parameters`.
 ///
 /// Sets `end` to the offset in the list of the parameter at which processing stops, or to the

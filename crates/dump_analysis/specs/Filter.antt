@@ -87,7 +87,8 @@ passes_chunks f chunks =
 abbrev pub goes : Filter → Arrival → Bool
 goes f a = meets f.directions (λ way. is_way way a.direction)
 
--- all else that is asked for, of a packet with this checksum word, and its chunks that are looked at
+-- all else that is asked for, of a packet with this checksum word, and its chunks that are looked
+-- at
 abbrev pub has_all : Filter → Packet → ℕ → List Item → Bool
 has_all f p word chunks =
     passes_headers f (part_in p) p.addresses && passes_chunks f chunks

@@ -1,4 +1,5 @@
-//! How long something took, each time that it happened: of all the least, the median and the greatest.
+//! How long something took, each time that it happened: of all the least, the median and the
+//! greatest.
 
 ghost use Rattle.std.specs.Prelude.{◌≡◌, ◌≤◌, ◌<◌, ◌+◌, ◌*◌, ◌/◌, replicate};
 ghost use Rattle.dump_analysis.specs.Buckets.{least_of, width_of, CountsOneIn, IsMedian};

@@ -108,12 +108,12 @@ impl Filter {
     };
 
     /// Returns whether the packet that was seen then has all that is asked for, or doesn't if that
-    /// is wanted. It has to be within the bounds in both cases. `others` says whether it has what is
-    /// asked for elsewhere, `word` is what its checksum field has to be, and `fault` the offset of
-    /// the first fault of a refused packet: of this the chunks are looked at that begin there or
-    /// before. The last may be the one at fault, of which all is looked at that can be read, even if
-    /// its length is impossible. Of other packets, also of those that were cut off, all chunks are
-    /// looked at whose headers can be read.
+    /// is wanted. It has to be within the bounds in both cases. `others` says whether it has what
+    /// is asked for elsewhere, `word` is what its checksum field has to be, and `fault` the offset
+    /// of the first fault of a refused packet: of this the chunks are looked at that begin there or
+    /// before. The last may be the one at fault, of which all is looked at that can be read, even
+    /// if its length is impossible. Of other packets, also of those that were cut off, all chunks
+    /// are looked at whose headers can be read.
     pub fn passes(
         &self,
         arrival: Arrival,

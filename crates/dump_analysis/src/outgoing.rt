@@ -286,9 +286,9 @@ impl Outgoing {
         Ok(pieces)
     }
 
-    /// Returns whether a message is over by this fate: it is acknowledged if all of it is, or, where
-    /// some of it wasn't seen, if its last fragment is passed; it is abandoned if a fragment of it
-    /// is passed without an acknowledgement.
+    /// Returns whether a message is over by this fate: it is acknowledged if all of it is, or,
+    /// where some of it wasn't seen, if its last fragment is passed; it is abandoned if a fragment
+    /// of it is passed without an acknowledgement.
     fn is_over_by(&self, fate: Fate, pieces: &[Fragment]) -> bool {
         match fate {
             Fate::Unacknowledged => true,

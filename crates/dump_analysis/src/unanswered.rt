@@ -151,8 +151,8 @@ impl Unanswered {
     }
 }
 
-/// Returns a digest of bytes: as FNV-1a, but of their number and then eight at a time, whose high bits
-/// are turned to the low ones.
+/// Returns a digest of bytes: as FNV-1a, but of their number and then eight at a time, whose high
+/// bits are turned to the low ones.
 pub fn digest(bytes: &[u8]) -> u64 {
     let (words, rest) = bytes.as_chunks::<8>();
     let mut digest = mixed(0xcbf2_9ce4_8422_2325, bytes.len() as u64);

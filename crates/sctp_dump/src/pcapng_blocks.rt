@@ -53,8 +53,8 @@ impl PcapngBlocks {
     }
 
     /// Adds a frame, whose time was read as these nanoseconds, as an Enhanced Packet Block (section
-    /// 4.3). A time that isn't known is 0. Of a log the option `epb_flags` says which way the packet
-    /// went.
+    /// 4.3). A time that isn't known is 0. Of a log the option `epb_flags` says which way the
+    /// packet went.
     pub fn push(
         &mut self,
         frame: SeenFrame<'_>,

@@ -1,5 +1,5 @@
-//! The associations of the packets so far, if associations, messages or rules are asked for, and what
-//! is kept beside them: their paths, their messages and their channels.
+//! The associations of the packets so far, if associations, messages or rules are asked for, and
+//! what is kept beside them: their paths, their messages and their channels.
 
 use crate::labels::LabelledStreams;
 use crate::options::{Options, OutputForm};
