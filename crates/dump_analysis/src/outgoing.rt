@@ -1,5 +1,7 @@
 //! The user messages of one end that are outstanding.
 
+ghost use Rattle.std.specs.Prelude.{◌≡◌, ◌≤◌, vec_len};
+
 use crate::acknowledgement::Acknowledgement;
 use crate::association::Side;
 use crate::fragment::{Fragment, is_whole};
@@ -16,7 +18,7 @@ const MOST: usize = 1_024;
 ///
 /// A fragment is followed from its first DATA on, until its message is over and its TSN is passed:
 /// by a Cumulative TSN Ack, or by the new cumulative TSN of a FORWARD-TSN. What comes after its TSN
-/// was passed isn't followed.
+/// was passed isn't followed, nor what comes while 1,024 of them are.
 #[derive(Drop)]
 pub struct Outgoing {
     alloc: Global,
@@ -35,7 +37,9 @@ pub struct Outgoing {
 
 impl Outgoing {
     /// Returns those of an end that sent nothing.
-    pub fn new(alloc: Global, association: u64, sender: Side) -> Outgoing {
+    pub fn new(alloc: Global, association: u64, sender: Side) -> Outgoing
+        ensures { vec_len result.fragments ≡ 0 }
+    {
         Outgoing {
             alloc,
             association,
@@ -48,12 +52,16 @@ impl Outgoing {
     }
 
     /// Returns how many fragments are followed.
-    pub fn count(&self) -> usize {
+    pub fn count(&self) -> usize
+        ensures { result ≡ vec_len self.now.fragments }
+    {
         self.fragments.len()
     }
 
     /// Notes that a fragment was sent that isn't followed.
-    pub fn note_lost(&mut self, ended: &mut EndedMessages) {
+    pub fn note_lost(&mut self, ended: &mut EndedMessages)
+        ensures { self.new.fragments ≡ self.old.fragments }
+    {
         self.has_lost = true;
         ended.leave_out(1);
     }
@@ -64,7 +72,9 @@ impl Outgoing {
         fragment: &Fragment,
         has_room: bool,
         ended: &mut EndedMessages,
-    ) -> Result<(), AllocError> {
+    ) -> Result<(), AllocError>
+        ensures { vec_len self.old.fragments ≤ MOST → vec_len self.new.fragments ≤ MOST }
+    {
         if self.is_over || self.has_passed(fragment.tsn) {
             return Ok(());
         }
@@ -92,23 +102,44 @@ impl Outgoing {
         is_closed: bool,
         moment: Moment,
         ended: &mut EndedMessages,
-    ) -> Result<(), AllocError> {
-        for fragment in self.fragments.iter_mut() {
-            if !fragment.is_acknowledged && acknowledged.has(fragment.tsn) {
-                fragment.is_acknowledged = true;
-                fragment.is_fresh = true;
-            }
-        }
+    ) -> Result<(), AllocError>
+        ensures { vec_len self.new.fragments ≤ vec_len self.old.fragments }
+    {
+        self.mark(&acknowledged);
         let before = self.passed;
         self.pass(acknowledged.cumulative);
         self.end_some(before, Fate::Acknowledged(moment), ended)?;
-        for fragment in self.fragments.iter_mut() {
-            fragment.is_fresh = false;
-            if is_closed && !fragment.is_over {
-                fragment.note_closed(moment.packet);
+        self.unmark(is_closed, moment);
+        self.forget()
+    }
+
+    /// Notes which fragments are acknowledged.
+    fn mark(&mut self, acknowledged: &Acknowledgement<'_>)
+        ensures { vec_len self.new.fragments ≡ vec_len self.old.fragments }
+    {
+        for place in 0..self.fragments.len() {
+            if let Some(fragment) = self.fragments.get_mut(place) {
+                if !fragment.is_acknowledged && acknowledged.has(fragment.tsn) {
+                    fragment.is_acknowledged = true;
+                    fragment.is_fresh = true;
+                }
             }
         }
-        self.forget()
+    }
+
+    /// Forgets which fragments were acknowledged just now, and notes whether their receiver has no
+    /// room.
+    fn unmark(&mut self, is_closed: bool, moment: Moment)
+        ensures { vec_len self.new.fragments ≡ vec_len self.old.fragments }
+    {
+        for place in 0..self.fragments.len() {
+            if let Some(fragment) = self.fragments.get_mut(place) {
+                fragment.is_fresh = false;
+                if is_closed && !fragment.is_over {
+                    fragment.note_closed(moment.packet);
+                }
+            }
+        }
     }
 
     /// Notes the new cumulative TSN of a FORWARD-TSN or an I-FORWARD-TSN that this end sent. Adds
@@ -119,7 +150,9 @@ impl Outgoing {
         chunk: u8,
         moment: Moment,
         ended: &mut EndedMessages,
-    ) -> Result<(), AllocError> {
+    ) -> Result<(), AllocError>
+        ensures { vec_len self.new.fragments ≤ vec_len self.old.fragments }
+    {
         let before = self.passed;
         self.pass(cumulative);
         self.end_some(before, Fate::Abandoned { chunk, moment }, ended)?;
@@ -128,7 +161,9 @@ impl Outgoing {
 
     /// Adds the messages that aren't over: the association ended, or the capture did. What is sent
     /// later isn't followed.
-    pub fn finish(&mut self, ended: &mut EndedMessages) -> Result<(), AllocError> {
+    pub fn finish(&mut self, ended: &mut EndedMessages) -> Result<(), AllocError>
+        ensures { vec_len self.new.fragments ≤ vec_len self.old.fragments }
+    {
         for place in 0..self.fragments.len() {
             self.end_at(place, Fate::Unacknowledged, ended)?;
         }
@@ -146,7 +181,9 @@ impl Outgoing {
     }
 
     /// Passes the TSNs up to this one.
-    fn pass(&mut self, tsn: u32) {
+    fn pass(&mut self, tsn: u32)
+        ensures { self.new.fragments ≡ self.old.fragments }
+    {
         if !self.has_passed(tsn) {
             self.passed = Some(tsn);
         }
@@ -176,7 +213,9 @@ impl Outgoing {
         before: Option<u32>,
         fate: Fate,
         ended: &mut EndedMessages,
-    ) -> Result<(), AllocError> {
+    ) -> Result<(), AllocError>
+        ensures { vec_len self.new.fragments ≡ vec_len self.old.fragments }
+    {
         for place in 0..self.fragments.len() {
             if let Some(fragment) = self.fragments.get(place) {
                 let is_new = match before {
@@ -197,7 +236,9 @@ impl Outgoing {
         place: usize,
         fate: Fate,
         ended: &mut EndedMessages,
-    ) -> Result<(), AllocError> {
+    ) -> Result<(), AllocError>
+        ensures { vec_len self.new.fragments ≡ vec_len self.old.fragments }
+    {
         let Some(lead) = self.fragments.get(place).copied() else {
             return Ok(());
         };
@@ -210,11 +251,7 @@ impl Outgoing {
             return Ok(());
         }
         let waited_for = self.waited_for(fate, pieces.as_slice());
-        for place in first..end {
-            if let Some(fragment) = self.fragments.get_mut(place) {
-                fragment.is_over |= fragment.is_beside(&lead);
-            }
-        }
+        self.note_over(first, end, &lead);
         let payload = ended.take_payload(self.association, self.sender, pieces.as_slice())?;
         let is_whole = is_whole(pieces.as_slice());
         if self.has_lost && !is_whole {
@@ -225,6 +262,17 @@ impl Outgoing {
         message.assemble(pieces.as_slice(), self.passed);
         message.waited_for = waited_for;
         ended.add(message, if is_whole { payload } else { None })
+    }
+
+    /// Notes that the message of a fragment, which is in these places, is over.
+    fn note_over(&mut self, first: usize, end: usize, lead: &Fragment)
+        ensures { vec_len self.new.fragments ≡ vec_len self.old.fragments }
+    {
+        for place in first..end {
+            if let Some(fragment) = self.fragments.get_mut(place) {
+                fragment.is_over |= fragment.is_beside(lead);
+            }
+        }
     }
 
     /// Returns the places in which the fragments of a message are: from the first one on, and up to
@@ -343,23 +391,28 @@ impl Outgoing {
 
     /// Forgets the fragments that are passed and whose messages are over, and gives back their
     /// room.
-    fn forget(&mut self) -> Result<(), AllocError> {
-        let mut kept = Vec::new(self.alloc);
-        let mut is_less = false;
-        for fragment in &self.fragments {
-            if fragment.is_over && self.has_passed(fragment.tsn) {
-                is_less = true;
-            }
-        }
-        if !is_less {
+    fn forget(&mut self) -> Result<(), AllocError>
+        ensures { vec_len self.new.fragments ≤ vec_len self.old.fragments }
+    {
+        if !self
+            .fragments
+            .iter()
+            .any(|fragment| self.is_forgotten(fragment))
+        {
             return Ok(());
         }
+        let mut kept = Vec::new(self.alloc);
         for fragment in &self.fragments {
-            if !(fragment.is_over && self.has_passed(fragment.tsn)) {
+            if !self.is_forgotten(fragment) {
                 kept.push(*fragment)?;
             }
         }
         let _ = mem::replace(&mut self.fragments, kept);
         Ok(())
+    }
+
+    /// Returns whether a fragment is passed, and its message over.
+    fn is_forgotten(&self, fragment: &Fragment) -> bool {
+        fragment.is_over && self.has_passed(fragment.tsn)
     }
 }
