@@ -30,8 +30,8 @@ type_3 p =
     if nat_lt (length p.bytes) (type_3_size p.bytes) then Err Cut else
     of_frame_type (frame_type p.bytes) (type_3_size p.bytes) p
 
--- The version, in the high four bits, is 1 in a header of type II, which has 8 bytes, and 2 in one of
--- type III.
+-- The version, in the high four bits, is 1 in a header of type II, which has 8 bytes, and 2 in one
+-- of type III.
 unfoldable pub erspan : Payload → Result Payload NoPacket
 erspan p =
     if nat_lt p.size 8 then Err Malformed else

@@ -1,5 +1,5 @@
--- The SCTP packet in a frame: after the headers of the link and of IP, and after those of tunnels, or
--- by itself; in IP as protocol 132, or in UDP (RFC 6951). A header says what follows it, and the
+-- The SCTP packet in a frame: after the headers of the link and of IP, and after those of tunnels,
+-- or by itself; in IP as protocol 132, or in UDP (RFC 6951). A header says what follows it, and the
 -- headers are read one after the other.
 use Rattle.std.specs.Prelude.{◌+◌, ◌-◌, ◌*◌, ◌/◌, ◌%◌, ◌^◌, ◌==◌, ℕ, Bool, true, ◌&&◌, ◌||◌, not, nat_lt, if◌then◌else◌, List, Option, Some, None, Result, Ok, Err, length, take, drop}
 use Rattle.std.specs.Int.{w32, from_be_bytes, from_le_bytes}
@@ -79,8 +79,8 @@ is_ipv4_fragment bytes = not (number16 (drop 6 bytes) % 2 ^ 14 == 0)
 abbrev pub ipv4_addresses : List ℕ → Addresses
 ipv4_addresses bytes = V4 (take 4 (drop 12 bytes)) (take 4 (drop 16 bytes))
 
--- the protocols in IPv4 that may carry SCTP: SCTP itself, UDP, the authentication header, IPv4, IPv6
--- and GRE
+-- the protocols in IPv4 that may carry SCTP: SCTP itself, UDP, the authentication header, IPv4,
+-- IPv6 and GRE
 unfoldable pub may_carry_sctp : ℕ → Bool
 may_carry_sctp number =
     number == 132 || number == 17 || number == 51 || number == 4 || number == 41 || number == 47
@@ -204,9 +204,9 @@ hdlc p =
 
 -- A frame of this link type (the registry of draft-ietf-opsawg-pcaplinktype): Ethernet, whose type
 -- is after two addresses of six bytes; IP without a header of the link, which is 12 or 14 in files
--- of some BSDs; Linux's cooked header of either version; BSD's and OpenBSD's loopback; PPP, or in 50
--- also Cisco's framing, whose first byte is 0x0f or 0x8f, and whose type is after two bytes (RFC 1547
--- section 4.3.1); NFLOG; IPv4; IPv6; and SCTP.
+-- of some BSDs; Linux's cooked header of either version; BSD's and OpenBSD's loopback; PPP, or in
+-- 50 also Cisco's framing, whose first byte is 0x0f or 0x8f, and whose type is after two bytes (RFC
+-- 1547 section 4.3.1); NFLOG; IPv4; IPv6; and SCTP.
 unfoldable pub on_link : ℕ → Payload → Result Payload NoPacket
 on_link link p =
     if link == 1 then typed 12 14 p else
@@ -269,8 +269,8 @@ in_frame link original_length frame =
     record { addresses = None; protocol = Link link; size = original_length; bytes = frame }
 
 -- The packet in a frame, in UDP if it is on this port, and in four tunnels at most. At most 65,536
--- headers are read of a frame, and of what each tunnel carries; a frame of 262,144 bytes has no more:
--- each has four bytes at least.
+-- headers are read of a frame, and of what each tunnel carries; a frame of 262,144 bytes has no
+-- more: each has four bytes at least.
 unfoldable pub packet_in : ℕ → ℕ → ℕ → List ℕ → Result Packet NoPacket
 packet_in port link original_length frame =
     behind_headers (2 ^ 16) (in_frame link original_length frame) >>= behind_tunnels 4 port

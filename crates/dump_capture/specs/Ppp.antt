@@ -7,7 +7,8 @@ use Rattle.dump_capture.specs.declared.frame.NoPacket.{NoPacket}
 use Rattle.dump_capture.specs.declared.frame.NoPacket.TheVariants.{Cut, Other}
 use Rattle.dump_capture.specs.declared.payload.Protocol.TheVariants.{Ip}
 
--- what is after a protocol field of n bytes: IPv4 (RFC 1332 section 2.1) or IPv6 (RFC 5072 section 2)
+-- what is after a protocol field of n bytes: IPv4 (RFC 1332 section 2.1) or IPv6 (RFC 5072 section
+-- 2)
 abbrev pub of_ppp : ℕ → ℕ → Payload → Result Payload NoPacket
 of_ppp protocol n p =
     if protocol == 0x0021 || protocol == 0x0057 then Ok (behind n Ip p) else

@@ -23,8 +23,8 @@ is_udp_tunnel port bytes =
     if is_on_port port bytes then false else
     is_tunnel_port (destination_port bytes)
 
--- IPv4 in IP (RFC 2003 section 3.1, RFC 2473 section 3), IPv6 in IP (RFC 4213 section 3.5, RFC 2473),
--- GRE (RFC 2784 section 4), or UDP
+-- IPv4 in IP (RFC 2003 section 3.1, RFC 2473 section 3), IPv6 in IP (RFC 4213 section 3.5, RFC
+-- 2473), GRE (RFC 2784 section 4), or UDP
 abbrev pub is_tunnel_as : Protocol → ℕ → List ℕ → Bool
 is_tunnel_as (Number number) port bytes =
     number == 4 || number == 41 || number == 47 || number == 17 && is_udp_tunnel port bytes

@@ -1,5 +1,5 @@
--- The tunnels that a packet is in, outermost first: of each its kind, the addresses of the IP header
--- that carries it, and its identifier.
+-- The tunnels that a packet is in, outermost first: of each its kind, the addresses of the IP
+-- header that carries it, and its identifier.
 use Rattle.std.specs.Prelude.{◌+◌, ◌*◌, ◌/◌, ◌%◌, ◌^◌, ◌==◌, ℕ, zero, suc, Bool, ◌||◌, nat_lt, if◌then◌else◌, List, [], ◌∷◌, Option, Some, None, option_map, Result, Ok, Err, length, take, drop}
 use Rattle.std.specs.Int.{w32, from_be_bytes}
 use Rattle.dump_capture.specs.Number.{number16}
@@ -62,8 +62,8 @@ session_id bytes =
 abbrev pub second_word : List ℕ → Option ℕ
 second_word bytes = number32 (drop 12 bytes)
 
--- The VNI is the first three bytes of these (RFC 7348 section 5, RFC 8926 section 3.4), and the TEID
--- is all four (TS 29.281 section 5.1).
+-- The VNI is the first three bytes of these (RFC 7348 section 5, RFC 8926 section 3.4), and the
+-- TEID is all four (TS 29.281 section 5.1).
 abbrev pub identifier : TunnelKind → List ℕ → Option ℕ
 identifier Ip bytes = None
 identifier Gre bytes = gre_key bytes
@@ -86,8 +86,8 @@ abbrev pub with_inner : Tunnel → Result Payload NoPacket → Option (Tunnel ×
 with_inner t (Ok q) = Some (t, q)
 with_inner t (Err e) = None
 
--- The first tunnel, and the payload after it and after the headers in it, if these can be read. With
--- the IP header in it a tunnel has more than 8 bytes.
+-- The first tunnel, and the payload after it and after the headers in it, if these can be read.
+-- With the IP header in it a tunnel has more than 8 bytes.
 unfoldable pub first_tunnel : ℕ → Payload → Option (Tunnel × Payload)
 first_tunnel port p =
     if nat_lt (length p.bytes) 8 then None else
@@ -107,8 +107,8 @@ abbrev pub tunnels_behind : ℕ → Result Payload NoPacket → List Tunnel
 tunnels_behind port (Ok p) = tunnels 4 port p
 tunnels_behind port (Err e) = []
 
--- The tunnels through which `packet_in` reads a frame, in order. If it finds no packet, those before
--- the first fault.
+-- The tunnels through which `packet_in` reads a frame, in order. If it finds no packet, those
+-- before the first fault.
 unfoldable pub tunnels_in : ℕ → ℕ → ℕ → List ℕ → List Tunnel
 tunnels_in port link original_length frame =
     tunnels_behind port (behind_headers (2 ^ 16) (in_frame link original_length frame))

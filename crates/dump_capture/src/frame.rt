@@ -171,7 +171,7 @@ pub fn packet_in(
     carried(udp_port, payload)
 }
 
-/// Returns a frame, as what its first header stands in.
+/// Returns the payload that a link's header begins: the whole frame.
 pub(crate) fn in_frame(link_type: u16, original_length: u32, frame: &[u8]) -> Payload<'_>
     ensures { payload_of result ≡ in_frame link_type original_length frame.now }
 {

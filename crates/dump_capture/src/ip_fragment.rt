@@ -115,7 +115,7 @@ fn in_headers(payload: Payload<'_>) -> Option<IpFragment<'_>>
     None
 }
 
-/// Returns the fragment whose header is at the front, since it has nothing behind it.
+/// Returns the fragment whose header is at the front, where reading ended for this reason.
 fn fragment_at(payload: Payload<'_>, why: NoPacket) -> Option<IpFragment<'_>>
     ensures { fragment_result result ≡ fragment_at (payload_of payload.entry) why }
 {

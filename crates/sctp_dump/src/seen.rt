@@ -108,11 +108,20 @@ impl<'t, 'f, 'a> fmt::Display for SeenBrief<'t, 'f, 'a> {
         f.write_str(" ")?;
         write_end(source, transport, from, f)?;
         f.write_str(" > ")?;
-        write_end(destination, transport, to, f)?;
-        if let Part::Fragments(count) = seen.part {
-            write!(f, " (of {count} IP fragments)")?;
+        write_end(destination, transport, to, f)
+    }
+}
+
+/// How many IP fragments a packet was put together of, if it was, at the end of its line.
+#[derive(Clone, Copy)]
+pub struct FragmentsBrief(pub Part);
+
+impl fmt::Display for FragmentsBrief {
+    fn fmt<W: fmt::Write>(&self, f: &mut fmt::Formatter<W>) -> fmt::Result {
+        match self.0 {
+            Part::Fragments(count) => write!(f, " # fragments={count}"),
+            Part::Record | Part::Line => Ok(()),
         }
-        Ok(())
     }
 }
 

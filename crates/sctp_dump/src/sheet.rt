@@ -3,7 +3,7 @@
 use crate::counts::Counts;
 use crate::files::Files;
 use crate::options::{Options, OutputForm};
-use crate::seen::{SeenBrief, SeenJson, SeenLines};
+use crate::seen::{FragmentsBrief, SeenBrief, SeenJson, SeenLines};
 use crate::skipped::{SkippedJson, SkippedLine};
 use crate::summary::{Summary, SummaryJson, Unkept, UnkeptJson};
 use crate::tracker::Tracker;
@@ -83,9 +83,10 @@ pub fn push_packet(
                 word,
                 fault,
             };
-            let (seen, warnings) = (SeenBrief(seen), WarningsBrief(broken));
+            let (fragments, seen) = (FragmentsBrief(seen.part), SeenBrief(seen));
             let (resent, found) = (shown.resent, AuthenticationBrief(found));
-            writeln!(text, "{seen} {report}{resent}{found}{warnings}")
+            let warnings = WarningsBrief(broken);
+            writeln!(text, "{seen} {report}{fragments}{resent}{found}{warnings}")
         }
         OutputForm::Json => {
             let report = PacketJson {
