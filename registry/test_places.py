@@ -37,6 +37,9 @@ crates/dcsctp_wire/proofs/ChunkRows.antt = COOKIE ECHO = plain_satisfies 10 _ ki
 crates/dcsctp_borrowed/specs/RawParameters.antt = RE-CONFIG = parameters_of (ReConfig ps) = Some ps
 crates/dcsctp_borrowed/specs/RawParameters.antt = HEARTBEAT ACK = || typ == 5
 crates/dcsctp_borrowed/src/raw_causes.rt = ERROR = error_chunk::CHUNK_TYPE =>
+crates/dcsctp_borrowed/proofs/ParametersAgain.antt = State Cookie = use Rattle.dcsctp_tlv.specs.StateCookie as cookie
+crates/dcsctp_borrowed/proofs/CausesAgain.antt = Protocol Violation = use Rattle.dcsctp_cause.specs.ProtocolViolation as violation
+crates/dcsctp_borrowed/proofs/Widths.antt = No User Data = use Rattle.dcsctp_cause.specs.NoUserData as no_user_data
 crates/dcsctp_buffer/specs/Item.antt = INIT ACK = with_parameter (InitAck i) p =
 crates/dcsctp_c/src/parameters.rt = HEARTBEAT = heartbeat_request_chunk::CHUNK_TYPE
 crates/dcsctp_c/specs/Parameter.antt = SSN/TSN Reset Request = number_of (SsnTsnResetRequest number) = Some number
@@ -59,6 +62,7 @@ tests/c/fuzz.c = Zero Checksum Acceptable = case 0x8001: /* RFC 9653 section 4 *
 crates/dcsctp_c/specs/Parameter.antt = SSN/TSN Reset Request = the request number of an SSN/TSN Reset Request
 crates/dcsctp_c/src/parameters.rt = No User Data = the TSN of the cause No User Data
 include/dcsctp.h = Zero Checksum Acceptable = Zero Checksum Acceptable, the cause
+bindings/python/src/davgyuti/_fast.c = Zero Checksum Acceptable = {"ZeroChecksumAcceptable", {
 bindings/python/tests/support.py = Re-configuration Response = 16,
 bindings/cpp/dcsctp.hpp = Zero Checksum Acceptable = four bytes: Zero Checksum Acceptable
 bindings/js/davgyuti.d.ts = No User Data = | { code: Of<typeof CauseCode, 'NO_USER_DATA'>; number: number; missing?: undefined }
@@ -144,10 +148,13 @@ def try_lines(needs):
     for line in LINES.strip().splitlines():
         path, name, words = line.split(' = ', 2)
         text = places.read(path)
+        if text.count(words) != 1:
+            expect(False, f'{path} has not once what LINES of test_places.py has of it; type it anew', words)
+            continue
         start = text.find(words)
         left = without(text, start, start + len(words))
         lacking = named(needs, path, left)
-        expect(text.count(words) == 1 and lacking == {name}, path, name, words, 'named are', *sorted(lacking))
+        expect(lacking == {name}, path, name, words, 'named are', *sorted(lacking))
 
 
 def try_made():
