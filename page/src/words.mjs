@@ -73,7 +73,7 @@ const FIELDS = {
   '': {
     source: 'Source Port Number', destination: 'Destination Port Number', tag: 'Verification Tag',
     verdict: 'Whether the Checksum is right', expected: 'The Checksum that it has to be',
-    udp_source: 'Source Port of UDP', udp_destination: 'Destination Port of UDP',
+    udp_source: 'Source Port of UDP', udp_destination: 'Destination Port of UDP', fragments: 'IP Fragments that it was put together of',
   },
   chunks: {
     chunk: 'Chunk Type', flags: 'Chunk Flags', length: 'Chunk Length', tsn: 'Transmission Sequence Number', stream: 'Stream Identifier', ssn: 'Stream Sequence Number',
