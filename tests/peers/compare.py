@@ -265,6 +265,36 @@ def messages(talk, program, path):
                 yield None, f"{label}, sent by {ADDRESSES[sender]}: {len(got)} got, {len(shown)} shown, {len(sent)} sent"
 
 
+def fates(talk, program, path):
+    """What --messages says: of reliable channels each message that was sent is acknowledged, with its bytes, and was got; of the others
+    each that is acknowledged or abandoned was sent, and each that was got is one of these. It is acknowledged after it is sent, and an
+    abandoned one by a FORWARD-TSN of its sender."""
+    lines, first = dump(program, path, "--messages", "--payload"), talk.packets[0].sender
+    opened = {chunk["stream"]: chunk["label"] for it in lines for chunk in it.get("chunks", ())
+              if it.get("packet") and chunk.get("message_name") == "DATA_CHANNEL_OPEN"}
+    shown = [{label: [] for label in CHANNELS} for _ in ADDRESSES]
+    for it in lines:
+        if "message_of" in it and it.get("ppid") in MESSAGES and it["stream"] in opened:
+            value = MESSAGES[it["ppid"]](bytes.fromhex(it["payload"])) if "payload" in it else None
+            is_acknowledged = "acknowledged_packet" in it
+            shown[it["end"] ^ first][opened[it["stream"]]].append((value, is_acknowledged))
+            ends = talk.packets[it["sent_packet"] - 1].sender == it["end"] ^ first
+            if is_acknowledged:
+                ends &= it["delay"] >= 0 and talk.packets[it["acknowledged_packet"] - 1].sender == 1 - (it["end"] ^ first)
+            elif it.get("abandoned_by") == "FORWARD-TSN":
+                ends &= talk.packets[it["abandoned_packet"] - 1].sender == it["end"] ^ first
+            if not ends:
+                yield None, f"a message by another end: {it}"
+    for sender, label in ((sender, label) for sender in (0, 1) for label in CHANNELS):
+        sent, got = (sorted(it[label], key=repr) for it in (talk.sent[sender], talk.got[1 - sender]))
+        values = sorted((value for value, _ in shown[sender][label] if value is not None), key=repr)
+        is_whole = all(is_acknowledged and value is not None for value, is_acknowledged in shown[sender][label])
+        is_right = is_whole and sent == values == got if label in RELIABLE else is_part(got, values) and is_part(values, sent)
+        if not is_right:
+            said = f"{len(values)} of {len(shown[sender][label])} whole"
+            yield None, f"{label}, sent by {ADDRESSES[sender]}: {len(got)} got, {said}, {len(sent)} sent"
+
+
 def kinds(talk, program, path):
     """Each end sent each kind of chunk and list that is to be compared."""
     for sender in 0, 1:
@@ -279,4 +309,4 @@ def kinds(talk, program, path):
 
 
 READERS = {"sctp_dump": by_program, "the package": by_package, "tshark": by_tshark, "the association": association,
-           "the messages": messages, "the kinds": kinds}
+           "the messages": messages, "their fates": fates, "the kinds": kinds}
