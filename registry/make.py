@@ -65,7 +65,7 @@ def row_of(at, line):
         raise Broken(at, f'{len(cells) + 1} columns, but {level} has {len(columns) + 1}')
     for column, cell in zip(columns, cells):
         if not re.fullmatch(FORMS[column], cell):
-            raise Broken(at, f'no {column} is {cell}')
+            raise Broken(at, f'no {column} is {cell}' if cell else f'no {column}')
     row = types.SimpleNamespace(level=level, **dict(zip(columns, cells)))
     row.number = int(row.number, 0)
     if row.number >= 1 << BITS.get(level, 32):
@@ -78,6 +78,9 @@ def row_of(at, line):
     for column in ('least', 'group'):
         if getattr(row, 'read', '') == 'kind' and getattr(row, column, '') == '-':
             raise Broken(at, f'{row.name} is a kind, and has no {column}')
+    # (places.py goes by the names)
+    if getattr(row, 'read', '') == 'kind' and re.match(r'u?\d', row.value):
+        raise Broken(at, f'{row.name} is a kind, and its first field has no name')
     return row
 
 

@@ -61,6 +61,7 @@ BROKEN = [
     ('Asks for', 'asks for', 'no about is asks for'),
     ('  16+1  ', '  -  ', 'INIT is a kind, and has no least'),
     ('  setup  ', '  -  ', 'INIT is a kind, and has no group'),
+    ('  tag u32', '  u32', 'INIT is a kind, and its first field has no name'),
 ]
 
 
