@@ -5,15 +5,16 @@ set -u
 
 usage='usage: tests/dump/test.sh [--quick] [PROGRAM]
 
-Runs the program over the rows of runs.txt, and compares all that it prints, and its status. Its options have to be those
-of its manual page, docs/sctp_dump.1, at which mandoc, if it is there, finds nothing wrong. Then tools/rules.py has it
-ask the rules of the packets of rules.txt in examples/, it has the chunks of refused.txt and the captures in data/, reports.py compares
-what it prints of the packets of reports.txt, faults.py looks at lengths that are refused, objects.py at its JSON, forms.py
-at its three forms, logs.py at associations of logs, auth.py at AUTH, times.py at times, pcapng.py at the files that it writes; where tshark is, associations.py at
-associations of captures, messages.py at their messages, channels.py at their channels, fragments.py at IP fragments, and tshark.py at
-packets; where scapy is, scapy.py at the same; fields.py compares the JSON and the Python package, of each field of a real stack'\''s packets, with tshark and scapy; and it has a table that is full, and inputs and
-outputs that fail. The last line is: dump: N passed, M failed. --quick leaves out the scripts, a word that isn'\''t UTF-8, and
-an output that is limited, for a program that runs in an emulator or under Wine.
+Runs the program over the rows of runs.txt, and compares all that it prints, and its status. Its options have to be those of its
+manual page, docs/sctp_dump.1, at which mandoc, if it is there, finds nothing wrong. Then tools/rules.py has it ask the rules of
+the packets of rules.txt in examples/, it has the chunks of refused.txt and the captures in data/, reports.py compares what it
+prints of the packets of reports.txt, faults.py looks at lengths that are refused, objects.py at its JSON, forms.py at its three
+forms, logs.py at associations of logs, auth.py at AUTH, times.py at times, pcapng.py at the files that it writes; where tshark
+is, associations.py at associations of captures, messages.py at their messages, channels.py at their channels, fragments.py at IP
+fragments, and tshark.py at packets; where scapy is, scapy.py at the same; fields.py compares the JSON and the Python package, of
+each field of a real stack'\''s packets, with tshark and scapy; and it has a table that is full, and inputs and outputs that fail.
+The last line is: dump: N passed, M failed. --quick leaves out the scripts, a word that isn'\''t UTF-8, and an output that is
+limited, for a program that runs in an emulator or under Wine.
 
 The program is crates/sctp_dump/out/sctp_dump, which `rt ci` proved and built, unless another is named; if it is missing,
 or older than a source file, it is proved and built first.'
