@@ -1,4 +1,4 @@
--- The items behind the common header of an accepted packet are the frames of its chunks.
+-- The items after the common header of an accepted packet are the frames of its chunks.
 use Rattle.std.proofs.Common.{◌≡◌, ℕ, List, sym, ap, subst, ◌∙◌, length-drop}
 use Rattle.std.specs.Prelude.{Ok}
 use Rattle.dcsctp_tlv.specs.Frame as frame

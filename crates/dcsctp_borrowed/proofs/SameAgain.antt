@@ -365,7 +365,7 @@ causes_short first second value few =
       tested false true = text_short violation.unreadable value (omega arith) few
       tested false false = few
 
--- a value of INIT: numbers, and parameters behind them
+-- a value of INIT: numbers, and parameters after them
 init_size : (value : List ℕ) → length value ≤ 16 → again_size parameter_again (drop 16 value) ≡ 0
 init_size value le =
     ap (again_size parameter_again) (drop_all 16 value le)

@@ -204,7 +204,7 @@ fn same_streams(value: &[u8], other: &[u8]) -> bool
         && same_each(count, &value[place..], &other[other_place..])
 }
 
-/// Returns whether so many skipped streams are written the same, one by one.
+/// Returns whether the first `count` skipped streams of both are written the same.
 fn same_each(count: usize, left: &[u8], right: &[u8]) -> bool
     requires left { 8 * count ≤ length left.now }
     requires right { 8 * count ≤ length right.now }

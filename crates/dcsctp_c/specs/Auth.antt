@@ -5,7 +5,7 @@ use Rattle.dcsctp_auth.specs.Cookie.{CookieTree}
 use Rattle.dcsctp_c.specs.{Code.{no_room_code}, Part.{part_at}}
 use Rattle.dcsctp_c.specs.declared.structs.DcsctpCookie.{DcsctpCookie}
 
--- 0, or the code of an output that has no room for so many bytes
+-- 0, or the code of an output that has no room for these bytes
 abbrev pub room_code : ℕ → ℕ → ℕ
 room_code needed room = if nat_le needed room then 0 else no_room_code
 

@@ -61,15 +61,20 @@ macro_rules! kinds {
             [$($args)*]
             {
                 no_user_data_error_cause::CAUSE_CODE, NoUserData, NoUserDataErrorCause;
-                cookie_received_while_shutting_down::CAUSE_CODE, CookieReceivedWhileShuttingDown, CookieReceivedWhileShuttingDownErrorCause;
+                cookie_received_while_shutting_down::CAUSE_CODE, CookieReceivedWhileShuttingDown,
+                    CookieReceivedWhileShuttingDownErrorCause;
             }
             {
-                missing_mandatory_parameter_error_cause::CAUSE_CODE, MissingMandatoryParameter, MissingMandatoryParameterErrorCause;
-                user_initiated_abort_error_cause::CAUSE_CODE, UserInitiatedAbort, UserInitiatedAbortErrorCause;
-                protocol_violation_error_cause::CAUSE_CODE, ProtocolViolation, ProtocolViolationErrorCause;
+                missing_mandatory_parameter_error_cause::CAUSE_CODE, MissingMandatoryParameter,
+                    MissingMandatoryParameterErrorCause;
+                user_initiated_abort_error_cause::CAUSE_CODE, UserInitiatedAbort,
+                    UserInitiatedAbortErrorCause;
+                protocol_violation_error_cause::CAUSE_CODE, ProtocolViolation,
+                    ProtocolViolationErrorCause;
             }
             {
-                unrecognized_chunk_error_cause::CAUSE_CODE, UnrecognizedChunk, UnrecognizedChunkErrorCause, chunk;
+                unrecognized_chunk_error_cause::CAUSE_CODE, UnrecognizedChunk,
+                    UnrecognizedChunkErrorCause, chunk;
             }
         }
     };

@@ -17,17 +17,23 @@ macro_rules! plain_kinds {
             [$($args)*]
             {
                 $crate::shutdown_chunk::CHUNK_TYPE, Shutdown, $crate::shutdown_chunk::ShutdownChunk;
-                $crate::shutdown_ack_chunk::CHUNK_TYPE, ShutdownAck, $crate::shutdown_ack_chunk::ShutdownAckChunk;
-                $crate::cookie_ack_chunk::CHUNK_TYPE, CookieAck, $crate::cookie_ack_chunk::CookieAckChunk;
-                $crate::shutdown_complete_chunk::CHUNK_TYPE, ShutdownComplete, $crate::shutdown_complete_chunk::ShutdownCompleteChunk;
+                $crate::shutdown_ack_chunk::CHUNK_TYPE, ShutdownAck,
+                    $crate::shutdown_ack_chunk::ShutdownAckChunk;
+                $crate::cookie_ack_chunk::CHUNK_TYPE, CookieAck,
+                    $crate::cookie_ack_chunk::CookieAckChunk;
+                $crate::shutdown_complete_chunk::CHUNK_TYPE, ShutdownComplete,
+                    $crate::shutdown_complete_chunk::ShutdownCompleteChunk;
             }
             {
                 $crate::data_chunk::CHUNK_TYPE, Data, $crate::data_chunk::DataChunk;
                 $crate::sack_chunk::CHUNK_TYPE, Sack, $crate::sack_chunk::SackChunk;
-                $crate::cookie_echo_chunk::CHUNK_TYPE, CookieEcho, $crate::cookie_echo_chunk::CookieEchoChunk;
+                $crate::cookie_echo_chunk::CHUNK_TYPE, CookieEcho,
+                    $crate::cookie_echo_chunk::CookieEchoChunk;
                 $crate::idata_chunk::CHUNK_TYPE, IData, $crate::idata_chunk::IDataChunk;
-                $crate::forward_tsn_chunk::CHUNK_TYPE, ForwardTsn, $crate::forward_tsn_chunk::ForwardTsnChunk;
-                $crate::iforward_tsn_chunk::CHUNK_TYPE, IForwardTsn, $crate::iforward_tsn_chunk::IForwardTsnChunk;
+                $crate::forward_tsn_chunk::CHUNK_TYPE, ForwardTsn,
+                    $crate::forward_tsn_chunk::ForwardTsnChunk;
+                $crate::iforward_tsn_chunk::CHUNK_TYPE, IForwardTsn,
+                    $crate::iforward_tsn_chunk::IForwardTsnChunk;
             }
         }
     };

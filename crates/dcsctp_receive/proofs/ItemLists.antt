@@ -1,4 +1,4 @@
--- The items that lie somewhere are the first and those behind it: what a loop over them finds.
+-- The items that lie somewhere are the first and those after it: what a loop over them finds.
 use Rattle.std.proofs.Common.{◌≡◌, ◌<◌, ◌||◌, ◌&&◌, nat_le, nat_lt, ℕ, zero, suc, Bool, true, false, List, [], ◌∷◌, Option, Some, None, length, if◌then◌else◌, refl, sym, ap, subst, ◌∙◌, arith, inl, inr}
 use Rattle.std.proofs.lemmas.Bool.{cases_Bool, both_ways, and_parts, leb-true, lt-ltb, cond-true, cond-false}
 use Rattle.std.proofs.lemmas.List.{length-drop}

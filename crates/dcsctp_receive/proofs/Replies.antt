@@ -20,7 +20,7 @@ abbrev type_of : Reply → ℕ
 type_of ShutdownComplete = 14
 type_of Abort = 6
 
--- behind the header
+-- after the header
 body : (h : CommonHeader) (reply : Reply) → drop 12 (canonical (reply_to h reply))
     ≡ bare (type_of reply)
 unfolding canonical image_of

@@ -53,7 +53,7 @@ pub whole_is : (p : Part) → begins_with_item p ≡ true → AreBytes p.bytes
     → take (4 + (first_item p).value.size) p.bytes ≡ whole_item (first_item p)
 whole_is p is fits = whole_at p.bytes p.size (begins p is) fits
 
--- ---- what is left behind an item
+-- ---- what is left after an item
 
 abbrev left_of : Bool → Part → Part
 left_of stop p = if stop then front 0 (after_item p) else after_item p
@@ -82,10 +82,10 @@ module _ (action : Item → Option Action) (p left : Part) (i : Item) (act : Opt
     (stop : Bool) (count : ℕ) (some : begins_with_item p ≡ true) (is : i ≡ first_item p)
     (act_is : act ≡ action i) (stop_is : stop ≡ stops act)
     (count_is : count ≡ round_up_to_4 (length_field p))
-    (behind : left ≡ (if stop then front 0 (after count p) else after count p)) where
+    (rest_is : left ≡ (if stop then front 0 (after count p) else after count p)) where
   left_is : left ≡ left_of (stops (action i)) p
   left_is =
-      behind ∙ ap (λ (n : ℕ). if stop then front 0 (after n p) else after n p) count_is
+      rest_is ∙ ap (λ (n : ℕ). if stop then front 0 (after n p) else after n p) count_is
       ∙ ap (λ (s : Bool). left_of s p) (stop_is ∙ ap stops act_is)
 
   looked : looked_at action (items_of p) ≡ i ∷ looked_at action (items_of left)

@@ -11,7 +11,7 @@ use Rattle.dcsctp_receive.specs.declared.items.Wanted.TheVariants as wanted
 
 -- ---- the items that lie somewhere
 
--- the first n items, each behind the other's padding, up to the first length that is impossible
+-- the first n items, each after the other's padding, up to the first length that is impossible
 abbrev pub items_within : ℕ → Part → List Item
 items_within zero p = []
 items_within (suc n) p =
@@ -31,7 +31,7 @@ has_header packet = nat_lt 11 (length packet)
 abbrev pub tag_of : List ℕ → ℕ
 tag_of packet = number32 (drop 4 packet)
 
--- where its chunks lie, behind the common header
+-- where its chunks lie, after the common header
 abbrev pub chunk_part : Part → Part
 chunk_part packet = after 12 packet
 

@@ -27,7 +27,7 @@ numbers_fault n =
     if n.nbr_inbound_streams == 0 then Some NoInboundStreams else
     None
 
--- State Cookie, type 7, is mandatory in INIT ACK (table 8), behind the fixed-length parameters.
+-- State Cookie, type 7, is mandatory in INIT ACK (table 8), after the fixed-length parameters.
 abbrev pub cookie_fault : Item → Option InitFault
 cookie_fault c =
     if c.first == 2 then

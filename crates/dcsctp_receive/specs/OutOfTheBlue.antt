@@ -24,7 +24,7 @@ answer_of is_unicast tag chunks =
     -- processed as described in Section 5.1."
     if tag == 0 && contains 1 chunks then Init else
     -- 4) "If the packet contains a COOKIE ECHO chunk as the first chunk, it MUST be processed as
-    -- described in Section 5.1." Or "as the second chunk" behind an AUTH (RFC 4895 section 6.3).
+    -- described in Section 5.1." Or "as the second chunk" after an AUTH (RFC 4895 section 6.3).
     if begins_with 10 (after_auth chunks) then CookieEcho else
     -- 5) "If the packet contains a SHUTDOWN ACK chunk, the receiver SHOULD respond to the sender of
     -- the OOTB packet with a SHUTDOWN COMPLETE chunk."

@@ -32,7 +32,7 @@ verdict_of a tag chunks =
     -- C: "packets carrying a SHUTDOWN COMPLETE chunk"
     if contains 14 chunks then by_t_bit a tag (t_bit 14 chunks) else
     -- D: "The receiver of a COOKIE ECHO chunk follows the procedures in Section 5", by which it is
-    -- the first chunk, or the second behind an AUTH (RFC 4895 section 6.3).
+    -- the first chunk, or the second after an AUTH (RFC 4895 section 6.3).
     if begins_with 10 (after_auth chunks) then Establish else
     -- E: "packets carrying a SHUTDOWN ACK chunk": "If the receiver is in COOKIE-ECHOED or
     -- COOKIE-WAIT state, [..] it is treated as an OOTB packet."

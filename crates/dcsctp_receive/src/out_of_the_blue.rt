@@ -45,7 +45,7 @@ pub enum Reply {
 }
 
 /// Returns what is done with a packet that belongs to no association, by the steps of RFC 9260
-/// section 8.4 in their order; a COOKIE ECHO is the first chunk behind an AUTH too (RFC 4895
+/// section 8.4 in their order; a COOKIE ECHO is the first chunk after an AUTH too (RFC 4895
 /// section 6.3). Bytes without a common header are discarded.
 ///
 /// `is_unicast` says whether the packet is to and from unicast addresses. Its chunks are looked at

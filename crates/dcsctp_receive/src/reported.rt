@@ -147,27 +147,27 @@ pub(crate) fn next_reported<'a>(list: Part<'a>, handling: Handling<'_>) -> Optio
     let mut rest = list;
     while let Some(item) = rest.item() {
         let action = handling.action(item);
-        let behind = left_after(rest, item.padded, stops(action));
+        let left = left_after(rest, item.padded, stops(action));
         if is_reported(action) {
             are_bytes(rest.bytes);
             let whole = rest.front(TLV_HEADER_SIZE + item.value.size);
             return Some(Reported {
                 whole,
-                left: behind,
+                left,
             });
         }
-        rest = behind;
+        rest = left;
     }
     None
 }
 
-/// Returns what is looked at behind the first bytes.
+/// Returns what is looked at after the first bytes.
 fn left_after(rest: Part<'_>, count: usize, stops: bool) -> Part<'_>
     ensures { part_of result ≡ if stops then front 0 (after count (part_of rest.entry)) else
         after count (part_of rest.entry) }
 {
-    let behind = rest.after(count);
-    if stops { behind.front(0) } else { behind }
+    let left = rest.after(count);
+    if stops { left.front(0) } else { left }
 }
 
 /// Returns the offset, from the front of the list, of the first item at which processing stops.

@@ -16,7 +16,7 @@ const RESTART_WITH_NEW_ADDRESSES: u16 = 11;
 /// Initiate Tag; the association stays as it is (RFC 9260 section 5.2.2, and section 5.2.1 in the
 /// state COOKIE-ECHOED).
 ///
-/// `list` holds the INIT's parameters, behind its fixed-length ones, and `known` the association's
+/// `list` holds the INIT's parameters, after its fixed-length ones, and `known` the association's
 /// addresses, as parameters too: IPv4 Address and IPv6 Address. What comes after the first whose
 /// length is impossible isn't looked at. The address that the packet came from is none of them: the
 /// caller looks at it.

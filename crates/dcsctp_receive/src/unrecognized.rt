@@ -19,7 +19,7 @@ const UNRECOGNIZED_PARAMETER: u16 = 8;
 /// Adds an Unrecognized Parameter (RFC 9260 section 3.3.3.1.2) for each parameter of an INIT that
 /// is reported (section 3.2.2), to the INIT ACK, the packet's last chunk, which begins at `start`.
 ///
-/// `list` holds the INIT's parameters, behind its fixed-length ones, and `known` the types that are
+/// `list` holds the INIT's parameters, after its fixed-length ones, and `known` the types that are
 /// recognized. Of the others those are reported of which section 3.2.1 says so, whole, in order and
 /// without padding, up to the first at which processing stops, and with it. What comes after the
 /// first whose length is impossible isn't looked at.
@@ -136,7 +136,7 @@ pub fn add_unrecognized_chunks(
     Ok(in_packet(stop_offset(chunks, handling)))
 }
 
-/// Returns the offset in a packet of what has this one behind the common header.
+/// Returns the offset in a packet of what has this one after the common header.
 fn in_packet(offset: Option<usize>) -> Option<usize>
     requires { IfSome offset (λ at. 12 + at < 2 ^ 64) }
     ensures { result ≡ option_map (λ at. 12 + at) offset }

@@ -107,21 +107,31 @@ macro_rules! kinds {
         $arms! {
             [$($args)*]
             {
-                ssn_tsn_reset_request_parameter::PARAMETER_TYPE, SsnTsnResetRequest, SsnTsnResetRequestParameter;
-                reconfiguration_response_parameter::PARAMETER_TYPE, ReconfigurationResponse, ReconfigurationResponseParameter;
-                add_outgoing_streams_request_parameter::PARAMETER_TYPE, AddOutgoingStreamsRequest, AddOutgoingStreamsRequestParameter;
-                add_incoming_streams_request_parameter::PARAMETER_TYPE, AddIncomingStreamsRequest, AddIncomingStreamsRequestParameter;
-                zero_checksum_acceptable_parameter::PARAMETER_TYPE, ZeroChecksumAcceptable, ZeroChecksumAcceptableParameter;
-                forward_tsn_supported_parameter::PARAMETER_TYPE, ForwardTsnSupported, ForwardTsnSupportedParameter;
+                ssn_tsn_reset_request_parameter::PARAMETER_TYPE, SsnTsnResetRequest,
+                    SsnTsnResetRequestParameter;
+                reconfiguration_response_parameter::PARAMETER_TYPE, ReconfigurationResponse,
+                    ReconfigurationResponseParameter;
+                add_outgoing_streams_request_parameter::PARAMETER_TYPE, AddOutgoingStreamsRequest,
+                    AddOutgoingStreamsRequestParameter;
+                add_incoming_streams_request_parameter::PARAMETER_TYPE, AddIncomingStreamsRequest,
+                    AddIncomingStreamsRequestParameter;
+                zero_checksum_acceptable_parameter::PARAMETER_TYPE, ZeroChecksumAcceptable,
+                    ZeroChecksumAcceptableParameter;
+                forward_tsn_supported_parameter::PARAMETER_TYPE, ForwardTsnSupported,
+                    ForwardTsnSupportedParameter;
             }
             {
-                outgoing_ssn_reset_request_parameter::PARAMETER_TYPE, OutgoingSsnResetRequest, OutgoingSsnResetRequestParameter;
-                incoming_ssn_reset_request_parameter::PARAMETER_TYPE, IncomingSsnResetRequest, IncomingSsnResetRequestParameter;
+                outgoing_ssn_reset_request_parameter::PARAMETER_TYPE, OutgoingSsnResetRequest,
+                    OutgoingSsnResetRequestParameter;
+                incoming_ssn_reset_request_parameter::PARAMETER_TYPE, IncomingSsnResetRequest,
+                    IncomingSsnResetRequestParameter;
             }
             {
-                heartbeat_info_parameter::PARAMETER_TYPE, HeartbeatInfo, HeartbeatInfoParameter, info;
+                heartbeat_info_parameter::PARAMETER_TYPE, HeartbeatInfo, HeartbeatInfoParameter,
+                    info;
                 state_cookie_parameter::PARAMETER_TYPE, StateCookie, StateCookieParameter, cookie;
-                supported_extensions_parameter::PARAMETER_TYPE, SupportedExtensions, SupportedExtensionsParameter, chunk_types;
+                supported_extensions_parameter::PARAMETER_TYPE, SupportedExtensions,
+                    SupportedExtensionsParameter, chunk_types;
             }
         }
     };

@@ -118,7 +118,8 @@ macro_rules! type_arms {
 macro_rules! listed_check_arms {
     (
         [$typ:expr, $flags:expr, $value:expr, $strict:expr, $($other:tt)*]
-        { $($fixed:tt)* } { $($copied:tt)* } { $($listed_type:path, $variant:ident, $listed:path;)* }
+        { $($fixed:tt)* } { $($copied:tt)* }
+        { $($listed_type:path, $variant:ident, $listed:path;)* }
     ) => {
         match $typ {
             $($listed_type => <$listed>::check($flags, $value, $strict),)*
@@ -131,7 +132,8 @@ macro_rules! listed_check_arms {
 /// arms that follow.
 macro_rules! chunk_build_arms {
     (
-        [$typ:expr, $alloc:expr, $flags:expr, $value:expr, $chunk:ident => $does:expr, { $($other:tt)* }]
+        [$typ:expr, $alloc:expr, $flags:expr, $value:expr, $chunk:ident => $does:expr,
+            { $($other:tt)* }]
         { $($fixed_type:path, $fixed_variant:ident, $fixed:path;)* }
         $({ $($copied_type:path, $copied_variant:ident, $copied:path;)* })*
     ) => {
@@ -154,7 +156,8 @@ macro_rules! chunk_build_arms {
 macro_rules! fill_arms {
     (
         [$list:expr, $typ:expr, $alloc:expr, $flags:expr, $value:expr, $($other:tt)*]
-        { $($fixed:tt)* } { $($copied:tt)* } { $($listed_type:path, $variant:ident, $listed:path;)* }
+        { $($fixed:tt)* } { $($copied:tt)* }
+        { $($listed_type:path, $variant:ident, $listed:path;)* }
     ) => {
         match $typ {
             $($listed_type => {

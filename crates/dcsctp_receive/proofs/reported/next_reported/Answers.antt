@@ -17,12 +17,12 @@ returns-then-is_reported-clause-found c =
     let action = action_by c.args.handling in
     let p = part_of c.loop-item.rest in
     let i = item_of c.in-Some.item in
-    let left = part_of c.left_after-behind.result in
+    let left = part_of c.left_after-left.result in
     c.loop-item.invariant.same
     ∙ reported_first action p left i c.action-action.result c.stops.result c.in-Some.item.padded
     c.in-Some.ensures.0 c.in-Some.ensures.1 c.action-action.ensures c.stops.ensures
     c.in-Some.ensures.2
-    c.left_after-behind.ensures c.is_reported.result c.is_reported.ensures c.if-is_reported.true
+    c.left_after-left.ensures c.is_reported.result c.is_reported.ensures c.if-is_reported.true
     ∙ ap (λ (bytes : List ℕ). bytes ∷ wholes action (items_of left))
     (sym (whole_read p (part_of c.front-whole.result) i c.in-Some.ensures.0 c.in-Some.ensures.1
     c.are_bytes.ensures c.front-whole.ensures))
@@ -32,17 +32,17 @@ loop-item-preserved c =
     let action = action_by c.args.handling in
     let p = part_of c.loop-item.rest in
     let i = item_of c.in-Some.item in
-    let left = part_of c.left_after-behind.result in
+    let left = part_of c.left_after-left.result in
     let less = left_less action p left i c.action-action.result c.stops.result c.in-Some.item.padded
     c.in-Some.ensures.0 c.in-Some.ensures.1 c.action-action.ensures c.stops.ensures
     c.in-Some.ensures.2
-    c.left_after-behind.ensures in
+    c.left_after-left.ensures in
     record {
       same = c.loop-item.invariant.same
           ∙ reported_later action p left i c.action-action.result c.stops.result
           c.in-Some.item.padded
           c.in-Some.ensures.0 c.in-Some.ensures.1 c.action-action.ensures c.stops.ensures
-          c.in-Some.ensures.2 c.left_after-behind.ensures c.is_reported.result
+          c.in-Some.ensures.2 c.left_after-left.ensures c.is_reported.result
           c.is_reported.ensures c.if-is_reported.false;
       fewer = omega (arith, c.loop-item.invariant.fewer, less);
     }

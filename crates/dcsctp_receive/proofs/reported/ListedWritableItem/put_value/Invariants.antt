@@ -1,4 +1,4 @@
--- There is room for the items of the rest; once these are put behind those so far, all are.
+-- There is room for the items of the rest; once these are put after those so far, all are.
 use Rattle.std.proofs.Common.{◌≡◌, ◌+◌, ◌≤◌, length}
 use Rattle.std.specs.List.{concat}
 use Rattle.dcsctp_tlv.specs.Image.{put}
