@@ -9,7 +9,8 @@ use Rattle.dcsctp_receive.specs.{Chunks.{items_of, is_numbered, is_same}, Unreco
 -- and 3.3.2.1.2)
 abbrev pub is_address : Item → Bool
 is_address p =
-    (is_numbered 5 p && length p.value.bytes == 4) || (is_numbered 6 p && length p.value.bytes == 16)
+    (is_numbered 5 p && length p.value.bytes == 4)
+    || (is_numbered 6 p && length p.value.bytes == 16)
 
 -- "addresses [..] that were previously not part of the association", of which these are known
 abbrev pub is_new : List Item → Item → Bool

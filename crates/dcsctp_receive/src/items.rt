@@ -53,7 +53,8 @@ pub(crate) fn chunk_part(packet: &[u8]) -> Part
 
 /// Returns the first item that is looked for.
 fn first<'a>(list: Part<'a>, wanted: Wanted<'_>) -> Option<Item<'a>>
-    ensures { option_map item_of result ≡ find (is_wanted wanted.entry) (items_of (part_of list.entry)) }
+    ensures { option_map item_of result
+        ≡ find (is_wanted wanted.entry) (items_of (part_of list.entry)) }
 {
     let mut items = list.items();
     while let Some(item) = items.next() {

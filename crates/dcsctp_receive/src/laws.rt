@@ -13,8 +13,8 @@ ghost use Rattle.dcsctp_receive.specs.declared.out_of_the_blue.OutOfTheBlue.TheV
 ghost use Rattle.dcsctp_receive.specs.declared.out_of_the_blue.Reply.{Reply};
 ghost use Rattle.dcsctp_receive.specs.declared.rule.{Rule.{Rule}, TheConstants.Rule.{ALL}};
 
-/// Proves that the items that lie somewhere are those that `Items` of `dcsctp_borrowed` returns, and
-/// no other list; and that the chunks of an accepted packet are its chunks: one for one, their
+/// Proves that the items that lie somewhere are those that `Items` of `dcsctp_borrowed` returns,
+/// and no other list; and that the chunks of an accepted packet are its chunks: one for one, their
 /// types, flags and values mean the packet's trees.
 pub fn chunks_are()
     ensures items { (p : Part) → AreItems p (items_of p) }

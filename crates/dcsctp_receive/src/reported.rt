@@ -151,10 +151,7 @@ pub(crate) fn next_reported<'a>(list: Part<'a>, handling: Handling<'_>) -> Optio
         if is_reported(action) {
             are_bytes(rest.bytes);
             let whole = rest.front(TLV_HEADER_SIZE + item.value.size);
-            return Some(Reported {
-                whole,
-                left,
-            });
+            return Some(Reported { whole, left });
         }
         rest = left;
     }

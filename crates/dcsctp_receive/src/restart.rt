@@ -12,9 +12,9 @@ use dcsctp_buffer::item::add_written;
 /// The error cause Restart of an Association with New Addresses (RFC 9260 section 3.3.10.11).
 const RESTART_WITH_NEW_ADDRESSES: u16 = 11;
 
-/// Returns whether an INIT adds addresses to an association, which is answered by an ABORT under its
-/// Initiate Tag; the association stays as it is (RFC 9260 section 5.2.2, and section 5.2.1 in the
-/// state COOKIE-ECHOED).
+/// Returns whether an INIT adds addresses to an association, which is answered by an ABORT under
+/// its Initiate Tag; the association stays as it is (RFC 9260 section 5.2.2, and section 5.2.1 in
+/// the state COOKIE-ECHOED).
 ///
 /// `list` holds the INIT's parameters, after its fixed-length ones, and `known` the association's
 /// addresses, as parameters too: IPv4 Address and IPv6 Address. What comes after the first whose
@@ -30,9 +30,9 @@ pub fn adds_addresses(list: &[u8], known: &[u8]) -> bool
     }
 }
 
-/// Adds to an ABORT, the packet's last chunk, which begins at `start`, the error cause Restart of an
-/// Association with New Addresses (RFC 9260 section 3.3.10.11): it lists the addresses that the INIT
-/// adds, in order, as they are in the INIT. `list` and `known` are as of `adds_addresses`.
+/// Adds to an ABORT, the packet's last chunk, which begins at `start`, the error cause Restart of
+/// an Association with New Addresses (RFC 9260 section 3.3.10.11): it lists the addresses that the
+/// INIT adds, in order, as they are in the INIT. `list` and `known` are as of `adds_addresses`.
 ///
 /// Returns what `add_written` of `dcsctp_buffer` returns, and then changes nothing.
 pub fn add_new_addresses(

@@ -62,9 +62,9 @@ pub fn add_unrecognized_parameters(
     Ok(stop_offset(parameters, handling))
 }
 
-/// Adds an ERROR with a cause Unrecognized Parameters (RFC 9260 section 3.3.10.8) for each parameter
-/// of an INIT ACK, or of another chunk but INIT, that is reported (section 3.2.2); no ERROR where
-/// there is none.
+/// Adds an ERROR with a cause Unrecognized Parameters (RFC 9260 section 3.3.10.8) for each
+/// parameter of an INIT ACK, or of another chunk but INIT, that is reported (section 3.2.2); no
+/// ERROR where there is none.
 ///
 /// The packet is the one that answers: that of an INIT ACK begins with COOKIE ECHO. `list` and
 /// `known` are as of `add_unrecognized_parameters`, and the same are reported.

@@ -18,7 +18,7 @@ alike_then xs ys zs a b = (
   λ k d within. b.2 k d (omega (arith, a.0, within)) ∙ a.2 k d within,
 )
 
--- what stands in each place after a write
+-- the element at each place after a write
 module _ (xs : List Path) (i : ℕ) (y d : Path) (within : i < length xs) where
   there : (k : ℕ) (e : Path) → k ≡ i → slice_index_or (slice_set xs i y) k e ≡ y
   there k e same =

@@ -3,7 +3,7 @@ use Rattle.std.proofs.Common.{◌≡◌, ◌+◌, ◌<◌, ℕ, suc, List, [], �
 use Rattle.std.proofs.lemmas.List.{drop_more, take-append-drop, set_split, set_at}
 use Rattle.dump_analysis.specs.declared.unanswered.Question.{Question}
 
--- all that stands before a place, what stands there, and all behind it
+-- the elements before a place, the one at it, and those after it
 pub split : (qs : List Question) (place : ℕ) (d : Question) → place < length qs
     → qs ≡ take place qs ++ slice_index_or qs place d ∷ drop (place + 1) qs
 split qs place d within =

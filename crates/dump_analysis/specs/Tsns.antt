@@ -20,7 +20,7 @@ IsMarked words tsn = bit_at (slice_index words (tsn / 64 % 32)) (tsn % 64) ≡ 1
 abbrev pub HaveOneBit : ℕ → ℕ → Type 0
 HaveOneBit one other = one % 2048 ≡ other % 2048
 
--- it comes 2,048 or more behind the last one, or is marked
+-- it comes 2,048 or more before the last one, or is marked
 abbrev pub WasSeen : Span → List ℕ → ℕ → Type 0
 WasSeen span words tsn = (2048 ≤ ahead tsn span.last) ⊎ IsMarked words tsn
 

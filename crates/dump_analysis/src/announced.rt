@@ -354,7 +354,7 @@ impl Announcements {
         self.requests[MOST_REQUESTS - 1] = Some(id);
     }
 
-    /// Notes a request in a packet from this source. An address of all zeros stands for the source,
+    /// Notes a request in a packet from this source. An address of all zeros is the source,
     /// or where it is deleted, for all others (RFC 5061 sections 4.2.1, 4.2.2 and 4.2.4).
     fn note_request(
         &mut self,

@@ -91,7 +91,7 @@ impl Channels {
             Some((stream, Establishment::Open(opened))) => self.open(stream, opened, most),
             Some((stream, Establishment::Ack)) => {
                 let by = sender;
-                tell(&mut self.list, News::Accepted { stream, by, moment });
+                notify(&mut self.list, News::Accepted { stream, by, moment });
                 Ok(())
             }
             None => Ok(()),
@@ -157,7 +157,7 @@ impl Channels {
             return Ok(());
         }
         let packet = opened.sent.packet;
-        tell(&mut self.list, News::Opened { stream, packet });
+        notify(&mut self.list, News::Opened { stream, packet });
         if self.list.len() < MOST.min(most) {
             self.list.push(Channel::new(stream, None, Some(opened)))?;
         }
@@ -209,7 +209,7 @@ fn note_requests(list: &mut Vec<Channel>, sender: Side, packet: PacketNumber, va
 {
     for parameter in value.items() {
         if let Some(news) = news_of(parameter, sender, packet) {
-            tell(list, news);
+            notify(list, news);
         }
     }
 }
@@ -238,18 +238,18 @@ fn news_of(parameter: Item<'_>, sender: Side, packet: PacketNumber) -> Option<Ne
     }
 }
 
-/// Tells all channels what is said of some.
-fn tell(list: &mut Vec<Channel>, news: News<'_>)
+/// Notifies all channels of what is said of some.
+fn notify(list: &mut Vec<Channel>, news: News<'_>)
     ensures size { vec_len list.new ≡ vec_len list.old }
     ensures counts { AreAlike list.old.items list.new.items }
 {
     for place in 0..list.len() {
-        tell_at(list, place, news);
+        notify_at(list, place, news);
     }
 }
 
-/// Tells the channel in a place.
-fn tell_at(list: &mut Vec<Channel>, place: usize, news: News<'_>)
+/// Notifies the channel in a place.
+fn notify_at(list: &mut Vec<Channel>, place: usize, news: News<'_>)
     ensures size { vec_len list.new ≡ vec_len list.old }
     ensures counts { AreAlike list.old.items list.new.items }
 {

@@ -75,7 +75,7 @@ impl Route {
         }
     }
 
-    /// Returns whether nothing but tags tells the two ends apart.
+    /// Returns whether nothing but tags distinguishes the two ends.
     pub fn has_equal_ends(self) -> bool
         ensures { IsTrue result ↔ (self.from ≡ self.to) }
     {

@@ -148,12 +148,12 @@ impl Paths {
             }
             FORWARD_TSN | I_FORWARD_TSN if value.len() >= 4 => {
                 let news = News::Skipped(read_u32_be(value));
-                tell(&mut self.list, sender, packet, news);
+                notify(&mut self.list, sender, packet, news);
             }
             SACK | NR_SACK | SHUTDOWN => {
                 if let Some(acknowledged) = Acknowledgement::of(chunk) {
                     let news = News::Acknowledged(acknowledged);
-                    tell(&mut self.list, sender.other(), packet, news);
+                    notify(&mut self.list, sender.other(), packet, news);
                 }
             }
             HEARTBEAT => ask(&mut self.list, place, digest(value), packet),
@@ -170,7 +170,7 @@ impl Paths {
     {
         if self.step_of(sender, packet.number, tsn) == Step::Repeated {
             repeat(&mut self.list, place);
-            tell(&mut self.list, sender, packet, News::Again(tsn));
+            notify(&mut self.list, sender, packet, News::Again(tsn));
         } else {
             wait(&mut self.list, place, packet, tsn);
         }
@@ -272,19 +272,19 @@ fn answer_at(list: &mut Vec<Path>, place: usize, asker: Side, key: u64) -> bool
     true
 }
 
-/// Tells all paths of an end what a chunk says of its DATA.
-fn tell(list: &mut Vec<Path>, sender: Side, packet: &SeenPacket<'_>, news: News<'_>)
+/// Notifies all paths of an end of what a chunk says of its DATA.
+fn notify(list: &mut Vec<Path>, sender: Side, packet: &SeenPacket<'_>, news: News<'_>)
     ensures size { vec_len list.new ≡ vec_len list.old }
     ensures packets { packets_on list.new.items ≡ packets_on list.old.items }
     ensures alike { CountAlike list.old.items list.new.items }
 {
     for place in 0..list.len() {
-        tell_at(list, place, sender, packet, news);
+        notify_at(list, place, sender, packet, news);
     }
 }
 
-/// Tells the path in a place, if it is one of this end.
-fn tell_at(
+/// Notifies the path in a place, if it is one of this end.
+fn notify_at(
     list: &mut Vec<Path>,
     place: usize,
     sender: Side,

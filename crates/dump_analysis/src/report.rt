@@ -324,10 +324,11 @@ impl<'a> AssociationReport<'a> {
         let (sent, abandoned) = (end.counts.forward_tsns, end.counts.abandoned);
         let (count, tsn) = (skipped.count, skipped.tsn);
         let packet = self.packet(skipped.packet);
-        writeln!(
+        write!(
             f,
-            "  FORWARD-TSN {sent}: skipped TSNs {count}, to {tsn} ({packet}), abandoned messages {abandoned}"
-        )
+            "  FORWARD-TSN {sent}: skipped TSNs {count}, to {tsn} ({packet})"
+        )?;
+        writeln!(f, ", abandoned messages {abandoned}")
     }
 
     /// Writes the line of SACKs.

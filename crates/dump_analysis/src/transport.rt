@@ -1,4 +1,4 @@
-//! The names of transports, which tell the associations of a log apart.
+//! The names of transports, which distinguish the associations of a log.
 
 ghost use Rattle.std.specs.Prelude.{◌≡◌, ◌<◌, ◌⊎◌, length, take, All, Any, IfSome, IfNone};
 ghost use Rattle.dump_analysis.specs.Transports.{IsPrintable, AreUnnamed, AreOther};

@@ -47,7 +47,7 @@ pub enum Step {
     },
     /// A greater one was seen, and it wasn't.
     Late,
-    /// It was seen, or is 2,048 or more behind the greatest one.
+    /// It was seen, or is 2,048 or more before the greatest one.
     Repeated,
 }
 
@@ -121,9 +121,9 @@ impl Tsns {
             self.old.missing }
         ensures repeated { RepeatsOne self.old tsn number result self.new }
     {
-        let behind = span.last.wrapping_sub(tsn);
+        let back = span.last.wrapping_sub(tsn);
         let size = span.last.wrapping_sub(span.first);
-        if behind >= WINDOW || is_marked(&self.seen, tsn) {
+        if back >= WINDOW || is_marked(&self.seen, tsn) {
             increase(&mut self.repeated);
             if self.first_repeated.is_none() {
                 self.first_repeated = Some(number);
@@ -131,10 +131,10 @@ impl Tsns {
             }
             return Step::Repeated;
         }
-        if behind <= size {
+        if back <= size {
             self.missing = self.missing.saturating_sub(1);
         } else {
-            let between = u64::from(behind).saturating_sub(u64::from(size) + 1);
+            let between = u64::from(back).saturating_sub(u64::from(size) + 1);
             self.missing = self.missing.saturating_add(between);
             self.span = Some(Span {
                 first: tsn,

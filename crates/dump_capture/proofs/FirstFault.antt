@@ -1,8 +1,8 @@
 -- Where the first of several steps fails.
 use Rattle.std.proofs.Common.{◌≡◌, ◌+◌, ◌-◌, ◌<◌, ◌≤◌, ◌^◌, ℕ, Bool, zero, suc, true, false, cond, List, Option, None, Some, Result, Ok, Err, refl, ap, sym, ◌∙◌, arith}
 use Rattle.dump_capture.specs.Payload.{Payload, ◌>>=◌, after_steps}
-use Rattle.dump_capture.specs.Tunnel.{is_tunnel, behind_tunnel}
-use Rattle.dump_capture.specs.Frame.{begins_with_header, behind_header, behind_headers, behind_tunnels, through_tunnel, in_frame, carried, packet_in}
+use Rattle.dump_capture.specs.Tunnel.{is_tunnel, past_tunnel}
+use Rattle.dump_capture.specs.Frame.{begins_with_header, past_header, past_headers, past_tunnels, through_tunnel, in_frame, carried, packet_in}
 use Rattle.dump_capture.specs.IpFragment.{Fragment, at_fault, first_fault, fragment_at, in_headers, in_carried, in_tunnel, in_tunnels, in_outer, fragment_in}
 use Rattle.dump_capture.specs.declared.frame.NoPacket.{NoPacket}
 use Rattle.dump_capture.specs.declared.frame.NoPacket.TheVariants.{Fragment as IsFragment, LinkType, Cut, Malformed, Other}
@@ -81,28 +81,28 @@ fragment_why p Malformed f h = absurd (cc)
 fragment_why p Other f h = absurd (cc)
 
 headers_end : (p : Payload) (f : Fragment) → in_headers (2 ^ 16) p ≡ Some f
-    → behind_headers (2 ^ 16) p ≡ Err IsFragment
+    → past_headers (2 ^ 16) p ≡ Err IsFragment
 headers_end p f h =
-    let it = fault_of fragment_at begins_with_header behind_header (2 ^ 16) p f h in
+    let it = fault_of fragment_at begins_with_header past_header (2 ^ 16) p f h in
     it.ends ∙ ap (λ (w : NoPacket). Err w) (fragment_why it.at it.why f it.is)
 
 tunnel_ends : (r : Result Payload NoPacket) (f : Fragment) → in_carried r ≡ Some f
-    → (r >>= behind_headers (2 ^ 16)) ≡ Err IsFragment
+    → (r >>= past_headers (2 ^ 16)) ≡ Err IsFragment
 tunnel_ends (Ok q) f h = headers_end q f h
 tunnel_ends (Err why) f h = absurd (cc)
 
 tunnels_end : (port : ℕ) (p : Payload) (f : Fragment) → in_tunnels 4 port p ≡ Some f
-    → behind_tunnels 4 port p ≡ Err IsFragment
+    → past_tunnels 4 port p ≡ Err IsFragment
 tunnels_end port p f h =
     let it = fault_of in_tunnel (is_tunnel port) through_tunnel 4 p f h in
-    it.ends ∙ (sym it.fails ∙ tunnel_ends (behind_tunnel it.at) f it.is)
+    it.ends ∙ (sym it.fails ∙ tunnel_ends (past_tunnel it.at) f it.is)
 
 outer_ends : (port : ℕ) (p : Payload) (r : Result Payload NoPacket) (f : Fragment)
-    → behind_headers (2 ^ 16) p ≡ r → in_outer port p r ≡ Some f
-    → (r >>= behind_tunnels 4 port >>= carried port) ≡ Err IsFragment
+    → past_headers (2 ^ 16) p ≡ r → in_outer port p r ≡ Some f
+    → (r >>= past_tunnels 4 port >>= carried port) ≡ Err IsFragment
 outer_ends port p (Ok outer) f e h = ap (λ (r : Result Payload NoPacket). r >>= carried port)
     (tunnels_end port outer f h)
-outer_ends port p (Err why) f e h = ap (λ (r : Result Payload NoPacket). r >>= behind_tunnels 4
+outer_ends port p (Err why) f e h = ap (λ (r : Result Payload NoPacket). r >>= past_tunnels 4
     port >>= carried port)
     (sym e ∙ headers_end p f h)
 
@@ -112,4 +112,4 @@ pub is_no_packet : (port link original_length : ℕ) (frame : List ℕ) (f : Fra
 unfolding fragment_in packet_in
 is_no_packet port link original_length frame f h =
     let p = in_frame link original_length frame in
-    outer_ends port p (behind_headers (2 ^ 16) p) f refl h
+    outer_ends port p (past_headers (2 ^ 16) p) f refl h

@@ -5,18 +5,18 @@ use Rattle.dump_capture.specs.Decoding.{Items, none, more, Reads}
 use Rattle.dump_capture.specs.declared.decoder.Fault.{Fault}
 
 pub Items-cons : {S : Type 0} (Item : S → List ℕ → List Event → S → Type 0) (s t u : S)
-    (bytes behind : List ℕ) (events others : List Event)
-    → Item s bytes events t → Items Item t behind others u
-    → Items Item s (bytes ++ behind) (events ++ others) u
-Items-cons Item s t u bytes behind events others item (none _ _ _ _ no_bytes no_events same) =
-    more s s u (bytes ++ behind) [] bytes (events ++ others) [] events
+    (bytes past : List ℕ) (events others : List Event)
+    → Item s bytes events t → Items Item t past others u
+    → Items Item s (bytes ++ past) (events ++ others) u
+Items-cons Item s t u bytes past events others item (none _ _ _ _ no_bytes no_events same) =
+    more s s u (bytes ++ past) [] bytes (events ++ others) [] events
     (none s s [] [] refl refl refl)
     (subst (λ x. Item s bytes events x) (sym same) item)
     (ap (λ (x : List ℕ). bytes ++ x) no_bytes ∙ append-nil bytes)
     (ap (λ (x : List Event). events ++ x) no_events ∙ append-nil events)
-Items-cons Item s t u bytes behind events others item
+Items-cons Item s t u bytes past events others item
     (more _ before _ _ front last _ first final items one split whole) =
-    more s before u (bytes ++ behind) (bytes ++ front) last (events ++ others) (events ++ first)
+    more s before u (bytes ++ past) (bytes ++ front) last (events ++ others) (events ++ first)
     final
     (Items-cons Item s t before bytes front events first item items)
     one
@@ -25,10 +25,10 @@ Items-cons Item s t u bytes behind events others item
 
 pub Reads-cons : {S : Type 0} (Item : S → List ℕ → List Event → S → Type 0)
     (End : S → List ℕ → List Event → Option Fault → Type 0) (s t : S)
-    (bytes behind : List ℕ) (events others : List Event) (fault : Option Fault)
-    → Item s bytes events t → Reads Item End t behind others fault
-    → Reads Item End s (bytes ++ behind) (events ++ others) fault
-Reads-cons Item End s t bytes behind events others fault item r = record {
+    (bytes past : List ℕ) (events others : List Event) (fault : Option Fault)
+    → Item s bytes events t → Reads Item End t past others fault
+    → Reads Item End s (bytes ++ past) (events ++ others) fault
+Reads-cons Item End s t bytes past events others fault item r = record {
   front = bytes ++ r.front;
   rest = r.rest;
   first = events ++ r.first;

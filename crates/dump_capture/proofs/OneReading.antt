@@ -78,11 +78,11 @@ run_one Item End is fault other s bytes same events others
     (step _ u _ y left _ begin last piece next parts all) e =
     let joined : x ++ rest ≡ y ++ left = sym split ∙ e ∙ parts in
     let one = is.one s t u x y rest left first begin item piece joined in
-    let behind : rest ≡ left = sym (drop_at x rest (length x) refl)
+    let past : rest ≡ left = sym (drop_at x rest (length x) refl)
     ∙ ap (drop (length x)) (joined ∙ ap (λ (b : List ℕ). b ++ left) (sym one.0))
     ∙ drop_at x left (length x) refl in
     let later = run_one Item End is fault other t rest left final last run
-    (subst (λ v. Run Item End other v left last) (sym one.2) next) behind in (
+    (subst (λ v. Run Item End other v left last) (sym one.2) next) past in (
       whole ∙ ap (λ (f : List Event). f ++ final) one.1
           ∙ ap (λ (f : List Event). begin ++ f) later.0 ∙ sym all,
       later.1,

@@ -137,7 +137,7 @@ long_events number n captured size long =
     let past : nat_lt 262144 captured ≡ true = grind (arith, nat_tests) in
     rw (some, header, past) refl
 
--- and goes on behind the bytes in memory
+-- and goes on after the bytes in memory
 pub Passes-long : (header : FileHeader) (number next size : ℕ) (h : RecordHeader) (held : List ℕ)
     → HasHeader header.format.order h held → size ≡ 16 + h.captured_length → length held < size
     → 262144 < h.captured_length → next ≡ one_more number

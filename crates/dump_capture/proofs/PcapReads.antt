@@ -21,12 +21,12 @@ records_read header number [] cut fit end =
     (end, refl, refl)
 records_read header number (r ∷ records) cut fit end =
     let order = header.format.order in
-    let behind = flat_map (record_bytes order) records ++ cut in
+    let past = flat_map (record_bytes order) records ++ cut in
     subst (λ (b : List ℕ). Reads Item End (before.Record header number) b
     (events_from header number (r ∷ records) cut) None)
     (sym (append_assoc (record_bytes order r) (flat_map (record_bytes order) records) cut))
     (Reads-cons Item End (before.Record header number) (before.Record header (one_more number))
-    (record_bytes order r) behind (record_event header number r ∷ [])
+    (record_bytes order r) past (record_event header number r ∷ [])
     (events_from header (one_more number) records cut) None
     (r, fit.0, refl, refl, refl)
     (records_read header (one_more number) records cut fit.1 end))

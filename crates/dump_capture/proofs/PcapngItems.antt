@@ -166,7 +166,7 @@ long_after s h body long =
     let past : nat_lt 262144 (length body) ≡ true = grind (arith, nat_tests) in
     let some : nat_lt (length body) 8 ≡ false = grind (arith, nat_tests) in rw (some, past) refl
 
--- a block begins in memory that is too long, and goes on behind it
+-- a block begins in memory that is too long, and goes on after it
 pub Passes-long : (s t : State) (h : BlockHeader) (held : List ℕ) → 12 ≤ length held
     → block_header s.order held ≡ Some h → length held < h.total_length
     → 262144 < h.total_length - 12 → t ≡ after_block s h []

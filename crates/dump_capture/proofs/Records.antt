@@ -146,11 +146,11 @@ number_again LittleEndian bytes size fits = le_bytes_4 (take 4 bytes)
     (from_le_bytes w32 (take 4 bytes)) (omega (arith, length-take 4 bytes)) (four_fit bytes fits)
     refl
 
--- a number behind others
-number_behind : (order : ByteOrder) (n : ℕ) (bytes : List ℕ) → n + 4 ≤ length bytes
+-- a number after others
+number_after : (order : ByteOrder) (n : ℕ) (bytes : List ℕ) → n + 4 ≤ length bytes
     → ((k : ℕ) → get_or bytes k 0 < 256)
     → number_bytes order w32 (number_in order w32 (drop n bytes)) ≡ take 4 (drop n bytes)
-number_behind order n bytes size fits =
+number_after order n bytes size fits =
     number_again order (drop n bytes) (omega (arith, length-drop n bytes))
     (λ k. rw (get_or-drop n bytes k 0) (fits (n + k)))
 
@@ -163,9 +163,9 @@ pub header_again : (order : ByteOrder) (bytes : List ℕ) → 16 ≤ length byte
     ++ number_bytes order w32 (number_in order w32 (drop 12 bytes)))) ≡ take 16 bytes
 header_again order bytes size fits =
     let a = number_again order bytes (omega arith) fits in
-    let b = number_behind order 4 bytes (omega arith) fits in
-    let c = number_behind order 8 bytes (omega arith) fits in
-    let d = number_behind order 12 bytes (omega arith) fits in
+    let b = number_after order 4 bytes (omega arith) fits in
+    let c = number_after order 8 bytes (omega arith) fits in
+    let d = number_after order 12 bytes (omega arith) fits in
     let third : take 8 (drop 8 bytes) ≡ take 4 (drop 8 bytes) ++ take 4 (drop 12 bytes) =
     take-add 4 4 (drop 8 bytes) ∙ ap (λ (t : List ℕ). take 4 (drop 8 bytes) ++ take 4 t)
     (drop-drop 4 8 bytes) in

@@ -11,16 +11,19 @@ use Rattle.dump_capture.specs.Sent.{Ipv4Fields, ipv4_packet, ipv6_packet}
 use Rattle.dump_capture.specs.declared.frame.Addresses.{Addresses}
 use Rattle.dump_capture.specs.declared.frame.Addresses.TheVariants.{V4, V6}
 use Rattle.dump_capture.specs.declared.payload.Protocol.TheVariants.{Number}
-use Rattle.dump_capture.proofs.Headers.{behind_one}
+use Rattle.dump_capture.proofs.Headers.{past_one}
 
--- what an IP packet carries
-abbrev carried_in : Addresses → ℕ → List ℕ → Payload
-carried_in addresses size bytes = record {
+-- what an IP packet with this protocol carries
+abbrev pub carried_as : Addresses → ℕ → ℕ → List ℕ → Payload
+carried_as addresses protocol size bytes = record {
   addresses = Some addresses;
-  protocol = Number 132;
+  protocol = Number protocol;
   size = size;
   bytes = bytes;
 }
+
+abbrev carried_in : Addresses → ℕ → List ℕ → Payload
+carried_in addresses size bytes = carried_as addresses 132 size bytes
 
 in_ipv4 : (f : Ipv4Fields) (a b c d p q r s original size : ℕ) (bytes : List ℕ) → 20 + size < 2 ^ 16
     → on_link 101 (in_frame 101 original
@@ -67,33 +70,34 @@ pub sent_found : (f : Ipv4Fields) (source destination bytes : List ℕ) (port or
 sent_found f source destination bytes port original size of_source of_destination fits =
     let s = four source of_source in
     let d = four destination of_destination in
-    rw (s.is, d.is) (behind_one port 101 original
+    rw (s.is, d.is) (past_one port 101 original
     (ipv4_packet f size (s.a ∷ s.b ∷ s.c ∷ s.d ∷ []) (d.a ∷ d.b ∷ d.c ∷ d.d ∷ []) bytes)
     (carried_in (V4 (s.a ∷ s.b ∷ s.c ∷ s.d ∷ []) (d.a ∷ d.b ∷ d.c ∷ d.d ∷ [])) size bytes)
     (in_ipv4 f s.a s.b s.c s.d d.a d.b d.c d.d original size bytes fits) refl refl)
 
-in_ipv6 : (source destination bytes : List ℕ) (hop_limit original size : ℕ)
-    → length source ≡ 16 → length destination ≡ 16
-    → size < 2 ^ 16
-    → on_link 101 (in_frame 101 original (ipv6_packet hop_limit size source destination bytes))
-    ≡ Ok (carried_in (V6 source destination) size bytes)
+pub in_ipv6 : (source destination bytes : List ℕ) (protocol hop_limit original size : ℕ)
+    → length source ≡ 16 → length destination ≡ 16 → size < 2 ^ 16
+    → on_link 101 (in_frame 101 original (((0x60 ∷ 0 ∷ 0 ∷ 0 ∷ [])
+    ++ to_be_bytes w16 size ++ (protocol ∷ hop_limit ∷ []))
+    ++ (source ++ (destination ++ bytes))))
+    ≡ Ok (carried_as (V6 source destination) protocol size bytes)
 unfolding on_link ip ipv6
-in_ipv6 source destination bytes hop_limit original size of_source of_destination fits =
+in_ipv6 source destination bytes protocol hop_limit original size of_source of_destination fits =
     let tail = source ++ (destination ++ bytes) in
-    let behind_source : drop 16 tail ≡ destination ++ bytes =
+    let after_source : drop 16 tail ≡ destination ++ bytes =
     drop_at source (destination ++ bytes) 16 of_source in
     let first : take 16 tail ≡ source = take_at source (destination ++ bytes) 16 of_source in
-    let second : take 16 (drop 16 tail) ≡ destination = ap (λ (x : List ℕ). take 16 x) behind_source
+    let second : take 16 (drop 16 tail) ≡ destination = ap (λ (x : List ℕ). take 16 x) after_source
     ∙ take_at destination bytes 16 of_destination in
     let third : drop 32 tail ≡ bytes = sym (drop-drop 16 16 tail)
-    ∙ ap (λ (x : List ℕ). drop 16 x) behind_source
+    ∙ ap (λ (x : List ℕ). drop 16 x) after_source
     ∙ drop_at destination bytes 16 of_destination in
     let sizes : length tail ≡ 32 + length bytes =
     length-append source (destination ++ bytes)
     ∙ ap (λ (n : ℕ). n + length (destination ++ bytes)) of_source
     ∙ ap (λ (n : ℕ). 16 + n) (length-append destination bytes) ∙ grind arith in
-    let head = λ (x : List ℕ). ((0x60 ∷ 0 ∷ 0 ∷ 0 ∷ to_be_bytes w16 size)
-    ++ (132 ∷ hop_limit ∷ [])) ++ x in
+    let head = λ (x : List ℕ). ((0x60 ∷ 0 ∷ 0 ∷ 0 ∷ []) ++ to_be_bytes w16 size
+    ++ (protocol ∷ hop_limit ∷ [])) ++ x in
     let some : (length (head tail) == 0) ≡ false = grind (arith, nat_tests) in
     let enough : nat_lt (length (head tail)) 40 ≡ false = grind (arith, nat_tests) in
     let stated : number16 (drop 4 (head tail)) ≡ size = from_be_bytes-to_be_bytes_2 size fits in
@@ -110,6 +114,6 @@ pub sent_found_ipv6 : (source destination bytes : List ℕ) (hop_limit port orig
       bytes = take size bytes;
     })
 sent_found_ipv6 source destination bytes hop_limit port original size of_source of_dest fits =
-    behind_one port 101 original (ipv6_packet hop_limit size source destination bytes)
+    past_one port 101 original (ipv6_packet hop_limit size source destination bytes)
     (carried_in (V6 source destination) size bytes)
-    (in_ipv6 source destination bytes hop_limit original size of_source of_dest fits) refl refl
+    (in_ipv6 source destination bytes 132 hop_limit original size of_source of_dest fits) refl refl

@@ -130,14 +130,14 @@ blocks (suc n) s bytes size =
       by_whole again h long is (inr whole) =
           let least = at_least (block_order s.order bytes) bytes h is in
           let t = after_block s h (body_of h bytes) in
-          let behind = drop h.total_length bytes in
+          let past = drop h.total_length bytes in
           let own = block_events s.interfaces s.number h (body_of h bytes) in
-          let rest = again t behind (omega (arith, length-drop h.total_length bytes)) in record {
+          let rest = again t past (omega (arith, length-drop h.total_length bytes)) in record {
             events = own ++ rest.events;
             fault = rest.fault;
             are = subst (λ (b : List ℕ). Reads Item End s b (own ++ rest.events) rest.fault)
                 (take-append-drop h.total_length bytes)
-                (Reads-cons Item End s t (take h.total_length bytes) behind own rest.events
+                (Reads-cons Item End s t (take h.total_length bytes) past own rest.events
                 rest.fault (Item-held s t h bytes long least is whole refl) rest.are);
           }
 

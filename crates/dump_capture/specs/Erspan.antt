@@ -2,7 +2,7 @@
 -- header.
 use Rattle.std.specs.Prelude.{◌+◌, ◌*◌, ◌/◌, ◌%◌, ◌==◌, ℕ, nat_lt, if◌then◌else◌, List, Result, Ok, Err, length}
 use Rattle.dump_capture.specs.Number.{byte_at}
-use Rattle.dump_capture.specs.Payload.{Payload, behind}
+use Rattle.dump_capture.specs.Payload.{Payload, past}
 use Rattle.dump_capture.specs.declared.frame.NoPacket.{NoPacket}
 use Rattle.dump_capture.specs.declared.frame.NoPacket.TheVariants.{Cut, Malformed, Other}
 use Rattle.dump_capture.specs.declared.payload.Protocol.TheVariants.{Link, Ip}
@@ -18,8 +18,8 @@ frame_type bytes = byte_at 10 bytes / 4 % 32
 -- what FT says: 0 is Ethernet, 2 is IP
 abbrev pub of_frame_type : ℕ → ℕ → Payload → Result Payload NoPacket
 of_frame_type type n p =
-    if type == 0 then Ok (behind n (Link 1) p) else
-    if type == 2 then Ok (behind n Ip p) else
+    if type == 0 then Ok (past n (Link 1) p) else
+    if type == 2 then Ok (past n Ip p) else
     Err Other
 
 unfoldable pub type_3 : Payload → Result Payload NoPacket
@@ -36,6 +36,6 @@ unfoldable pub erspan : Payload → Result Payload NoPacket
 erspan p =
     if nat_lt p.size 8 then Err Malformed else
     if nat_lt (length p.bytes) 8 then Err Cut else
-    if byte_at 0 p.bytes / 16 == 1 then Ok (behind 8 (Link 1) p) else
+    if byte_at 0 p.bytes / 16 == 1 then Ok (past 8 (Link 1) p) else
     if byte_at 0 p.bytes / 16 == 2 then type_3 p else
     Err Other

@@ -6,7 +6,7 @@ use Rattle.dump_capture.specs.declared.event.Part.TheVariants.{Fragments}
 use Rattle.dump_capture.specs.declared.event.Seen.{Seen}
 use Rattle.dump_capture.specs.declared.reassembly.PartialPacket.{PartialPacket}
 
--- as a frame was seen, but put together of so many fragments
+-- as a frame was seen, but put together of `count` fragments
 abbrev pub as_joined : Seen → ℕ → Seen
 as_joined seen count = record seen { part = Fragments count }
 

@@ -4,12 +4,12 @@
 use Rattle.std.specs.Prelude.{◌+◌, ◌-◌, ◌*◌, ◌/◌, ◌%◌, ◌^◌, ◌==◌, ℕ, Bool, true, ◌&&◌, ◌||◌, not, nat_lt, if◌then◌else◌, List, Option, Some, None, Result, Ok, Err, length, take, drop}
 use Rattle.std.specs.Int.{w32, from_be_bytes, from_le_bytes}
 use Rattle.dump_capture.specs.Number.{byte_at, number16}
-use Rattle.dump_capture.specs.Payload.{Payload, ◌>>=◌, behind, after_steps}
+use Rattle.dump_capture.specs.Payload.{Payload, ◌>>=◌, past, after_steps}
 use Rattle.dump_capture.specs.Udp.{udp_length}
 use Rattle.dump_capture.specs.Ppp.{framed_ppp, in_session}
 use Rattle.dump_capture.specs.Nflog.{nflog, attribute}
 use Rattle.dump_capture.specs.Gtp.{gtp_extension}
-use Rattle.dump_capture.specs.Tunnel.{is_tunnel, behind_tunnel}
+use Rattle.dump_capture.specs.Tunnel.{is_tunnel, past_tunnel}
 use Rattle.dump_capture.specs.declared.frame.Addresses.{Addresses}
 use Rattle.dump_capture.specs.declared.frame.Addresses.TheVariants.{V4, V6}
 use Rattle.dump_capture.specs.declared.frame.UdpPorts.{UdpPorts}
@@ -154,7 +154,7 @@ extension number p =
     if number == 51 && byte_at 1 p.bytes == 0 then Err Malformed else
     if number == 44 && is_ipv6_fragment p.bytes then Err Fragment else
     if nat_lt (length p.bytes) (extension_size number p.bytes) then Err Cut else
-    Ok (behind (extension_size number p.bytes) (Number (byte_at 0 p.bytes)) p)
+    Ok (past (extension_size number p.bytes) (Number (byte_at 0 p.bytes)) p)
 
 -- ---- links
 
@@ -162,13 +162,13 @@ extension number p =
 unfoldable pub typed : ℕ → ℕ → Payload → Result Payload NoPacket
 typed offset size p =
     if nat_lt (length p.bytes) size then Err Cut else
-    Ok (behind size (EtherType (number16 (drop offset p.bytes))) p)
+    Ok (past size (EtherType (number16 (drop offset p.bytes))) p)
 
 -- an entry of a label stack; IP follows the one at the bottom (RFC 3032 section 2.1)
 unfoldable pub label : ℕ → Payload → Result Payload NoPacket
 label type p =
     if nat_lt (length p.bytes) 4 then Err Cut else
-    Ok (behind 4 (if byte_at 2 p.bytes % 2 == 1 then Ip else EtherType type) p)
+    Ok (past 4 (if byte_at 2 p.bytes % 2 == 1 then Ip else EtherType type) p)
 
 -- By the type of what a frame carries (IEEE 802.3 clause 3.2.6). A tag is two bytes before a type
 -- (IEEE 802.1Q clause 9): of a customer, of a provider, or of a provider before the standard. Type
@@ -193,7 +193,7 @@ loopback p =
     if nat_lt (length p.bytes) 4 then Err Cut else
     if is_ip_family (from_be_bytes w32 (take 4 p.bytes))
     || is_ip_family (from_le_bytes w32 (take 4 p.bytes))
-    then Ok (behind 4 Ip p) else
+    then Ok (past 4 Ip p) else
     Err Other
 
 unfoldable pub hdlc : Payload → Result Payload NoPacket
@@ -219,7 +219,7 @@ on_link link p =
     if link == 239 then nflog p else
     if link == 228 then ipv4 p else
     if link == 229 then ipv6 p else
-    if link == 248 then Ok (behind 0 (Number 132) p) else
+    if link == 248 then Ok (past 0 (Number 132) p) else
     Err LinkType
 
 -- the link types that frames are read of
@@ -239,29 +239,29 @@ is_header _ = true
 abbrev pub begins_with_header : Payload → Bool
 begins_with_header p = is_header p.protocol
 
-abbrev pub behind_first : Protocol → Payload → Result Payload NoPacket
-behind_first (Link link) p = on_link link p
-behind_first (EtherType type) p = of_type type p
-behind_first Ip p = ip p
-behind_first (Number number) p = extension number p
-behind_first GtpExtension p = gtp_extension p
-behind_first NflogAttribute p = attribute p
+abbrev pub past_first : Protocol → Payload → Result Payload NoPacket
+past_first (Link link) p = on_link link p
+past_first (EtherType type) p = of_type type p
+past_first Ip p = ip p
+past_first (Number number) p = extension number p
+past_first GtpExtension p = gtp_extension p
+past_first NflogAttribute p = attribute p
 
 -- the payload after the header at its front
-abbrev pub behind_header : Payload → Result Payload NoPacket
-behind_header p = behind_first p.protocol p
+abbrev pub past_header : Payload → Result Payload NoPacket
+past_header p = past_first p.protocol p
 
 -- the payload after n headers at most
-abbrev pub behind_headers : ℕ → Payload → Result Payload NoPacket
-behind_headers n p = after_steps begins_with_header behind_header n p
+abbrev pub past_headers : ℕ → Payload → Result Payload NoPacket
+past_headers n p = after_steps begins_with_header past_header n p
 
 -- the payload after a tunnel, and after the headers in it
 abbrev pub through_tunnel : Payload → Result Payload NoPacket
-through_tunnel p = behind_tunnel p >>= behind_headers (2 ^ 16)
+through_tunnel p = past_tunnel p >>= past_headers (2 ^ 16)
 
 -- the payload after n tunnels at most, where SCTP in UDP is on this port
-abbrev pub behind_tunnels : ℕ → ℕ → Payload → Result Payload NoPacket
-behind_tunnels n port p = after_steps (is_tunnel port) through_tunnel n p
+abbrev pub past_tunnels : ℕ → ℕ → Payload → Result Payload NoPacket
+past_tunnels n port p = after_steps (is_tunnel port) through_tunnel n p
 
 -- a frame of this link type, with its length on the link
 abbrev pub in_frame : ℕ → ℕ → List ℕ → Payload
@@ -273,5 +273,5 @@ in_frame link original_length frame =
 -- more: each has four bytes at least.
 unfoldable pub packet_in : ℕ → ℕ → ℕ → List ℕ → Result Packet NoPacket
 packet_in port link original_length frame =
-    behind_headers (2 ^ 16) (in_frame link original_length frame) >>= behind_tunnels 4 port
+    past_headers (2 ^ 16) (in_frame link original_length frame) >>= past_tunnels 4 port
     >>= carried port

@@ -1,7 +1,7 @@
 -- Geneve: a payload of a type of Ethernet in UDP (RFC 8926).
 use Rattle.std.specs.Prelude.{◌+◌, ◌*◌, ◌/◌, ◌%◌, ◌==◌, ℕ, not, nat_lt, if◌then◌else◌, List, Result, Ok, Err, length, drop}
 use Rattle.dump_capture.specs.Number.{byte_at, number16}
-use Rattle.dump_capture.specs.Payload.{Payload, behind}
+use Rattle.dump_capture.specs.Payload.{Payload, past}
 use Rattle.dump_capture.specs.declared.frame.NoPacket.{NoPacket}
 use Rattle.dump_capture.specs.declared.frame.NoPacket.TheVariants.{Cut, Malformed, Other}
 use Rattle.dump_capture.specs.declared.payload.Protocol.TheVariants.{EtherType}
@@ -18,4 +18,4 @@ geneve p =
     if not (byte_at 0 p.bytes / 64 == 0) then Err Other else
     if nat_lt p.size (geneve_size p.bytes) then Err Malformed else
     if nat_lt (length p.bytes) (geneve_size p.bytes) then Err Cut else
-    Ok (behind (geneve_size p.bytes) (EtherType (number16 (drop 2 p.bytes))) p)
+    Ok (past (geneve_size p.bytes) (EtherType (number16 (drop 2 p.bytes))) p)

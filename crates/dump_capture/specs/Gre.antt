@@ -2,7 +2,7 @@
 -- (RFC 2890).
 use Rattle.std.specs.Prelude.{◌+◌, ◌*◌, ◌/◌, ◌%◌, ◌==◌, ℕ, Bool, not, ◌&&◌, ◌||◌, nat_lt, if◌then◌else◌, List, Result, Ok, Err, length, drop}
 use Rattle.dump_capture.specs.Number.{byte_at, number16}
-use Rattle.dump_capture.specs.Payload.{Payload, behind}
+use Rattle.dump_capture.specs.Payload.{Payload, past}
 use Rattle.dump_capture.specs.Erspan.{erspan}
 use Rattle.dump_capture.specs.declared.frame.NoPacket.{NoPacket}
 use Rattle.dump_capture.specs.declared.frame.NoPacket.TheVariants.{Cut, Malformed, Other}
@@ -34,9 +34,9 @@ is_gre bytes =
 abbrev pub in_gre : ℕ → Payload → Result Payload NoPacket
 in_gre type p =
     if type == 0x22eb || type == 0x88be && has_sequence_number p.bytes == 1
-    then erspan (behind (gre_size p.bytes) p.protocol p) else
-    if type == 0x88be then Ok (behind (gre_size p.bytes) (Link 1) p) else
-    Ok (behind (gre_size p.bytes) (EtherType type) p)
+    then erspan (past (gre_size p.bytes) p.protocol p) else
+    if type == 0x88be then Ok (past (gre_size p.bytes) (Link 1) p) else
+    Ok (past (gre_size p.bytes) (EtherType type) p)
 
 unfoldable pub gre : Payload → Result Payload NoPacket
 gre p =

@@ -1,7 +1,7 @@
 -- GTP-U: a packet of a user in UDP (3GPP TS 29.281).
 use Rattle.std.specs.Prelude.{◌+◌, ◌-◌, ◌*◌, ◌/◌, ◌%◌, ◌==◌, ℕ, Bool, ◌&&◌, not, nat_lt, if◌then◌else◌, List, Result, Ok, Err, length, drop}
 use Rattle.dump_capture.specs.Number.{byte_at, number16}
-use Rattle.dump_capture.specs.Payload.{Payload, behind, cut_to}
+use Rattle.dump_capture.specs.Payload.{Payload, past, cut_to}
 use Rattle.dump_capture.specs.declared.frame.NoPacket.{NoPacket}
 use Rattle.dump_capture.specs.declared.frame.NoPacket.TheVariants.{Cut, Malformed, Other}
 use Rattle.dump_capture.specs.declared.payload.Protocol.{Protocol}
@@ -28,10 +28,10 @@ first_in_gtp bytes = if byte_at 0 bytes / 4 % 2 == 1 then next_in_gtp (byte_at 1
 -- where one of the flags E, S and PN is set, the header has four bytes more (section 5.1)
 unfoldable pub in_gtp : Payload → Result Payload NoPacket
 in_gtp p =
-    if byte_at 0 p.bytes % 8 == 0 then Ok (behind 8 Ip p) else
+    if byte_at 0 p.bytes % 8 == 0 then Ok (past 8 Ip p) else
     if nat_lt p.size 12 then Err Malformed else
     if nat_lt (length p.bytes) 12 then Err Cut else
-    Ok (behind 12 (first_in_gtp p.bytes) p)
+    Ok (past 12 (first_in_gtp p.bytes) p)
 
 unfoldable pub gtp : Payload → Result Payload NoPacket
 gtp p =
@@ -53,5 +53,5 @@ gtp_extension p =
     if byte_at 0 p.bytes == 0 then Err Malformed else
     if nat_lt p.size (gtp_extension_size p.bytes) then Err Malformed else
     if nat_lt (length p.bytes) (gtp_extension_size p.bytes) then Err Cut else
-    Ok (behind (gtp_extension_size p.bytes)
+    Ok (past (gtp_extension_size p.bytes)
     (next_in_gtp (byte_at (gtp_extension_size p.bytes - 1) p.bytes)) p)

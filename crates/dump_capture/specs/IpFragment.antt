@@ -4,8 +4,8 @@ use Rattle.std.specs.Prelude.{◌-◌, ◌*◌, ◌/◌, ◌%◌, ◌^◌, ◌==
 use Rattle.std.specs.Int.{w32, from_be_bytes}
 use Rattle.dump_capture.specs.Number.{byte_at, number16}
 use Rattle.dump_capture.specs.Payload.{Payload}
-use Rattle.dump_capture.specs.Tunnel.{is_tunnel, behind_tunnel}
-use Rattle.dump_capture.specs.Frame.{begins_with_header, behind_header, behind_headers, through_tunnel, in_frame, ipv4_header_size, ipv4_length, ipv4_addresses}
+use Rattle.dump_capture.specs.Tunnel.{is_tunnel, past_tunnel}
+use Rattle.dump_capture.specs.Frame.{begins_with_header, past_header, past_headers, through_tunnel, in_frame, ipv4_header_size, ipv4_length, ipv4_addresses}
 use Rattle.dump_capture.specs.declared.frame.Addresses.{Addresses}
 use Rattle.dump_capture.specs.declared.frame.Addresses.TheVariants.{V4, V6}
 use Rattle.dump_capture.specs.declared.frame.NoPacket.{NoPacket}
@@ -27,7 +27,7 @@ pub record Fragment : Type 0 where
 -- ---- a header
 
 -- There is data; its size is a multiple of 8 but in the last fragment; and it doesn't reach beyond
--- the longest packet, of so many bytes (RFC 8200 section 4.5, and as to the 8 RFC 791 section 3.2).
+-- the longest packet, of `most` bytes (RFC 8200 section 4.5, and as to the 8 RFC 791 section 3.2).
 abbrev pub well_formed : ℕ → Fragment → Option Fragment
 well_formed most f =
     if length f.bytes == 0 || nat_lt most (length f.bytes)
@@ -35,8 +35,8 @@ well_formed most f =
     if f.more && not (length f.bytes % 8 == 0) then None else
     Some f
 
--- A packet is told from others by its addresses, its protocol and its identification; the flag MF
--- says whether more follow, and the low 13 bits count words of eight bytes (RFC 791 section 3.2).
+-- Its addresses, its protocol and its identification identify a packet; the flag MF says whether
+-- more follow, and the low 13 bits count words of eight bytes (RFC 791 section 3.2).
 unfoldable pub ipv4_fragment : Payload → Option Fragment
 ipv4_fragment p =
     if nat_lt (length p.bytes) 20 then None else
@@ -53,8 +53,8 @@ ipv4_fragment p =
       bytes = drop (ipv4_header_size p.bytes) (take (ipv4_length p) p.bytes);
     })
 
--- A packet is told from others by its addresses and its identification; the flag M is the lowest
--- bit, and the high 13 count words of eight bytes (RFC 8200 section 4.5).
+-- Its addresses and its identification identify a packet; the flag M is the lowest bit, and the
+-- high 13 count words of eight bytes (RFC 8200 section 4.5).
 abbrev pub ipv6_fragment_of : Option Addresses → Payload → Option Fragment
 ipv6_fragment_of (Some (V6 source destination)) p =
     well_formed 65535 (record {
@@ -82,7 +82,7 @@ abbrev pub fragment_by : Protocol → Payload → Option Fragment
 fragment_by (Number number) p = ipv6_fragment p
 fragment_by _ p = ipv4_fragment p
 
--- behind whose header there is nothing, for this reason
+-- after whose header reading ended, for this reason
 abbrev pub fragment_at : Payload → NoPacket → Option Fragment
 fragment_at p IsFragment = fragment_by p.protocol p
 fragment_at p _ = None
@@ -104,7 +104,7 @@ first_fault found has_step step (suc n) p =
 
 -- the fragment at which reading the headers at the front ends, n at most
 abbrev pub in_headers : ℕ → Payload → Option Fragment
-in_headers n p = first_fault fragment_at begins_with_header behind_header n p
+in_headers n p = first_fault fragment_at begins_with_header past_header n p
 
 abbrev pub in_carried : Result Payload NoPacket → Option Fragment
 in_carried (Ok q) = in_headers (2 ^ 16) q
@@ -112,7 +112,7 @@ in_carried (Err why) = None
 
 -- the one that a tunnel carries
 abbrev pub in_tunnel : Payload → NoPacket → Option Fragment
-in_tunnel p why = in_carried (behind_tunnel p)
+in_tunnel p why = in_carried (past_tunnel p)
 
 -- the one that one of n tunnels carries, where SCTP in UDP is on this port
 abbrev pub in_tunnels : ℕ → ℕ → Payload → Option Fragment
@@ -127,7 +127,7 @@ in_outer port p (Err why) = in_headers (2 ^ 16) p
 unfoldable pub fragment_in : ℕ → ℕ → ℕ → List ℕ → Option Fragment
 fragment_in port link original_length frame =
     in_outer port (in_frame link original_length frame)
-    (behind_headers (2 ^ 16) (in_frame link original_length frame))
+    (past_headers (2 ^ 16) (in_frame link original_length frame))
 
 -- ---- the code's values
 

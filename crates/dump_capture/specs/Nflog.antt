@@ -3,7 +3,7 @@
 use Rattle.std.specs.Prelude.{◌+◌, ◌*◌, ◌/◌, ◌%◌, ◌==◌, ℕ, not, ◌||◌, nat_lt, if◌then◌else◌, List, Result, Ok, Err, length, drop}
 use Rattle.std.specs.Int.{w16}
 use Rattle.dump_capture.specs.Number.{byte_at, number_in}
-use Rattle.dump_capture.specs.Payload.{Payload, behind, cut_to}
+use Rattle.dump_capture.specs.Payload.{Payload, past, cut_to}
 use Rattle.dump_capture.specs.declared.frame.NoPacket.{NoPacket}
 use Rattle.dump_capture.specs.declared.frame.NoPacket.TheVariants.{Cut, Malformed, Other}
 use Rattle.dump_capture.specs.declared.payload.Protocol.TheVariants.{Ip, NflogAttribute}
@@ -30,8 +30,8 @@ attribute p =
     if nat_lt (attribute_length p.bytes) 4 then Err Malformed else
     if nat_lt p.size (attribute_length p.bytes) then Err Malformed else
     if attribute_type p.bytes == 9
-    then Ok (behind 4 Ip (cut_to (attribute_length p.bytes) p)) else
-    Ok (behind (4 * ((attribute_length p.bytes + 3) / 4)) NflogAttribute p)
+    then Ok (past 4 Ip (cut_to (attribute_length p.bytes) p)) else
+    Ok (past (4 * ((attribute_length p.bytes + 3) / 4)) NflogAttribute p)
 
 -- a header of 4 bytes, the family and the version, which is 0; Linux's families 2 and 10 are IPv4
 -- and IPv6
@@ -40,4 +40,4 @@ nflog p =
     if nat_lt (length p.bytes) 4 then Err Cut else
     if not (byte_at 1 p.bytes == 0) then Err Other else
     if not (byte_at 0 p.bytes == 2 || byte_at 0 p.bytes == 10) then Err Other else
-    Ok (behind 4 NflogAttribute p)
+    Ok (past 4 NflogAttribute p)

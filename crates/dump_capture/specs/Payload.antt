@@ -18,8 +18,8 @@ abbrev pub ◌>>=◌ : {A B : Type 0} → Result A NoPacket → (A → Result B 
 (Err e) >>= f = Err e
 
 -- what follows the first n bytes
-abbrev pub behind : ℕ → Protocol → Payload → Payload
-behind n protocol p = record p { protocol = protocol; size = p.size - n; bytes = drop n p.bytes }
+abbrev pub past : ℕ → Protocol → Payload → Payload
+past n protocol p = record p { protocol = protocol; size = p.size - n; bytes = drop n p.bytes }
 
 -- its first n bytes, without what follows them in the frame
 abbrev pub cut_to : ℕ → Payload → Payload

@@ -2,7 +2,7 @@
 -- Cisco's framing.
 use Rattle.std.specs.Prelude.{◌%◌, ◌==◌, ℕ, ◌||◌, nat_lt, if◌then◌else◌, Result, Ok, Err, length}
 use Rattle.dump_capture.specs.Number.{byte_at, number16}
-use Rattle.dump_capture.specs.Payload.{Payload, behind}
+use Rattle.dump_capture.specs.Payload.{Payload, past}
 use Rattle.dump_capture.specs.declared.frame.NoPacket.{NoPacket}
 use Rattle.dump_capture.specs.declared.frame.NoPacket.TheVariants.{Cut, Other}
 use Rattle.dump_capture.specs.declared.payload.Protocol.TheVariants.{Ip}
@@ -11,7 +11,7 @@ use Rattle.dump_capture.specs.declared.payload.Protocol.TheVariants.{Ip}
 -- 2)
 abbrev pub of_ppp : ℕ → ℕ → Payload → Result Payload NoPacket
 of_ppp protocol n p =
-    if protocol == 0x0021 || protocol == 0x0057 then Ok (behind n Ip p) else
+    if protocol == 0x0021 || protocol == 0x0057 then Ok (past n Ip p) else
     Err Other
 
 -- The protocol field has two bytes, of which the first is even and the last is odd (RFC 1661
@@ -28,11 +28,11 @@ ppp p =
 unfoldable pub framed_ppp : Payload → Result Payload NoPacket
 framed_ppp p =
     if nat_lt (length p.bytes) 2 then Err Cut else
-    if number16 p.bytes == 0xff03 then ppp (behind 2 p.protocol p) else
+    if number16 p.bytes == 0xff03 then ppp (past 2 p.protocol p) else
     ppp p
 
 -- a header of six bytes (RFC 2516 section 4), and PPP
 unfoldable pub in_session : Payload → Result Payload NoPacket
 in_session p =
     if nat_lt (length p.bytes) 6 then Err Cut else
-    ppp (behind 6 p.protocol p)
+    ppp (past 6 p.protocol p)

@@ -59,7 +59,7 @@ carried_by addresses protocol bytes = record {
   bytes = bytes;
 }
 
--- These bytes are a packet that was put together of so many of these fragments: they are of one
+-- These bytes are a packet that was put together of `count` of these fragments: they are of one
 -- packet, and all of it; what it carries, the first of them says.
 pub record IsJoined (fs : List Fragment) (bytes : List ℕ) (count : ℕ) : Type 0 where
   pub first : Fragment
@@ -98,7 +98,7 @@ pub record AreAllKept (fs : List Fragment) (ps : List PartialPacket) : Type 0 wh
   pub each : All (AreKept fs) ps
   pub few : length ps ≤ MOST_PACKETS
 
--- an index among so many, or after the last
+-- an index among `n` items, or after the last
 abbrev pub IsPlace : ℕ → Place → Type 0
 IsPlace n (place.Before i) = i ≤ n
 IsPlace n _ = Unit {0}

@@ -1,6 +1,6 @@
 -- Tunnels: IP in IP, GRE, and those in UDP.
 use Rattle.std.specs.Prelude.{◌==◌, ℕ, Bool, false, ◌&&◌, ◌||◌, nat_lt, if◌then◌else◌, List, Result, Ok, Err, length}
-use Rattle.dump_capture.specs.Payload.{Payload, behind, cut_to}
+use Rattle.dump_capture.specs.Payload.{Payload, past, cut_to}
 use Rattle.dump_capture.specs.Udp.{udp_length, destination_port, is_on_port}
 use Rattle.dump_capture.specs.Gre.{gre}
 use Rattle.dump_capture.specs.Vxlan.{vxlan}
@@ -47,20 +47,20 @@ udp_tunnel p =
     if nat_lt p.size 8 then Err Malformed else
     if nat_lt (length p.bytes) 8 then Err Cut else
     if nat_lt (udp_length p.bytes) 8 || nat_lt p.size (udp_length p.bytes) then Err Malformed else
-    to_port (destination_port p.bytes) (behind 8 p.protocol (cut_to (udp_length p.bytes) p))
+    to_port (destination_port p.bytes) (past 8 p.protocol (cut_to (udp_length p.bytes) p))
 
 abbrev pub of_tunnel : ℕ → Payload → Result Payload NoPacket
 of_tunnel number p =
-    if number == 4 then Ok (behind 0 (EtherType 0x0800) p) else
-    if number == 41 then Ok (behind 0 (EtherType 0x86dd) p) else
+    if number == 4 then Ok (past 0 (EtherType 0x0800) p) else
+    if number == 41 then Ok (past 0 (EtherType 0x86dd) p) else
     if number == 47 then gre p else
     if number == 17 then udp_tunnel p else
     Err Other
 
-abbrev pub behind_tunnel_as : Protocol → Payload → Result Payload NoPacket
-behind_tunnel_as (Number number) p = of_tunnel number p
-behind_tunnel_as _ p = Err Other
+abbrev pub past_tunnel_as : Protocol → Payload → Result Payload NoPacket
+past_tunnel_as (Number number) p = of_tunnel number p
+past_tunnel_as _ p = Err Other
 
 -- what a tunnel carries, without what follows the tunnel's payload in the frame
-abbrev pub behind_tunnel : Payload → Result Payload NoPacket
-behind_tunnel p = behind_tunnel_as p.protocol (cut_to p.size p)
+abbrev pub past_tunnel : Payload → Result Payload NoPacket
+past_tunnel p = past_tunnel_as p.protocol (cut_to p.size p)

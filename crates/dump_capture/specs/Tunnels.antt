@@ -7,7 +7,7 @@ use Rattle.dump_capture.specs.Payload.{Payload}
 use Rattle.dump_capture.specs.Udp.{destination_port}
 use Rattle.dump_capture.specs.Gre.{has_checksum, has_key, has_sequence_number, gre_size}
 use Rattle.dump_capture.specs.Tunnel.{is_tunnel}
-use Rattle.dump_capture.specs.Frame.{behind_headers, through_tunnel, in_frame}
+use Rattle.dump_capture.specs.Frame.{past_headers, through_tunnel, in_frame}
 use Rattle.dump_capture.specs.declared.frame.NoPacket.{NoPacket}
 use Rattle.dump_capture.specs.declared.payload.Protocol.{Protocol}
 use Rattle.dump_capture.specs.declared.payload.Protocol.TheVariants.{Number}
@@ -103,12 +103,12 @@ unfoldable pub tunnels : ℕ → ℕ → Payload → List Tunnel
 tunnels zero port p = []
 tunnels (suc n) port p = and_those (tunnels n port) (first_tunnel port p)
 
-abbrev pub tunnels_behind : ℕ → Result Payload NoPacket → List Tunnel
-tunnels_behind port (Ok p) = tunnels 4 port p
-tunnels_behind port (Err e) = []
+abbrev pub tunnels_past : ℕ → Result Payload NoPacket → List Tunnel
+tunnels_past port (Ok p) = tunnels 4 port p
+tunnels_past port (Err e) = []
 
 -- The tunnels through which `packet_in` reads a frame, in order. If it finds no packet, those
 -- before the first fault.
 unfoldable pub tunnels_in : ℕ → ℕ → ℕ → List ℕ → List Tunnel
 tunnels_in port link original_length frame =
-    tunnels_behind port (behind_headers (2 ^ 16) (in_frame link original_length frame))
+    tunnels_past port (past_headers (2 ^ 16) (in_frame link original_length frame))

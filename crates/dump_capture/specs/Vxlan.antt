@@ -1,7 +1,7 @@
 -- VXLAN: a frame of Ethernet in UDP (RFC 7348).
 use Rattle.std.specs.Prelude.{◌/◌, ◌%◌, ◌==◌, not, nat_lt, if◌then◌else◌, Result, Ok, Err, length}
 use Rattle.dump_capture.specs.Number.{byte_at}
-use Rattle.dump_capture.specs.Payload.{Payload, behind}
+use Rattle.dump_capture.specs.Payload.{Payload, past}
 use Rattle.dump_capture.specs.declared.frame.NoPacket.{NoPacket}
 use Rattle.dump_capture.specs.declared.frame.NoPacket.TheVariants.{Cut, Malformed, Other}
 use Rattle.dump_capture.specs.declared.payload.Protocol.TheVariants.{Link}
@@ -12,4 +12,4 @@ vxlan p =
     if nat_lt p.size 8 then Err Malformed else
     if nat_lt (length p.bytes) 8 then Err Cut else
     if not (byte_at 0 p.bytes / 8 % 2 == 1) then Err Other else
-    Ok (behind 8 (Link 1) p)
+    Ok (past 8 (Link 1) p)

@@ -5,7 +5,7 @@ ghost use Rattle.dump_capture.specs.Erspan.{erspan, type_3, type_3_size, of_fram
 ghost use Rattle.dump_capture.specs.Found.{payload_of, payload_result};
 
 use crate::frame::{NoPacket, link_type};
-use crate::payload::{Payload, Protocol, behind};
+use crate::payload::{Payload, Protocol, past};
 
 /// Returns what follows a header of type II or III.
 #[tactic(auto, unfolding(crate::specs::Erspan::erspan))]
@@ -19,7 +19,7 @@ pub(crate) fn erspan(payload: Payload<'_>) -> Result<Payload<'_>, NoPacket>
         return Err(NoPacket::Cut);
     }
     match payload.bytes[0] / 16 {
-        1 => Ok(behind(8, Protocol::Link(link_type::ETHERNET), payload)),
+        1 => Ok(past(8, Protocol::Link(link_type::ETHERNET), payload)),
         2 => type_3(payload),
         _ => Err(NoPacket::Other),
     }
@@ -60,8 +60,8 @@ fn of_frame_type(kind: u8, size: usize, payload: Payload<'_>) -> Result<Payload<
     ensures { payload_result result ≡ of_frame_type kind size (payload_of payload.entry) }
 {
     match kind {
-        0 => Ok(behind(size, Protocol::Link(link_type::ETHERNET), payload)),
-        2 => Ok(behind(size, Protocol::Ip, payload)),
+        0 => Ok(past(size, Protocol::Link(link_type::ETHERNET), payload)),
+        2 => Ok(past(size, Protocol::Ip, payload)),
         _ => Err(NoPacket::Other),
     }
 }

@@ -2,14 +2,14 @@
 
 ghost use Rattle.std.specs.Prelude.{◌≡◌, ◌≤◌, ◌+◌, length};
 ghost use Rattle.dump_capture.specs.Number.{number16};
-ghost use Rattle.dump_capture.specs.Frame.{packet_in, in_frame, is_known_link, is_header, is_ip_family, is_extension, is_ipv6_fragment, extension_size, may_carry_sctp, packet, carried, in_udp, behind_header, behind_headers, behind_tunnels, through_tunnel, on_link, hdlc, loopback, typed, of_type, label, ip, ipv4, ipv6, ipv4_length, ipv4_addresses, ipv6_addresses, extension};
+ghost use Rattle.dump_capture.specs.Frame.{packet_in, in_frame, is_known_link, is_header, is_ip_family, is_extension, is_ipv6_fragment, extension_size, may_carry_sctp, packet, carried, in_udp, past_header, past_headers, past_tunnels, through_tunnel, on_link, hdlc, loopback, typed, of_type, label, ip, ipv4, ipv6, ipv4_header_size, ipv4_length, ipv4_addresses, ipv6_addresses, extension};
 ghost use Rattle.dump_capture.specs.Found.{found, packet_of, payload_of, payload_result};
 
 use crate::gtp::gtp_extension;
 use crate::nflog::{attribute, nflog};
-use crate::payload::{Payload, Protocol, behind};
+use crate::payload::{Payload, Protocol, past};
 use crate::ppp::{framed_ppp, in_session};
-use crate::tunnel::{GRE_PROTOCOL, IPV4_PROTOCOL, IPV6_PROTOCOL, behind_tunnel, is_tunnel};
+use crate::tunnel::{GRE_PROTOCOL, IPV4_PROTOCOL, IPV6_PROTOCOL, is_tunnel, past_tunnel};
 
 /// Link types (the registry of draft-ietf-opsawg-pcaplinktype).
 pub mod link_type {
@@ -166,8 +166,8 @@ pub fn packet_in(
 ) -> Result<FoundPacket<'_>, NoPacket>
     ensures { found result ≡ packet_in udp_port link_type original_length frame.now }
 {
-    let outer = behind_headers(in_frame(link_type, original_length, frame))?;
-    let payload = behind_tunnels(udp_port, outer)?;
+    let outer = past_headers(in_frame(link_type, original_length, frame))?;
+    let payload = past_tunnels(udp_port, outer)?;
     carried(udp_port, payload)
 }
 
@@ -242,9 +242,9 @@ fn in_udp(udp_port: u16, payload: Payload<'_>) -> Result<FoundPacket<'_>, NoPack
 }
 
 /// Returns the payload after tunnels, where SCTP in UDP is on this port.
-fn behind_tunnels(udp_port: u16, payload: Payload<'_>) -> Result<Payload<'_>, NoPacket>
+fn past_tunnels(udp_port: u16, payload: Payload<'_>) -> Result<Payload<'_>, NoPacket>
     ensures { payload_result result ≡
-        behind_tunnels MOST_TUNNELS udp_port (payload_of payload.entry) }
+        past_tunnels MOST_TUNNELS udp_port (payload_of payload.entry) }
 {
     let mut rest = payload;
     for _k in 0..MOST_TUNNELS {
@@ -260,19 +260,19 @@ fn behind_tunnels(udp_port: u16, payload: Payload<'_>) -> Result<Payload<'_>, No
 pub(crate) fn through_tunnel(payload: Payload<'_>) -> Result<Payload<'_>, NoPacket>
     ensures { payload_result result ≡ through_tunnel (payload_of payload.entry) }
 {
-    behind_headers(behind_tunnel(payload)?)
+    past_headers(past_tunnel(payload)?)
 }
 
 /// Returns the payload after the headers of the link and of IP.
-pub(crate) fn behind_headers(payload: Payload<'_>) -> Result<Payload<'_>, NoPacket>
-    ensures { payload_result result ≡ behind_headers MOST_HEADERS (payload_of payload.entry) }
+pub(crate) fn past_headers(payload: Payload<'_>) -> Result<Payload<'_>, NoPacket>
+    ensures { payload_result result ≡ past_headers MOST_HEADERS (payload_of payload.entry) }
 {
     let mut rest = payload;
     for _k in 0..MOST_HEADERS {
         if !is_header(rest.protocol) {
             return Ok(rest);
         }
-        rest = behind_header(rest)?;
+        rest = past_header(rest)?;
     }
     Ok(rest)
 }
@@ -288,8 +288,8 @@ pub(crate) fn is_header(protocol: Protocol) -> bool
 }
 
 /// Returns the payload after the header at its front.
-pub(crate) fn behind_header(payload: Payload<'_>) -> Result<Payload<'_>, NoPacket>
-    ensures { payload_result result ≡ behind_header (payload_of payload.entry) }
+pub(crate) fn past_header(payload: Payload<'_>) -> Result<Payload<'_>, NoPacket>
+    ensures { payload_result result ≡ past_header (payload_of payload.entry) }
 {
     match payload.protocol {
         Protocol::Link(link_type) => on_link(link_type, payload),
@@ -317,7 +317,7 @@ fn on_link(link_type: u16, frame: Payload<'_>) -> Result<Payload<'_>, NoPacket>
         link_type::NFLOG => nflog(frame),
         link_type::IPV4 => ipv4(frame),
         link_type::IPV6 => ipv6(frame),
-        link_type::SCTP => Ok(behind(0, Protocol::Number(SCTP_PROTOCOL), frame)),
+        link_type::SCTP => Ok(past(0, Protocol::Number(SCTP_PROTOCOL), frame)),
         _ => Err(NoPacket::LinkType),
     }
 }
@@ -347,7 +347,7 @@ fn loopback(frame: Payload<'_>) -> Result<Payload<'_>, NoPacket>
     }
     let family = [bytes[0], bytes[1], bytes[2], bytes[3]];
     if is_ip_family(u32::from_be_bytes(family)) || is_ip_family(u32::from_le_bytes(family)) {
-        Ok(behind(4, Protocol::Ip, frame))
+        Ok(past(4, Protocol::Ip, frame))
     } else {
         Err(NoPacket::Other)
     }
@@ -370,7 +370,7 @@ fn typed(offset: usize, size: usize, payload: Payload<'_>) -> Result<Payload<'_>
         return Err(NoPacket::Cut);
     }
     let ether_type = number16(&payload.bytes[offset..]);
-    Ok(behind(size, Protocol::EtherType(ether_type), payload))
+    Ok(past(size, Protocol::EtherType(ether_type), payload))
 }
 
 /// Returns what follows a header of this type, or the payload of an IP packet.
@@ -402,7 +402,7 @@ fn label(ether_type: u16, payload: Payload<'_>) -> Result<Payload<'_>, NoPacket>
     } else {
         Protocol::EtherType(ether_type)
     };
-    Ok(behind(4, protocol, payload))
+    Ok(past(4, protocol, payload))
 }
 
 /// Returns what an IP packet of either version carries.
@@ -436,7 +436,7 @@ fn ipv4(packet: Payload<'_>) -> Result<Payload<'_>, NoPacket>
     if !may_carry_sctp(number) {
         return Err(NoPacket::Other);
     }
-    let header = 4 * (bytes[0] % 16) as usize;
+    let header = ipv4_header_size(bytes);
     let total = ipv4_length(packet);
     if header < 20 {
         return Err(NoPacket::Malformed);
@@ -456,6 +456,14 @@ fn ipv4(packet: Payload<'_>) -> Result<Payload<'_>, NoPacket>
         size: total - header,
         bytes: &bytes[header..],
     })
+}
+
+/// Returns the size of an IPv4 header, as it says it (RFC 791 section 3.1).
+pub(crate) fn ipv4_header_size(bytes: &[u8]) -> usize
+    requires { 20 ≤ length bytes.now }
+    ensures { result ≡ ipv4_header_size bytes.now }
+{
+    4 * (bytes[0] % 16) as usize
 }
 
 /// Returns the length of an IPv4 packet.
@@ -544,7 +552,7 @@ fn extension(number: u8, payload: Payload<'_>) -> Result<Payload<'_>, NoPacket>
     if bytes.len() < size {
         return Err(NoPacket::Cut);
     }
-    Ok(behind(size, Protocol::Number(bytes[0]), payload))
+    Ok(past(size, Protocol::Number(bytes[0]), payload))
 }
 
 /// Returns the size of an extension header.

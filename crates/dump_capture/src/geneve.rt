@@ -5,7 +5,7 @@ ghost use Rattle.dump_capture.specs.Geneve.{geneve, geneve_size};
 ghost use Rattle.dump_capture.specs.Found.{payload_of, payload_result};
 
 use crate::frame::{NoPacket, number16};
-use crate::payload::{Payload, Protocol, behind};
+use crate::payload::{Payload, Protocol, past};
 
 /// Returns what follows a header of Geneve.
 #[tactic(auto, unfolding(crate::specs::Geneve::geneve))]
@@ -30,7 +30,7 @@ pub(crate) fn geneve(payload: Payload<'_>) -> Result<Payload<'_>, NoPacket>
         return Err(NoPacket::Cut);
     }
     let protocol = Protocol::EtherType(number16(&bytes[2..]));
-    Ok(behind(size, protocol, payload))
+    Ok(past(size, protocol, payload))
 }
 
 /// Returns the size of the header, with its options.

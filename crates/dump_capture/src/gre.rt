@@ -6,7 +6,7 @@ ghost use Rattle.dump_capture.specs.Found.{payload_of, payload_result};
 
 use crate::erspan::erspan;
 use crate::frame::{NoPacket, link_type, number16};
-use crate::payload::{Payload, Protocol, behind};
+use crate::payload::{Payload, Protocol, past};
 
 /// Returns what follows a header of GRE, and one of ERSPAN.
 #[tactic(auto, unfolding(crate::specs::Gre::gre))]
@@ -60,11 +60,11 @@ fn in_gre(ether_type: u16, payload: Payload<'_>) -> Result<Payload<'_>, NoPacket
     let size = gre_size(payload.bytes);
     let is_numbered = payload.bytes[0] / 16 % 2 == 1;
     if ether_type == 0x22eb || ether_type == 0x88be && is_numbered {
-        return erspan(behind(size, payload.protocol, payload));
+        return erspan(past(size, payload.protocol, payload));
     }
     let protocol = match ether_type {
         0x88be => Protocol::Link(link_type::ETHERNET),
         _ => Protocol::EtherType(ether_type),
     };
-    Ok(behind(size, protocol, payload))
+    Ok(past(size, protocol, payload))
 }

@@ -5,7 +5,7 @@ ghost use Rattle.dump_capture.specs.Gtp.{gtp, gtp_size, in_gtp, gtp_extension, n
 ghost use Rattle.dump_capture.specs.Found.{payload_of, payload_result};
 
 use crate::frame::{NoPacket, number16};
-use crate::payload::{Payload, Protocol, behind, cut_to};
+use crate::payload::{Payload, Protocol, cut_to, past};
 
 /// Returns what follows the header of a G-PDU.
 #[tactic(auto, unfolding(crate::specs::Gtp::gtp))]
@@ -45,7 +45,7 @@ fn in_gtp(payload: Payload<'_>) -> Result<Payload<'_>, NoPacket>
 {
     let bytes = payload.bytes;
     if bytes[0] % 8 == 0 {
-        return Ok(behind(8, Protocol::Ip, payload));
+        return Ok(past(8, Protocol::Ip, payload));
     }
     if payload.size < 12 {
         return Err(NoPacket::Malformed);
@@ -53,7 +53,7 @@ fn in_gtp(payload: Payload<'_>) -> Result<Payload<'_>, NoPacket>
     if bytes.len() < 12 {
         return Err(NoPacket::Cut);
     }
-    Ok(behind(12, first_in_gtp(bytes), payload))
+    Ok(past(12, first_in_gtp(bytes), payload))
 }
 
 /// Returns what follows the optional fields.
@@ -100,5 +100,5 @@ pub(crate) fn gtp_extension(payload: Payload<'_>) -> Result<Payload<'_>, NoPacke
     if bytes.len() < size {
         return Err(NoPacket::Cut);
     }
-    Ok(behind(size, next_in_gtp(bytes[size - 1]), payload))
+    Ok(past(size, next_in_gtp(bytes[size - 1]), payload))
 }

@@ -5,12 +5,12 @@ ghost use Rattle.dump_capture.specs.IpFragment.{fragment_in, in_headers, in_tunn
 ghost use Rattle.dump_capture.specs.Found.{payload_of};
 
 use crate::frame::{
-    Addresses, MOST_HEADERS, MOST_TUNNELS, NoPacket, behind_header, behind_headers, in_frame,
-    ipv4_addresses, ipv4_length, is_header, number16, through_tunnel,
+    Addresses, MOST_HEADERS, MOST_TUNNELS, NoPacket, in_frame, ipv4_addresses, ipv4_header_size,
+    ipv4_length, is_header, number16, past_header, past_headers, through_tunnel,
 };
 use crate::parts::{after, front};
 use crate::payload::{Payload, Protocol};
-use crate::tunnel::{behind_tunnel, is_tunnel};
+use crate::tunnel::{is_tunnel, past_tunnel};
 
 /// The most bytes of an IP packet after a header of IPv6: its payload length has 16 bits (RFC 8200
 /// section 3).
@@ -27,8 +27,8 @@ pub struct FragmentKey {
     pub addresses: Addresses,
     /// The identification: 16 bits in IPv4, 32 in IPv6.
     pub identification: u32,
-    /// What the packet carries in IPv4 (RFC 791 section 3.2). `None` in IPv6, which doesn't tell
-    /// packets apart by it (RFC 8200 section 4.5).
+    /// What the packet carries in IPv4 (RFC 791 section 3.2). `None` in IPv6, where it
+    /// identifies no packet (RFC 8200 section 4.5).
     pub protocol: Option<u8>,
 }
 
@@ -65,7 +65,7 @@ pub fn fragment_in(
     ensures { fragment_result result ≡ fragment_in udp_port link_type original_length frame.now }
 {
     let payload = in_frame(link_type, original_length, frame);
-    match behind_headers(payload) {
+    match past_headers(payload) {
         Ok(outer) => in_tunnels(udp_port, outer),
         Err(_) => in_headers(payload),
     }
@@ -92,7 +92,7 @@ fn in_tunnels(udp_port: u16, payload: Payload<'_>) -> Option<IpFragment<'_>>
 fn in_tunnel(payload: Payload<'_>, _why: NoPacket) -> Option<IpFragment<'_>>
     ensures { fragment_result result ≡ in_tunnel (payload_of payload.entry) _why }
 {
-    match behind_tunnel(payload) {
+    match past_tunnel(payload) {
         Ok(inner) => in_headers(inner),
         Err(_) => None,
     }
@@ -107,7 +107,7 @@ fn in_headers(payload: Payload<'_>) -> Option<IpFragment<'_>>
         if !is_header(rest.protocol) {
             return None;
         }
-        match behind_header(rest) {
+        match past_header(rest) {
             Ok(inner) => rest = inner,
             Err(why) => return fragment_at(rest, why),
         }
@@ -141,7 +141,7 @@ fn ipv4_fragment(packet: Payload<'_>) -> Option<IpFragment<'_>>
     if bytes.len() < total {
         return None;
     }
-    let header = 4 * (bytes[0] % 16) as usize;
+    let header = ipv4_header_size(bytes);
     let field = number16(&bytes[6..]);
     let fragment = IpFragment {
         key: FragmentKey {

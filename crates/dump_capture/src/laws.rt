@@ -2,7 +2,7 @@
 
 ghost use Rattle.std.specs.Prelude.{◌≡◌, ◌<◌, ◌+◌, ◌^◌, ◌++◌, ℕ, List, [], ◌∷◌, true, Option, Some, None, Ok, Err, length, take, slice_index};
 ghost use Rattle.dump_capture.specs.Decoding.{Reads};
-ghost use Rattle.dump_capture.specs.Frame.{packet_in, is_known_link, in_frame, behind_header, may_carry_sctp};
+ghost use Rattle.dump_capture.specs.Frame.{packet_in, is_known_link, in_frame, past_header, may_carry_sctp};
 ghost use Rattle.dump_capture.specs.IpFragment.{Fragment, fragment_in};
 ghost use Rattle.dump_capture.specs.Reassembly.{ip_header, carried_by};
 ghost use Rattle.dump_capture.specs.declared.frame.NoPacket.TheVariants.{Fragment as IsFragment};
@@ -112,17 +112,17 @@ pub fn fragment_is_no_packet()
 {}
 
 /// Proves that the header of a packet that is put together is read in a frame of link type 101 as
-/// one of its addresses, with what it carries behind it, whatever the checksum is.
+/// one of its addresses, with what it carries after it, whatever the checksum is.
 pub fn joined_packet()
     ensures ipv4 { (source destination bytes : List ℕ) (protocol checksum original : ℕ)
         → length source ≡ 4 → length destination ≡ 4 → 20 + length bytes < 2 ^ 16
         → may_carry_sctp protocol ≡ true
-        → behind_header (in_frame 101 original
+        → past_header (in_frame 101 original
         (ip_header (V4 source destination) protocol (length bytes) checksum ++ bytes))
         ≡ Ok (carried_by (V4 source destination) protocol bytes) }
     ensures ipv6 { (source destination bytes : List ℕ) (protocol checksum original : ℕ)
         → length source ≡ 16 → length destination ≡ 16 → length bytes < 2 ^ 16
-        → behind_header (in_frame 101 original
+        → past_header (in_frame 101 original
         (ip_header (V6 source destination) protocol (length bytes) checksum ++ bytes))
         ≡ Ok (carried_by (V6 source destination) protocol bytes) }
 {}

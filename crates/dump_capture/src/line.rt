@@ -170,7 +170,7 @@ fn log_line(text: &[u8]) -> Line<'_> {
     } else {
         Direction::Outgoing
     };
-    let (time, rest) = first_word(behind_direction(text));
+    let (time, rest) = first_word(past_direction(text));
     let bytes = after(rest, 5);
     match marked_bytes(bytes) {
         Some(packet) => Line::Logged(LoggedPacket {
@@ -198,7 +198,7 @@ fn begins_log(text: &[u8]) -> bool {
     if !has_direction(text) {
         return false;
     }
-    let (time, rest) = first_word(behind_direction(text));
+    let (time, rest) = first_word(past_direction(text));
     is_time(time) && rest.starts_with(b"0000 ")
 }
 
@@ -208,7 +208,7 @@ fn has_direction(text: &[u8]) -> bool {
 }
 
 /// Returns what follows the direction and the blanks after it.
-fn behind_direction(text: &[u8]) -> &[u8] {
+fn past_direction(text: &[u8]) -> &[u8] {
     without_blanks_before(after(text, 2))
 }
 
@@ -279,30 +279,26 @@ fn number_before(text: &[u8]) -> u32 {
 }
 
 /// Returns what follows the digits at the beginning and the blanks after them.
-fn behind_offset(text: &[u8]) -> &[u8] {
+fn past_offset(text: &[u8]) -> &[u8] {
     without_blanks_before(after(text, offset_length(text)))
 }
 
 /// Reads a line of a dump by `hexdump`.
 fn hexdump_line(text: &[u8]) -> Line<'_> {
     let offset = number_before(text);
-    dumped(DumpForm::Hexdump, offset, barred_bytes(behind_offset(text)))
+    dumped(DumpForm::Hexdump, offset, barred_bytes(past_offset(text)))
 }
 
 /// Reads a line of a dump by Wireshark.
 fn wireshark_line(text: &[u8]) -> Line<'_> {
     let offset = number_before(text);
-    dumped(
-        DumpForm::Wireshark,
-        offset,
-        dumped_bytes(behind_offset(text)),
-    )
+    dumped(DumpForm::Wireshark, offset, dumped_bytes(past_offset(text)))
 }
 
 /// Returns whether the text begins with six to eight digits and a byte, or is a length.
 fn has_hexdump_offset(text: &[u8]) -> bool {
     let length = offset_length(text);
-    let rest = behind_offset(text);
+    let rest = past_offset(text);
     length >= 6
         && length <= 8
         && (is_byte_alone(rest) || rest.is_empty() && text.starts_with(b"00"))
@@ -310,7 +306,7 @@ fn has_hexdump_offset(text: &[u8]) -> bool {
 
 /// Returns whether the text begins with four digits, two blanks and a byte.
 fn has_wireshark_offset(text: &[u8]) -> bool {
-    offset_length(text) == 4 && is_gap(after(text, 4)) && is_byte_alone(behind_offset(text))
+    offset_length(text) == 4 && is_gap(after(text, 4)) && is_byte_alone(past_offset(text))
 }
 
 /// Returns whether the text begins with a byte, and a blank or nothing after it.

@@ -5,7 +5,7 @@ ghost use Rattle.dump_capture.specs.Nflog.{nflog, attribute, attribute_order};
 ghost use Rattle.dump_capture.specs.Found.{payload_of, payload_result};
 
 use crate::frame::NoPacket;
-use crate::payload::{Payload, Protocol, behind, cut_to};
+use crate::payload::{Payload, Protocol, cut_to, past};
 use crate::pcap::{ByteOrder, read_u16};
 
 /// The type of the attribute that is the packet.
@@ -23,7 +23,7 @@ pub(crate) fn nflog(frame: Payload<'_>) -> Result<Payload<'_>, NoPacket>
         return Err(NoPacket::Other);
     }
     match frame.bytes[0] {
-        2 | 10 => Ok(behind(4, Protocol::NflogAttribute, frame)),
+        2 | 10 => Ok(past(4, Protocol::NflogAttribute, frame)),
         _ => Err(NoPacket::Other),
     }
 }
@@ -49,10 +49,10 @@ pub(crate) fn attribute(payload: Payload<'_>) -> Result<Payload<'_>, NoPacket>
         return Err(NoPacket::Malformed);
     }
     if read_u16(order, &bytes[2..]) == PACKET {
-        return Ok(behind(4, Protocol::Ip, cut_to(length, payload)));
+        return Ok(past(4, Protocol::Ip, cut_to(length, payload)));
     }
     let padded = 4 * ((length + 3) / 4);
-    Ok(behind(padded, Protocol::NflogAttribute, payload))
+    Ok(past(padded, Protocol::NflogAttribute, payload))
 }
 
 /// Returns the byte order of an attribute's header: in a type's high byte only two flags are set.

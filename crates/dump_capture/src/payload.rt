@@ -1,7 +1,7 @@
 //! What follows a header in a frame.
 
 ghost use Rattle.std.specs.Prelude.{◌≡◌};
-ghost use Rattle.dump_capture.specs.Payload.{behind, cut_to};
+ghost use Rattle.dump_capture.specs.Payload.{past, cut_to};
 ghost use Rattle.dump_capture.specs.Found.{payload_of};
 
 use crate::frame::Addresses;
@@ -35,8 +35,8 @@ pub(crate) struct Payload<'a> {
 }
 
 /// Returns what follows the first `count` bytes.
-pub(crate) fn behind(count: usize, protocol: Protocol, payload: Payload<'_>) -> Payload<'_>
-    ensures { payload_of result ≡ behind count protocol (payload_of payload.entry) }
+pub(crate) fn past(count: usize, protocol: Protocol, payload: Payload<'_>) -> Payload<'_>
+    ensures { payload_of result ≡ past count protocol (payload_of payload.entry) }
 {
     Payload {
         addresses: payload.addresses,

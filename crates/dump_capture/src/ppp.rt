@@ -5,7 +5,7 @@ ghost use Rattle.dump_capture.specs.Ppp.{of_ppp, ppp, framed_ppp, in_session};
 ghost use Rattle.dump_capture.specs.Found.{payload_of, payload_result};
 
 use crate::frame::{NoPacket, number16};
-use crate::payload::{Payload, Protocol, behind};
+use crate::payload::{Payload, Protocol, past};
 
 /// Returns what follows the address and control bytes, if they are there, and the protocol.
 #[tactic(auto, unfolding(crate::specs::Ppp::framed_ppp))]
@@ -16,7 +16,7 @@ pub(crate) fn framed_ppp(payload: Payload<'_>) -> Result<Payload<'_>, NoPacket>
         return Err(NoPacket::Cut);
     }
     if number16(payload.bytes) == 0xff03 {
-        ppp(behind(2, payload.protocol, payload))
+        ppp(past(2, payload.protocol, payload))
     } else {
         ppp(payload)
     }
@@ -30,7 +30,7 @@ pub(crate) fn in_session(payload: Payload<'_>) -> Result<Payload<'_>, NoPacket>
     if payload.bytes.len() < 6 {
         return Err(NoPacket::Cut);
     }
-    ppp(behind(6, payload.protocol, payload))
+    ppp(past(6, payload.protocol, payload))
 }
 
 /// Returns what follows the protocol, which has one byte or two.
@@ -56,7 +56,7 @@ fn of_ppp(protocol: u16, count: usize, payload: Payload<'_>) -> Result<Payload<'
     ensures { payload_result result ≡ of_ppp protocol count (payload_of payload.entry) }
 {
     match protocol {
-        0x0021 | 0x0057 => Ok(behind(count, Protocol::Ip, payload)),
+        0x0021 | 0x0057 => Ok(past(count, Protocol::Ip, payload)),
         _ => Err(NoPacket::Other),
     }
 }

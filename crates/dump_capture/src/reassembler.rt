@@ -61,8 +61,8 @@ impl<S: PacketSink> Reassembler<S> {
         self.inner
     }
 
-    /// Looks at the last frame, which is a fragment. It is apart from `frame`, which so pays nothing
-    /// at its entry for what is only needed here.
+    /// Looks at the last frame, which is a fragment. It is apart from `frame`, which so pays
+    /// nothing at its entry for what is only needed here.
     #[cold]
     #[inline(never)]
     fn look(&mut self, seen: &Seen<'_>, link_type: u16, original_length: u32, bytes: &[u8])
@@ -139,7 +139,7 @@ impl<S: PacketSink> Sink for Reassembler<S> {
     }
 }
 
-/// Returns where and when a packet of so many fragments was seen, of which this frame was the last.
+/// Returns where and when a packet of `count` fragments was seen, of which this frame was the last.
 fn as_joined<'a>(seen: &Seen<'a>, count: usize) -> Seen<'a>
     ensures { result ≡ as_joined seen.now count }
 {

@@ -219,7 +219,7 @@ impl PartialPacket {
         Ok(())
     }
 
-    /// Returns whether one fragment more, of so many bytes, may be kept.
+    /// Returns whether one fragment more, of `size` bytes, may be kept.
     fn has_room(&self, size: usize) -> bool
         ensures { result ≡ true → (length self.now.fragments.items < MOST_FRAGMENTS)
             × (self.now.size + size ≤ MOST_BYTES) }
@@ -297,7 +297,7 @@ impl PartialPacket {
     }
 }
 
-/// Returns the header of an IP packet with so many bytes of data.
+/// Returns the header of an IP packet with `size` bytes of data.
 fn header_of(
     alloc: Global,
     addresses: Addresses,
@@ -320,7 +320,7 @@ fn header_of(
     }
 }
 
-/// Returns the header of an IPv4 packet with so many bytes of data, and no options.
+/// Returns the header of an IPv4 packet with `size` bytes of data, and no options.
 fn ipv4_header(
     alloc: Global,
     source: [u8; 4],
@@ -364,7 +364,7 @@ fn words_of(address: [u8; 4]) -> u32
     high + low
 }
 
-/// Returns the header of an IPv6 packet with so many bytes of data, and no extension headers.
+/// Returns the header of an IPv6 packet with `size` bytes of data, and no extension headers.
 fn ipv6_header(
     alloc: Global,
     source: [u8; 16],

@@ -35,11 +35,11 @@ pub fn read_stamp(line: &[u8]) -> Option<Stamp>
     if !has_number(process) {
         return None;
     }
-    let thread = behind_number(process);
+    let thread = past_number(process);
     if !has_number(thread) {
         return None;
     }
-    stamp_in(behind_number(thread))
+    stamp_in(past_number(thread))
 }
 
 /// Returns whether digits and a colon are at the front.
@@ -49,7 +49,7 @@ fn has_number(text: &[u8]) -> bool {
 }
 
 /// Returns what follows the digits at the front and the byte after them.
-fn behind_number(text: &[u8]) -> &[u8] {
+fn past_number(text: &[u8]) -> &[u8] {
     after(text, number_length(text) + 1)
 }
 

@@ -1,14 +1,14 @@
 //! Tunnels: IP in IP, GRE, and those in UDP.
 
 ghost use Rattle.std.specs.Prelude.{◌≡◌};
-ghost use Rattle.dump_capture.specs.Tunnel.{is_tunnel, is_udp_tunnel, is_tunnel_port, behind_tunnel, of_tunnel, udp_tunnel, to_port};
+ghost use Rattle.dump_capture.specs.Tunnel.{is_tunnel, is_udp_tunnel, is_tunnel_port, past_tunnel, of_tunnel, udp_tunnel, to_port};
 ghost use Rattle.dump_capture.specs.Found.{payload_of, payload_result};
 
 use crate::frame::{NoPacket, UDP_PROTOCOL, number16};
 use crate::geneve::geneve;
 use crate::gre::gre;
 use crate::gtp::gtp;
-use crate::payload::{Payload, Protocol, behind, cut_to};
+use crate::payload::{Payload, Protocol, cut_to, past};
 use crate::vxlan::vxlan;
 
 /// The protocol number of IPv4 in IP.
@@ -63,8 +63,8 @@ fn is_tunnel_port(port: u16) -> bool
 }
 
 /// Returns what a tunnel carries.
-pub(crate) fn behind_tunnel(payload: Payload<'_>) -> Result<Payload<'_>, NoPacket>
-    ensures { payload_result result ≡ behind_tunnel (payload_of payload.entry) }
+pub(crate) fn past_tunnel(payload: Payload<'_>) -> Result<Payload<'_>, NoPacket>
+    ensures { payload_result result ≡ past_tunnel (payload_of payload.entry) }
 {
     match payload.protocol {
         Protocol::Number(number) => of_tunnel(number, cut_to(payload.size, payload)),
@@ -77,8 +77,8 @@ fn of_tunnel(number: u8, payload: Payload<'_>) -> Result<Payload<'_>, NoPacket>
     ensures { payload_result result ≡ of_tunnel number (payload_of payload.entry) }
 {
     match number {
-        IPV4_PROTOCOL => Ok(behind(0, Protocol::EtherType(0x0800), payload)),
-        IPV6_PROTOCOL => Ok(behind(0, Protocol::EtherType(0x86dd), payload)),
+        IPV4_PROTOCOL => Ok(past(0, Protocol::EtherType(0x0800), payload)),
+        IPV6_PROTOCOL => Ok(past(0, Protocol::EtherType(0x86dd), payload)),
         GRE_PROTOCOL => gre(payload),
         UDP_PROTOCOL => udp_tunnel(payload),
         _ => Err(NoPacket::Other),
@@ -102,7 +102,7 @@ fn udp_tunnel(payload: Payload<'_>) -> Result<Payload<'_>, NoPacket>
         return Err(NoPacket::Malformed);
     }
     let datagram = cut_to(size, payload);
-    to_port(number16(&bytes[2..]), behind(8, payload.protocol, datagram))
+    to_port(number16(&bytes[2..]), past(8, payload.protocol, datagram))
 }
 
 /// Returns what a tunnel carries whose datagrams are sent to this port.

@@ -6,7 +6,7 @@ ghost use Rattle.dump_capture.specs.Found.{payload_of};
 ghost use Rattle.dump_capture.specs.declared.tunnels.Tunnel as declared;
 
 use crate::frame::{
-    Addresses, MOST_TUNNELS, UDP_PROTOCOL, behind_headers, in_frame, number16, through_tunnel,
+    Addresses, MOST_TUNNELS, UDP_PROTOCOL, in_frame, number16, past_headers, through_tunnel,
 };
 use crate::gre::gre_size;
 use crate::parts::after;
@@ -68,7 +68,7 @@ pub fn tunnels_in(udp_port: u16, link_type: u16, original_length: u32, frame: &[
     ensures { result ≡ tunnels_in udp_port link_type original_length frame.now }
 {
     let payload = in_frame(link_type, original_length, frame);
-    match behind_headers(payload) {
+    match past_headers(payload) {
         Ok(rest) => Tunnels {
             udp_port,
             left: MOST_TUNNELS,

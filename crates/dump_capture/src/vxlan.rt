@@ -5,7 +5,7 @@ ghost use Rattle.dump_capture.specs.Vxlan.{vxlan};
 ghost use Rattle.dump_capture.specs.Found.{payload_of, payload_result};
 
 use crate::frame::{NoPacket, link_type};
-use crate::payload::{Payload, Protocol, behind};
+use crate::payload::{Payload, Protocol, past};
 
 /// Returns what follows a header of VXLAN.
 #[tactic(auto, unfolding(crate::specs::Vxlan::vxlan))]
@@ -21,5 +21,5 @@ pub(crate) fn vxlan(payload: Payload<'_>) -> Result<Payload<'_>, NoPacket>
     if payload.bytes[0] / 8 % 2 != 1 {
         return Err(NoPacket::Other);
     }
-    Ok(behind(8, Protocol::Link(link_type::ETHERNET), payload))
+    Ok(past(8, Protocol::Link(link_type::ETHERNET), payload))
 }

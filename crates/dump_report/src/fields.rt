@@ -215,7 +215,7 @@ pub trait Fields {
     /// Takes a number.
     fn number(&mut self, number: &Number) -> fmt::Result;
 
-    /// Takes a number that stands for something, and its name, if it has one.
+    /// Takes a number that has a meaning, and its name, if it has one.
     fn named(&mut self, number: &Number, name: Option<&'static str>) -> fmt::Result;
 
     /// Takes a number that a line of text has by its name alone.
@@ -223,7 +223,7 @@ pub trait Fields {
         self.named(number, Some(name))
     }
 
-    /// Takes an entry of a list of numbers that stand for something, and its index.
+    /// Takes an entry of a list of numbers that have a meaning, and its index.
     fn named_entry(&mut self, _index: usize, _number: &Number, _by: NamedBy) -> fmt::Result {
         Ok(())
     }
@@ -283,7 +283,7 @@ pub fn walk_numbers<F: Fields>(
     fields.end_list()
 }
 
-/// Hands over a list of `count` numbers that stand for something, of which the first is given.
+/// Hands over a list of `count` numbers that have a meaning, of which the first is given.
 pub fn walk_named<F: Fields>(
     key: &'static str,
     count: usize,

@@ -20,7 +20,7 @@ use std::fmt;
 /// right; its checksum isn't known. Of a header that was cut off the ports and the tag that are
 /// there.
 ///
-/// A text of the peer stands between quotation marks. What isn't UTF-8 is escaped byte by byte, as
+/// A text of the peer is between quotation marks. What isn't UTF-8 is escaped byte by byte, as
 /// `\xff`, and so are quotation marks, backslashes, control characters, controls of the direction
 /// of text, and others that aren't seen (U+061C, U+200B to U+200F, U+2028 to U+202E, U+2060 to
 /// U+206F, U+FEFF, U+FFF9 to U+FFFB, and all from U+E0000 on).

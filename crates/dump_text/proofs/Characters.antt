@@ -6,19 +6,23 @@ use Rattle.std.proofs.lemmas.Str.{IsUtf8-from_ascii, encode_ascii, IsUtf8-from_i
 use lib.Utf8.{encode, encodes}
 use Rattle.dump_text.specs.Printed.{is_shown, is_character}
 
-not_utf8 : (b : Bool) (bytes : List ℕ) → is_utf8 bytes ≡ b → (IsUtf8 bytes → ⊥) → is_utf8 bytes ≡ false
+not_utf8 : (b : Bool) (bytes : List ℕ) → is_utf8 bytes ≡ b → (IsUtf8 bytes → ⊥) → is_utf8 bytes
+    ≡ false
 not_utf8 true bytes is none = absurd (none (IsUtf8-from_is_utf8 bytes is))
 not_utf8 false bytes is none = is
 
-pub no_character : (is_word : Bool) (bytes : List ℕ) → (IsUtf8 bytes → ⊥) → false ≡ is_character is_word bytes
+pub no_character : (is_word : Bool) (bytes : List ℕ) → (IsUtf8 bytes → ⊥) → false
+    ≡ is_character is_word bytes
 no_character is_word bytes none = rw (not_utf8 (is_utf8 bytes) bytes refl none)
 
-first_of_encodes : (cs : List ℕ) (c : ℕ) (rest : List ℕ) → encode c ++ rest ≡ encodes cs → get_or cs 0 0 ≡ c
+first_of_encodes : (cs : List ℕ) (c : ℕ) (rest : List ℕ) → encode c ++ rest ≡ encodes cs
+    → get_or cs 0 0 ≡ c
 first_of_encodes [] c rest same =
     absurd (omega (arith, ap length same, length-encode c, len_utf8_bounds c, length-append (encode c) rest))
 first_of_encodes (d ∷ ds) c rest same = sym (encode_same c d rest (encodes ds) same).0
 
-pub first_character : (is_word : Bool) (bytes rest : List ℕ) (c : ℕ) → IsUtf8 bytes → bytes ≡ encode c ++ rest
+pub first_character : (is_word : Bool) (bytes rest : List ℕ) (c : ℕ) → IsUtf8 bytes → bytes
+    ≡ encode c ++ rest
     → is_shown is_word c ≡ is_character is_word bytes
 first_character is_word bytes rest c u front =
     let first : get_or (chars bytes) 0 0 ≡ c =

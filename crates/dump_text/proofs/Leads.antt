@@ -48,7 +48,8 @@ lead_size c rest ok = elim (cases_lt c 128) [
 abbrev pub GoesOn : List ℕ → Type 0
 GoesOn bytes = (192 ≤ get_or bytes 0 0) × (128 ≤ get_or bytes 1 0) × (get_or bytes 1 0 < 192)
 
-character_goes_on : (c : ℕ) (rest : List ℕ) → 128 ≤ get_or (encode c ++ rest) 0 0 → GoesOn (encode c ++ rest)
+character_goes_on : (c : ℕ) (rest : List ℕ) → 128 ≤ get_or (encode c ++ rest) 0 0
+    → GoesOn (encode c ++ rest)
 character_goes_on c rest high = elim (cases_lt c 128) [
   | inl a ↦
       let first : 128 ≤ c = subst (λ l. 128 ≤ get_or (l ++ rest) 0 0) (one c a) high in
@@ -66,7 +67,8 @@ character_goes_on c rest high = elim (cases_lt c 128) [
 ]
 
 pub goes_on : (bytes : List ℕ) → IsUtf8 bytes → 128 ≤ get_or bytes 0 0 → GoesOn bytes
-goes_on bytes u high = subst GoesOn u.1.1 (of_these u.0 (subst (λ l. 128 ≤ get_or l 0 0) (sym u.1.1) high))
+goes_on bytes u high = subst GoesOn u.1.1 (of_these u.0 (subst (λ l. 128 ≤ get_or l 0 0)
+    (sym u.1.1) high))
   where
     of_these : (cs : List ℕ) → 128 ≤ get_or (encodes cs) 0 0 → GoesOn (encodes cs)
     of_these [] h = absurd (omega arith)

@@ -24,7 +24,8 @@ same_first [] (suc n) h = refl
 same_first (byte ∷ rest) (suc n) h = refl
 
 -- the bytes of the size are these characters
-front_of : (is_word : Bool) (bytes cs : List ℕ) (n : ℕ) → n ≡ size_from (get_or bytes 0 0) → n ≤ length bytes
+front_of : (is_word : Bool) (bytes cs : List ℕ) (n : ℕ) → n ≡ size_from (get_or bytes 0 0)
+    → n ≤ length bytes
     → scalars cs ≡ true → encodes cs ≡ take n bytes
     → is_shown is_word (get_or (chars (take n bytes)) 0 0) ≡ true → Front is_word bytes n
 front_of is_word bytes [] n is inside ok spells shown =
@@ -34,11 +35,13 @@ front_of is_word bytes (c ∷ ds) n is inside ok spells shown =
     let some : 0 < n = omega (arith, size_from_pos (get_or bytes 0 0)) in
     let first : get_or (encode c ++ encodes ds) 0 0 ≡ get_or bytes 0 0 =
     ap (λ l. get_or l 0 0) spells ∙ same_first bytes n some in
-    let size : n ≡ length (encode c) = is ∙ ap size_from (sym first) ∙ lead_size c (encodes ds) p.0 in
+    let size : n ≡ length (encode c) = is ∙ ap size_from (sym first)
+    ∙ lead_size c (encodes ds) p.0 in
     let none : length (encodes ds) ≡ 0 =
     omega (arith, ap length spells, length-append (encode c) (encodes ds), length-take n bytes) in
     let whole : take n bytes ≡ encode c =
-    sym spells ∙ ap (λ l. encode c ++ l) (nil_from_length (encodes ds) none) ∙ append-nil (encode c) in
+    sym spells ∙ ap (λ l. encode c ++ l) (nil_from_length (encodes ds) none)
+    ∙ append-nil (encode c) in
     let read : chars (take n bytes) ≡ c ∷ ds = ap chars (sym spells) ∙ chars-encodes (c ∷ ds) ok in
     record {
       begins = record {
@@ -61,15 +64,18 @@ pub shown_front : (is_word : Bool) (bytes : List ℕ) (n : ℕ) → shown_size i
     → Front is_word bytes n
 shown_front is_word bytes n is some =
     let size = size_from (get_or bytes 0 0) in
-    let found = chosen (nat_le size (length bytes) && is_character is_word (take size bytes)) size n is some in
+    let found = chosen (nat_le size (length bytes) && is_character is_word
+    (take size bytes)) size n is some in
     let parts = and_parts _ _ found.0 in
     let fits : nat_le size (length bytes) ≡ true = parts.0 in
     let inside : size ≤ length bytes = grind (arith, nat_tests) in
     let both = and_parts _ _ parts.1 in
     let u = IsUtf8-from_is_utf8 (take size bytes) both.0 in
-    subst (Front is_word bytes) found.1 (front_of is_word bytes u.0 size refl inside u.1.0 u.1.1 both.1)
+    subst (Front is_word bytes) found.1 (front_of is_word bytes u.0 size refl inside u.1.0 u.1.1
+    both.1)
 
-pub no_front : (is_word : Bool) (bytes : List ℕ) → shown_size is_word bytes ≡ 0 → BeginsWithShown is_word bytes → ⊥
+pub no_front : (is_word : Bool) (bytes : List ℕ) → shown_size is_word bytes ≡ 0
+    → BeginsWithShown is_word bytes → ⊥
 no_front is_word bytes is b =
     let c = b.character in
     let size = size_from (get_or bytes 0 0) in
@@ -81,8 +87,10 @@ no_front is_word bytes is b =
     let fits : nat_le size (length bytes) ≡ true = grind (arith, nat_tests) in
     let shown : is_character is_word (take size bytes) ≡ true =
     ap (is_character is_word) taken
-    ∙ sym (first_character is_word (encode c) [] c (IsUtf8-encode c b.scalar) (sym (append-nil (encode c))))
+    ∙ sym (first_character is_word (encode c) [] c (IsUtf8-encode c b.scalar) (sym (append-nil
+    (encode c))))
     ∙ b.shown in
-    let both : (nat_le size (length bytes) && is_character is_word (take size bytes)) ≡ true = and_from _ _ fits shown in
+    let both : (nat_le size (length bytes) && is_character is_word (take size bytes))
+    ≡ true = and_from _ _ fits shown in
     let value : shown_size is_word bytes ≡ size = ap (λ t. cond t size 0) both in
     omega (arith, value, is, size_from_pos (get_or bytes 0 0))

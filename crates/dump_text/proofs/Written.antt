@@ -43,10 +43,12 @@ written_plain bytes done start i le lt plain so_far =
 pub written_escaped : (bytes done : List ℕ) (start i : ℕ) → i < length bytes
     → is_escaped (get_or bytes i 0) ≡ true
     → done ++ slice_range bytes start i ≡ flat_map written (take i bytes)
-    → ((done ++ slice_range bytes start i) ++ escape (get_or bytes i 0)) ++ slice_range bytes (i + 1) (i + 1)
+    → ((done ++ slice_range bytes start i) ++ escape (get_or bytes i 0)) ++ slice_range bytes
+    (i + 1) (i + 1)
     ≡ flat_map written (take (i + 1) bytes)
 written_escaped bytes done start i lt is so_far =
-    ap (λ l. ((done ++ slice_range bytes start i) ++ escape (get_or bytes i 0)) ++ l) (slice_none bytes (i + 1))
+    ap (λ l. ((done ++ slice_range bytes start i) ++ escape (get_or bytes i 0)) ++ l)
+    (slice_none bytes (i + 1))
     ∙ append-nil ((done ++ slice_range bytes start i) ++ escape (get_or bytes i 0))
     ∙ ap (λ l. l ++ escape (get_or bytes i 0)) so_far
     ∙ sym (written_more bytes i lt ∙ ap (λ l. flat_map written (take i bytes) ++ l) (rw is))

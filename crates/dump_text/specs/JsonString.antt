@@ -1,5 +1,5 @@
 -- Strings of JSON (RFC 8259 section 7), as bytes of UTF-8 (section 8.1), and the texts that they
--- stand for.
+-- spell.
 use Rattle.std.specs.{Prelude.{◌≡◌, ◌/◌, ◌%◌, ◌⊎◌, ◌==◌, ◌||◌, Bool, false, if◌then◌else◌, nat_lt, ℕ, List, [], ◌∷◌, ◌++◌, length, Option, Some, None, encode_utf8}, Char.{IsScalar}, Char.Utf16.{surrogate_pair_char}, Int.{IsInRange}, List.{flat_map}, Str.Parse.{IsNumeral, digits_value}, Fmt.{digit_glyph}}
 
 -- unescaped = %x20-21 / %x23-5B / %x5D-10FFFF
@@ -24,28 +24,28 @@ abbrev pub AreFourDigits : List ℕ → ℕ → Type 0
 AreFourDigits digits n =
     (length digits ≡ 4) × IsNumeral 16 digits × (digits_value 16 digits ≡ n)
 
--- `*char`: these bytes of a string stand for this text
-pub data StandFor : List ℕ → List ℕ → Type 0 where
-  none : (string text : List ℕ) → string ≡ [] → text ≡ [] → StandFor string text
-  unescaped : (string text rest others : List ℕ) (c : ℕ) → IsUnescaped c → StandFor rest others
-      → string ≡ encode_utf8 c ++ rest → text ≡ encode_utf8 c ++ others → StandFor string text
+-- `*char`: these bytes of a string spell this text
+pub data Spells : List ℕ → List ℕ → Type 0 where
+  none : (string text : List ℕ) → string ≡ [] → text ≡ [] → Spells string text
+  unescaped : (string text rest others : List ℕ) (c : ℕ) → IsUnescaped c → Spells rest others
+      → string ≡ encode_utf8 c ++ rest → text ≡ encode_utf8 c ++ others → Spells string text
   escaped : (string text rest others : List ℕ) (letter c : ℕ) → escaped_by letter ≡ Some c
-      → StandFor rest others → string ≡ 0x5C ∷ letter ∷ rest → text ≡ encode_utf8 c ++ others
-      → StandFor string text
+      → Spells rest others → string ≡ 0x5C ∷ letter ∷ rest → text ≡ encode_utf8 c ++ others
+      → Spells string text
   numbered : (string text digits rest others : List ℕ) (c : ℕ) → AreFourDigits digits c
-      → IsScalar c → StandFor rest others → string ≡ 0x5C ∷ 0x75 ∷ (digits ++ rest)
-      → text ≡ encode_utf8 c ++ others → StandFor string text
+      → IsScalar c → Spells rest others → string ≡ 0x5C ∷ 0x75 ∷ (digits ++ rest)
+      → text ≡ encode_utf8 c ++ others → Spells string text
   pair : (string text high low rest others : List ℕ) (u v : ℕ) → AreFourDigits high u
       → AreFourDigits low v → IsInRange 0xD800 0xDBFF u → IsInRange 0xDC00 0xDFFF v
-      → StandFor rest others
+      → Spells rest others
       → string ≡ 0x5C ∷ 0x75 ∷ (high ++ 0x5C ∷ 0x75 ∷ (low ++ rest))
-      → text ≡ encode_utf8 (surrogate_pair_char u v) ++ others → StandFor string text
+      → text ≡ encode_utf8 (surrogate_pair_char u v) ++ others → Spells string text
 
 -- `quotation-mark *char quotation-mark`
 pub record IsString (string text : List ℕ) : Type 0 where
   pub inner : List ℕ
   pub marks : string ≡ 0x22 ∷ (inner ++ 0x22 ∷ [])
-  pub stands : StandFor inner text
+  pub spells : Spells inner text
 
 -- ---- the string that is written
 

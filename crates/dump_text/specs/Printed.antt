@@ -10,9 +10,9 @@ is_hidden c =
     || is_in_range 0x2060 0x206F c || c == 0xFEFF || is_in_range 0xFFF9 0xFFFB c
     || nat_le 0xE_0000 c
 
--- A character that stands for itself, in one word or in a text: none is a control character (U+0000
--- to U+001F, U+007F to U+009F), a quotation mark or a backslash; in a word it is ASCII, and no
--- blank.
+-- A character that is printed as itself, in one word or in a text: none is a control character
+-- (U+0000 to U+001F, U+007F to U+009F), a quotation mark or a backslash; in a word it is ASCII,
+-- and no blank.
 abbrev pub is_shown : Bool → ℕ → Bool
 is_shown is_word c =
     if c == 0x22 || c == 0x5C then false else

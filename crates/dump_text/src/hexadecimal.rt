@@ -95,7 +95,7 @@ pub fn write_utf8<W: fmt::Write>(bytes: &[u8], f: &mut fmt::Formatter<W>) -> fmt
 }
 
 /// Writes a row of bytes after a line break: the last four digits of its offset, each byte in
-/// hexadecimal, and then all as ASCII between bars, where a dot stands for what isn't printable.
+/// hexadecimal, and then all as ASCII between bars, where a dot is what isn't printable.
 pub fn write_row<W: fmt::Write>(offset: usize, row: &[u8], f: &mut fmt::Formatter<W>) -> fmt::Result
     requires { length row.now ≤ ROW }
     ensures { (text : List ℕ) × WritesOnOk W.write_str_gives f.old result (10 ∷ text) f.new

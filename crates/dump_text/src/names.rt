@@ -86,7 +86,7 @@ impl fmt::Display for ItemName {
     }
 }
 
-/// What the numbers of a list stand for.
+/// What the numbers of a list mean.
 #[derive(Clone, Copy)]
 pub enum NamedBy {
     /// A chunk type.
@@ -97,7 +97,7 @@ pub enum NamedBy {
     Hmac,
 }
 
-/// A number that stands for something; its name, or itself where it has none.
+/// A number that has a meaning; its name, or itself where it has none.
 #[derive(Clone, Copy)]
 pub struct Named {
     pub number: u32,

@@ -5,7 +5,7 @@ use crate::printed::Quoted;
 use std::fmt;
 
 /// Rows of sixteen bytes, each after a line break: the last four digits of its offset, its bytes in
-/// hexadecimal, and as ASCII, where a dot stands for what isn't printable.
+/// hexadecimal, and as ASCII, where a dot is what isn't printable.
 #[derive(Clone, Copy)]
 pub struct Rows<'a>(pub &'a [u8]);
 

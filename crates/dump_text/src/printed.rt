@@ -169,7 +169,7 @@ fn is_character(bytes: &[u8], is_word: bool) -> bool
     }
 }
 
-/// Returns whether the first two of several bytes tell that these are no UTF-8: the first isn't
+/// Returns whether the first two of several bytes show that these are no UTF-8: the first isn't
 /// ASCII, and begins no character, or the second doesn't go on with it.
 #[inline(always)]
 #[tactic(auto, using(crate::proofs::Leads::goes_on))]
@@ -182,7 +182,7 @@ fn begins_none(bytes: &[u8]) -> bool
     bytes[0] < 0xc0 || bytes[1] < 0x80 || bytes[1] >= 0xc0
 }
 
-/// Returns whether a character stands for itself.
+/// Returns whether a character is printed as itself.
 fn is_shown(character: char, is_word: bool) -> bool
     ensures { result ≡ is_shown is_word character }
 {

@@ -24,9 +24,9 @@ returns c =
       ← field,
       ← id,
       ← c.ipv4_length-total.ensures,
+      ← c.ipv4_header_size-header.ensures,
       ← c.front.ensures,
-      ←
-          c.after.ensures,
+      ← c.after.ensures,
       ← c.ipv4_addresses.ensures,
     )
     c.well_formed-2.ensures

@@ -37,14 +37,14 @@ loop-preserved c =
     c.after-in-loop.ensures in
     let some : number_in order w16 rest ≢ 0 =
     λ e. c.if-read_u16-eq0.false (c.read_u16.ensures ∙ e) in
-    let behind : c.after-rest.result.now
+    let past : c.after-rest.result.now
     ≡ drop (option_size (number_in order w16 (drop 2 rest))) rest =
     c.after-rest.ensures ∙ ap (λ (k : ℕ). drop k rest)
     (c.option_size.ensures ∙ ap (λ (k : ℕ). option_size k) value) in
     c.loop.invariant
     ∙ Option-next (c.args.most - c.loop.counter) fewer order c.args.code c.args.size rest
     (omega arith) (omega arith) some (sym c.is_option.ensures ∙ c.if-is_option.false)
-    ∙ ap (λ (x : List ℕ). option_in fewer order c.args.code c.args.size x) (sym behind)
+    ∙ ap (λ (x : List ℕ). option_in fewer order c.args.code c.args.size x) (sym past)
 
 pub returns : goal.returns
 returns c =

@@ -17,8 +17,10 @@ loop-i-preserved g c =
             let rest = w.write_escape.ensures text.plain (search rules) in (
               (now.0 ++ slice_range c.args.bytes.now c.loop-i.start c.loop-i.i)
                   ++ escape (get_or c.args.bytes.now c.loop-i.i 0),
-              rw w.f-is (has_written_append _ _ _ _ _ _ (has_written_append _ _ _ _ _ _ now.1 text) rest),
-              rw w.start-is (written_escaped _ now.0 c.loop-i.start _ (omega arith) (search rules) now.2),
+              rw w.f-is (has_written_append _ _ _ _ _ _
+                  (has_written_append _ _ _ _ _ _ now.1 text) rest),
+              rw w.start-is (written_escaped _ now.0 c.loop-i.start _ (omega arith)
+                  (search rules) now.2),
             );
       }
       | else-is_escaped w ↦ record {
@@ -27,7 +29,8 @@ loop-i-preserved g c =
             let now = c.loop-i.invariant.so_far plain in (
               now.0,
               rw w.f-is now.1,
-              rw w.start-is (written_plain _ now.0 _ _ c.loop-i.invariant.in_order (omega arith) (search rules) now.2),
+              rw w.start-is (written_plain _ now.0 _ _ c.loop-i.invariant.in_order (omega arith)
+                  (search rules) now.2),
             );
       }
     ]

@@ -44,6 +44,7 @@ loop-at-preserved c =
       room = omega (arith, now.size);
       begun = λ none. absurd (omega (arith, none));
       utf8 = more_text _ _ _ _ _ c.put_escape.ensures.front now.utf8 c.put_escape.ensures.utf8;
-      so_far = more_escaped c.args.is_word c.args.bytes.now c.loop-at.block c.put_escape.new.text _ c.loop-at.at
+      so_far = more_escaped c.args.is_word c.args.bytes.now c.loop-at.block c.put_escape.new.text _
+          c.loop-at.at
           c.loop-at.filled (rw none at value) (omega arith) c.put_escape.ensures.front now.so_far;
     }

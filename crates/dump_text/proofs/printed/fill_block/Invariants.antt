@@ -10,7 +10,8 @@ invariant-loop-at l = record {
   room : l.filled ≤ 128;
   begun : l.at ≡ 0 → l.filled ≡ 0;
   utf8 : IsUtf8 (take l.filled l.block);
-  so_far : take l.filled l.block ++ printed l.is_word (drop l.at l.bytes) ≡ printed l.is_word l.bytes;
+  so_far : take l.filled l.block ++ printed l.is_word (drop l.at l.bytes)
+      ≡ printed l.is_word l.bytes;
 }
 
 abbrev pub decreases-loop-at : goal.decreases-loop-at

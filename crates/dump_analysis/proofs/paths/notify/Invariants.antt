@@ -2,7 +2,7 @@
 use Rattle.std.proofs.Common.{◌≡◌}
 use Rattle.std.specs.Prelude.{vec_len}
 use Rattle.dump_analysis.specs.Paths.{packets_on, CountAlike}
-use Rattle.dump_analysis.proofs.paths.tell.Given as goal
+use Rattle.dump_analysis.proofs.paths.notify.Given as goal
 
 abbrev pub invariant-loop-place : goal.invariant-loop-place
 invariant-loop-place l =

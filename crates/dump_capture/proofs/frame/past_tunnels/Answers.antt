@@ -5,7 +5,7 @@ use Rattle.dump_capture.specs.Tunnel.{is_tunnel}
 use Rattle.dump_capture.specs.Frame.{through_tunnel}
 use Rattle.dump_capture.specs.Found.{payload_of}
 use Rattle.dump_capture.proofs.Headers.{at_last, at_step, at_most}
-use Rattle.dump_capture.proofs.frame.behind_tunnels.Goals as goal
+use Rattle.dump_capture.proofs.frame.past_tunnels.Goals as goal
 
 pub returns-then-not-is_tunnel : goal.returns-then-not-is_tunnel
 returns-then-not-is_tunnel c =
