@@ -40,6 +40,9 @@ What is printed:
   --messages       a line a user message, as it is acknowledged or abandoned, and
                    why it took that long, in place of packets; with --brief or
                    --json after the packet
+  --write-messages FOLDER
+                   with --messages also a file of this folder for each message,
+                   with its user data, joined
   --channels       a line a channel, or a stream and payload protocol, with what
                    became of its messages, in place of packets; with --brief or
                    --json after them
@@ -87,7 +90,7 @@ An option that would have no effect is refused.
 
 Status: 0 if all packets were accepted, 1 if some were refused, 2 if an input
 couldn't be read, ends inside a record or has no packet in what it holds, the
-output couldn't be written, or memory ran out, 3 if none was refused, but --check
+output or a file couldn't be written, or memory ran out, 3 if none was refused, but --check
 found a broken rule.
 ";
 
@@ -114,6 +117,8 @@ pub struct Request<'a> {
     pub options: Options,
     /// The files, at least one; `-` is standard input.
     pub files: Vec<&'a str>,
+    /// The folder of the files that messages are written to.
+    pub folder: Option<&'a str>,
 }
 
 /// Returns what the arguments ask for.
@@ -122,6 +127,7 @@ pub fn request_of(alloc: Global, words: &[String]) -> Result<Request<'_>, Failur
         action: Action::Dump,
         options: Options::DEFAULT,
         files: Vec::new(alloc),
+        folder: None,
     };
     let mut is_value = false;
     let mut only_files = false;
@@ -158,20 +164,23 @@ fn is_option(word: &str) -> bool {
 impl<'a> Request<'a> {
     /// Takes an option, and returns whether the next word is its value. The value may be in the
     /// same word, after `=`.
-    fn take(&mut self, word: &str, next: &str) -> Result<bool, Failure> {
+    fn take(&mut self, word: &'a str, next: &'a str) -> Result<bool, Failure> {
         if self.take_flag(word)? {
             return Ok(false);
         }
-        match word.split_once('=') {
-            Some((name, value)) => {
-                self.options.take_value(name, value)?;
-                Ok(false)
-            }
-            None => {
-                self.options.take_value(word, next)?;
-                Ok(true)
-            }
+        let (name, value, is_next) = match word.split_once('=') {
+            Some((name, value)) => (name, value, false),
+            None => (word, next, true),
+        };
+        if name != "--write-messages" {
+            self.options.take_value(name, value)?;
+        } else if value.is_empty() {
+            return Err(Failure::Usage("--write-messages takes a folder"));
+        } else {
+            self.options.message_files = true;
+            self.folder = Some(value);
         }
+        Ok(is_next)
     }
 
     /// Takes an option without a value; returns false if it isn't one.

@@ -48,7 +48,7 @@ fn seconds_of(clock: &str) -> Option<u64> {
     Some((hour * 60 + minute) * 60 + second)
 }
 
-/// Returns what stands before a point, and the nanoseconds of the one to nine digits after it; if
+/// Returns what is before a point, and the nanoseconds of the one to nine digits after it; if
 /// there is no point, all and 0.
 fn parts_of(text: &str) -> Option<(&str, u64)> {
     let Some((whole, digits)) = text.split_once(".") else {

@@ -9,9 +9,11 @@ ghost use Rattle.sctp_dump.specs.Warnings.{WarnsOf, is_judged};
 use crate::counts::{Counts, Judged, Verdict};
 use crate::failure::Failure;
 use crate::files::Files;
+use crate::message_files::MessageFiles;
 use crate::options::{Options, OutputForm};
 use crate::pcapng_blocks::PcapngBlocks;
 use crate::printer::Printer;
+use crate::progress::Progress;
 use crate::seen::{SeenFrame, SeenLines};
 use crate::sheet::{
     Shown, push_association, push_associations, push_channels, push_counts, push_file,
@@ -42,7 +44,7 @@ const LONG: usize = 65_536;
 
 /// Prints events as the options ask for, and counts them all.
 #[derive(Drop)]
-pub struct EventPrinter<W> {
+pub struct EventPrinter<'h, W> {
     /// What is printed, and which packets are found.
     pub options: Options,
     /// What was counted.
@@ -57,18 +59,28 @@ pub struct EventPrinter<W> {
     tracker: Tracker,
     clock: Clock,
     said: Said,
+    message_files: Option<MessageFiles<'h>>,
+    /// How much was read.
+    pub progress: Progress<'h>,
     blocks: PcapngBlocks,
     output: Output<W>,
 }
 
-impl<W: Write> EventPrinter<W> {
-    /// Returns a printer that printed nothing.
-    pub fn new(alloc: Global, options: Options, writer: Watched<W>) -> EventPrinter<W>
+impl<'h, W: Write> EventPrinter<'h, W> {
+    /// Returns a printer that printed nothing. Messages are written to files of `folder`, if there
+    /// is one.
+    pub fn new(
+        rt: &'h HostRuntime,
+        options: Options,
+        folder: Option<&'h str>,
+        writer: Watched<W>,
+    ) -> EventPrinter<'h, W>
         ensures options { result.options ≡ options }
         ensures counts { result.counts ≡ nothing }
         ensures failure { result.failure ≡ None }
         ensures warnings { result.warnings.counts ≡ replicate RULES 0 }
     {
+        let alloc = rt.alloc();
         EventPrinter {
             options,
             counts: Counts::new(),
@@ -80,6 +92,11 @@ impl<W: Write> EventPrinter<W> {
             tracker: Tracker::new(alloc),
             clock: Clock::new(options.time),
             said: Said::NOTHING,
+            message_files: match folder {
+                Some(folder) => Some(MessageFiles::new(rt, folder)),
+                None => None,
+            },
+            progress: Progress::new(rt),
             blocks: PcapngBlocks::new(alloc),
             output: Output::new(alloc, writer),
         }
@@ -107,15 +124,15 @@ impl<W: Write> EventPrinter<W> {
         self.warnings.are_some()
     }
 
-    /// Prints the associations that are asked for and the counts, and writes all. So many of the
-    /// packets were put together of fragments.
+    /// Prints the associations that are asked for and the counts, and writes all. Of the
+    /// packets, `reassembled` were put together of fragments.
     pub fn finish(&mut self, reassembled: u64) -> Result<(), Failure>
         ensures { self.new.counts ≡ self.old.counts }
     {
         let (messages, left_out) = self.tracker.finish_messages()?;
+        self.print_messages(messages.as_slice())?;
         let style = self.clock.style();
         let text = &mut self.output.text;
-        push_messages(&self.options, style, &self.files, messages.as_slice(), text)?;
         for channels in &self.tracker.finish_channels()? {
             push_channels(&self.options, style, &self.files, channels, text)?;
         }
@@ -148,6 +165,9 @@ impl<W: Write> EventPrinter<W> {
             Ok(()) => self.output.finish(),
             Err(error) => Err(error),
         };
+        if let Some(files) = &self.message_files {
+            files.finish();
+        }
         match written {
             Ok(()) => Ok(()),
             Err(error) => Err(failure_of(&error)),
@@ -161,7 +181,7 @@ impl<W: Write> EventPrinter<W> {
         frame: SeenFrame<'a>,
         found: &FoundPacket<'a>,
         judged: &Judged,
-    ) -> Result<(), AllocError>
+    ) -> Result<(), Failure>
         ensures options { self.new.options ≡ self.old.options }
         ensures counts { self.new.counts ≡ self.old.counts }
         ensures failure { self.new.failure ≡ self.old.failure }
@@ -193,7 +213,8 @@ impl<W: Write> EventPrinter<W> {
         }
         let is_file = self.options.output == OutputForm::Pcapng;
         if is_file {
-            return self.blocks.push(frame, &seen.time, nanoseconds);
+            self.blocks.push(frame, &seen.time, nanoseconds)?;
+            return Ok(());
         }
         let shown = Shown {
             seen: SeenLines {
@@ -318,8 +339,9 @@ impl<W: Write> EventPrinter<W> {
         Ok(packet)
     }
 
-    /// Prints the messages that are over by the last packet.
-    fn print_messages(&mut self, messages: &[EndedMessage]) -> Result<(), AllocError>
+    /// Prints messages that are over, and writes them to files if that is asked for. Where one
+    /// can't be written, what was printed before is.
+    fn print_messages(&mut self, messages: &[EndedMessage]) -> Result<(), Failure>
         ensures options { self.new.options ≡ self.old.options }
         ensures counts { self.new.counts ≡ self.old.counts }
         ensures failure { self.new.failure ≡ self.old.failure }
@@ -331,7 +353,16 @@ impl<W: Write> EventPrinter<W> {
             &self.files,
             messages,
             &mut self.output.text,
-        )
+        )?;
+        let Some(files) = &mut self.message_files else {
+            return Ok(());
+        };
+        let written = files.write(messages);
+        if written.is_err() {
+            // The run ends by the file's failure, whatever becomes of this.
+            let _ = self.output.write();
+        }
+        written
     }
 
     /// Prints a record or a line without a packet, if a reason is to be said.
@@ -340,7 +371,7 @@ impl<W: Write> EventPrinter<W> {
         part: Part,
         number: u64,
         reason: Option<&'static str>,
-    ) -> Result<(), AllocError>
+    ) -> Result<(), Failure>
         ensures options { self.new.options ≡ self.old.options }
         ensures counts { self.new.counts ≡ self.old.counts }
         ensures failure { self.new.failure ≡ self.old.failure }
@@ -353,21 +384,22 @@ impl<W: Write> EventPrinter<W> {
                     number,
                     reason,
                 };
-                push_skipped(&self.options, line, &mut self.output.text)
+                push_skipped(&self.options, line, &mut self.output.text)?;
             }
-            _ => Ok(()),
+            _ => {}
         }
+        Ok(())
     }
 
     /// Remembers a failure, and writes the text if it is long.
-    fn note(&mut self, outcome: Result<(), AllocError>)
+    fn note(&mut self, outcome: Result<(), Failure>)
         ensures options { self.new.options ≡ self.old.options }
         ensures counts { self.new.counts ≡ self.old.counts }
         ensures warnings { self.new.warnings ≡ self.old.warnings }
         ensures failure { self.new.failure ≡ None → IsOk outcome }
     {
-        if outcome.is_err() {
-            self.failure = Some(Failure::OutOfMemory);
+        if let Err(failure) = outcome {
+            self.failure = Some(failure);
             return;
         }
         let written = match self.write_blocks(LONG) {
@@ -395,7 +427,7 @@ impl<W: Write> EventPrinter<W> {
     }
 }
 
-impl<W: Write> Sink for EventPrinter<W> {
+impl<'h, W: Write> Sink for EventPrinter<'h, W> {
     ghost use Rattle.std.specs.Prelude.{◌≡◌, None};
     ghost use Rattle.sctp_dump.specs.Counts.{AreCounts};
     ghost use Rattle.sctp_dump.specs.Warnings.{AreWarnings};
@@ -407,6 +439,7 @@ impl<W: Write> Sink for EventPrinter<W> {
         if self.failure.is_some() {
             return;
         }
+        self.progress.see(bytes);
         self.is_fragment = false;
         match packet_in(self.options.udp_port, link_type, original_length, bytes) {
             Ok(found) => {
@@ -440,13 +473,13 @@ impl<W: Write> Sink for EventPrinter<W> {
     }
 }
 
-impl<W: Write> PacketSink for EventPrinter<W> {
+impl<'h, W: Write> PacketSink for EventPrinter<'h, W> {
     fn is_fragment(&self) -> bool {
         self.is_fragment
     }
 }
 
-impl<W: Write> Printer for EventPrinter<W> {
+impl<'h, W: Write> Printer for EventPrinter<'h, W> {
     ghost use Rattle.std.specs.Prelude.{is_some};
 
     ghost failed = { λ p. is_some p.failure };

@@ -16,6 +16,8 @@ pub enum Failure {
     Write,
     /// Whoever read the output reads no more of it.
     ClosedPipe,
+    /// A message's file can't be written, which was reported.
+    MessageFile,
     /// The file can't be opened.
     Open,
     /// The arguments can't be read.
@@ -38,6 +40,7 @@ impl fmt::Display for Failure {
             Failure::OutOfMemory => "out of memory",
             Failure::Read => "a read failed",
             Failure::Write | Failure::ClosedPipe => "a write failed",
+            Failure::MessageFile => "a message's file can't be written",
             Failure::Open => "can't be opened",
             Failure::Arguments => "the arguments can't be read",
             Failure::Usage(usage) => usage,

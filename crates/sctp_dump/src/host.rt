@@ -30,8 +30,8 @@ const WARNED: u8 = 3;
 
 /// Runs the program with the host's arguments, and returns the status: 0 if all packets were
 /// accepted, 1 if some were refused, 2 if an input couldn't be read, ends inside a record or has no
-/// packet in what it holds, the output couldn't be written, or memory ran out, 3 if none was
-/// refused, but some break rules that were looked at.
+/// packet in what it holds, the output or a file couldn't be written, or memory ran out, 3 if none
+/// was refused, but some break rules that were looked at.
 ///
 /// Reports each failure on standard error, but not that whoever read the output reads no more of
 /// it. No clause says what a host is asked for, since none of std does.
@@ -41,7 +41,7 @@ pub fn run(rt: &HostRuntime) -> u8
     match run_request(rt) {
         Ok(status) => status,
         Err(failure) => {
-            if failure != Failure::ClosedPipe {
+            if failure != Failure::ClosedPipe && failure != Failure::MessageFile {
                 report(rt, None, &failure);
             }
             FAILED
@@ -98,7 +98,7 @@ fn dump_all(rt: &HostRuntime, request: &Request<'_>) -> Result<u8, Failure>
 {
     let mut window = Window::new(rt.alloc())?;
     let writer = Watched::new(io::writer(rt));
-    let events = EventPrinter::new(rt.alloc(), request.options, writer);
+    let events = EventPrinter::new(rt, request.options, request.folder, writer);
     let mut printer = Reassembler::new(rt.alloc(), request.options.udp_port, events);
     let failed = dump_inputs(rt, request, &mut window, &mut printer);
     let made = printer.made;
@@ -111,24 +111,25 @@ fn dump_inputs<W: Write>(
     rt: &HostRuntime,
     request: &Request<'_>,
     window: &mut Window,
-    printer: &mut Reassembler<EventPrinter<W>>,
+    printer: &mut Reassembler<EventPrinter<'_, W>>,
 ) -> Result<bool, Failure> {
     let mut failed = false;
     let is_named = request.files.len() > 1;
     for name in &request.files {
         let outcome = dump_input(rt, name, request, is_named, window, printer);
+        printer.inner.progress.clear();
         failed |= is_over(rt, name, outcome)?;
     }
     Ok(failed)
 }
 
-/// Prints what comes after the packets of all inputs, of which so many were put together of
-/// fragments, and returns the status.
+/// Prints what comes after the packets of all inputs, of which `reassembled` were put
+/// together of fragments, and returns the status.
 fn finish<W: Write>(
     rt: &HostRuntime,
     failed: bool,
     reassembled: u64,
-    printer: &mut EventPrinter<W>,
+    printer: &mut EventPrinter<'_, W>,
 ) -> Result<u8, Failure>
     ensures { IfOk result (λ status. status ≤ 3) }
 {
@@ -146,7 +147,7 @@ fn finish<W: Write>(
 fn end_of<W: Write>(
     written: Result<(), Failure>,
     failed: bool,
-    printer: &EventPrinter<W>,
+    printer: &EventPrinter<'_, W>,
 ) -> Result<u8, Failure>
     ensures end { MatchResult written
         (λ _. result
@@ -177,8 +178,8 @@ fn status_of(failed: bool, warned: bool, counts: &Counts) -> u8
     }
 }
 
-/// Reports a failure of an input, and returns whether it failed. A failure of the output or of
-/// memory ends the run.
+/// Reports a failure of an input, and returns whether it failed. A failure of the output, of a
+/// message's file or of memory ends the run.
 fn is_over(rt: &HostRuntime, name: &str, outcome: Result<(), Failure>) -> Result<bool, Failure>
     ensures { result ≡ after_input outcome }
 {
@@ -186,6 +187,7 @@ fn is_over(rt: &HostRuntime, name: &str, outcome: Result<(), Failure>) -> Result
         Ok(()) => Ok(false),
         Err(Failure::Write) => Err(Failure::Write),
         Err(Failure::ClosedPipe) => Err(Failure::ClosedPipe),
+        Err(Failure::MessageFile) => Err(Failure::MessageFile),
         Err(Failure::OutOfMemory) => Err(Failure::OutOfMemory),
         Err(failure) => {
             report(rt, Some(name), &failure);
@@ -201,7 +203,7 @@ fn dump_input<W: Write>(
     request: &Request<'_>,
     is_named: bool,
     window: &mut Window,
-    printer: &mut Reassembler<EventPrinter<W>>,
+    printer: &mut Reassembler<EventPrinter<'_, W>>,
 ) -> Result<(), Failure> {
     printer.inner.begin_file(name, is_named)?;
     let (alloc, form) = (rt.alloc(), request.options.form);
@@ -226,7 +228,7 @@ fn dump_input<W: Write>(
 }
 
 /// Returns why a printer failed, if it did.
-fn failure_of<W: Write>(printer: &Reassembler<EventPrinter<W>>) -> Option<Failure> {
+fn failure_of<W: Write>(printer: &Reassembler<EventPrinter<'_, W>>) -> Option<Failure> {
     if printer.is_out_of_memory {
         Some(Failure::OutOfMemory)
     } else {

@@ -73,6 +73,8 @@ pub struct Options {
     pub paths: bool,
     /// The user messages.
     pub messages: bool,
+    /// The user messages are written to files too.
+    pub message_files: bool,
     /// The channels.
     pub channels: bool,
     /// The form of times.
@@ -108,6 +110,7 @@ impl Options {
         associations: false,
         paths: false,
         messages: false,
+        message_files: false,
         channels: false,
         time: TimeOption::Captured,
         keep: 10_000,
@@ -133,8 +136,16 @@ impl Options {
     /// Returns why an option that was given has no effect, if one has none.
     pub fn idle(&self) -> Option<&'static str> {
         let is_blocks = self.output == OutputForm::Blocks;
-        if self.places && self.output != OutputForm::Json {
-            return Some("--places needs --json");
+        if self.places && !(self.output == OutputForm::Json && self.prints_packets()) {
+            return Some("--places needs --json, and packets");
+        }
+        if self.message_files && !self.messages {
+            return Some("--write-messages needs --messages");
+        }
+        if self.auth_key.is_some()
+            && !(self.prints_packets() || self.associations || self.summary)
+        {
+            return Some("--auth-key needs packets, --associations or --summary");
         }
         if self.payload && !(is_blocks && self.prints_packets()) && !self.shows_messages_payload() {
             return Some("--payload needs blocks of packets, or --messages without --brief");
@@ -205,6 +216,11 @@ impl Options {
     /// Returns whether the user data of messages is printed.
     pub fn shows_messages_payload(&self) -> bool {
         self.messages && self.payload && self.output != OutputForm::Brief
+    }
+
+    /// Returns whether the user data of messages is kept until they are over.
+    pub fn keeps_messages_payload(&self) -> bool {
+        self.shows_messages_payload() || self.message_files
     }
 
     /// Returns whether packets are printed: not where associations, messages, channels or counts

@@ -242,13 +242,14 @@ pub fn push_messages(
     let files = files.named();
     for ended in messages {
         if options.messages && ended.message.passes {
+            let shows_payload = options.shows_messages_payload();
             let payload = match &ended.payload {
-                Some(payload) => Some(payload.as_slice()),
-                None => None,
+                Some(payload) if shows_payload => Some(payload.as_slice()),
+                _ => None,
             };
             let report = MessageReport {
                 message: &ended.message,
-                shows_payload: options.shows_messages_payload(),
+                shows_payload,
                 payload,
                 style,
                 files,

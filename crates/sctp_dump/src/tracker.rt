@@ -56,7 +56,7 @@ impl Tracker {
             _ => {}
         }
         if self.messages.is_none() && options.follows_messages() {
-            self.messages = Some(Messages::new(self.alloc, options.shows_messages_payload()));
+            self.messages = Some(Messages::new(self.alloc, options.keeps_messages_payload()));
         }
         if let Some(messages) = &mut self.messages {
             if let Some(association) = &noted.left {
