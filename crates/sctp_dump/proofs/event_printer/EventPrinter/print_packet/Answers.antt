@@ -28,12 +28,12 @@ returns-then-not-is_printed-clause-warnings g c =
 
 pub returns-then-is_file-clause-warnings : goal.returns-then-is_file-clause-warnings
 returns-then-is_file-clause-warnings g c =
-    if_ok c.push.result _ (carried _ _ (packet_of c.args.found.now) _ _ _ _ _ _
+    carried _ _ (packet_of c.args.found.now) _ _ _ _ _ _
     (c.authenticate-authentication.ensures.options ∙ c.print_left.ensures.options
     ∙ c.packet_of.ensures.options)
     (c.authenticate-authentication.ensures.warnings ∙ c.print_left.ensures.warnings
     ∙ c.packet_of.ensures.warnings)
-    refl c.judge-broken.ensures.warnings)
+    refl c.judge-broken.ensures.warnings
 
 pub returns-clause-warnings : goal.returns-clause-warnings
 returns-clause-warnings g c =
