@@ -15,7 +15,7 @@ const MEANINGS = {
   late: 'Fills a gap: a TSN of its DATA is seen for the first time, after a greater one. It was lost before, or overtaken.',
   jump: 'Gap before: TSNs just before its DATA weren’t seen yet. They were lost, overtaken, or not captured.',
   gaps: 'Gaps: its SACK has Gap Ack Blocks. DATA was received whose TSNs come after others that are missing.',
-  warned: 'Warning: it is accepted, and breaks a rule of the RFCs, which is above its fields.',
+  warned: 'Warning: it isn’t refused, but breaks a rule of the RFCs, which is above its fields.',
   skipped: 'Skipped: a record or a line that holds no packet.',
 };
 
