@@ -21,10 +21,10 @@ give, for Linux on x86-64, and of the library on arm64 too, the very instruction
 have to assemble and link to the very bytes that `rattle build` compiled. The texts have more than these: tables for unwinding, the marks
 for a processor's protection of calls, and on arm64 they keep x18. For the other systems the same module is compiled for another
 target, and only tests say that this is right. No name is visible in a text but those that the header declares, or a program's
-rattle_main; nothing of this machine or of this run stands in it.
+rattle_main; nothing of this machine or of this run is in it.
 
 MANIFEST has the toolchain's verdict on each crate in the texts, uncut, and the names of the C functions whose contracts
-it takes as they stand. Of the crates that are compiled it is what their build says. Of a library below it is what a log
+it takes as they are. Of the crates that are compiled it is what their build says. Of a library below it is what a log
 has; else what MANIFEST had, if the library's sources and those below it are what they were; else what `rt check` says.
 --compare takes it from MANIFEST, so it proves no library that is built, and passes over words that end in `=trusted`:
 they say what was taken from earlier runs.

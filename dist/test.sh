@@ -14,9 +14,9 @@ FOLDER has dist/ and bindings/, as an unpacked release; without it, this checkou
 
 Needed is a C compiler. Used where they are there: Python; gcc, clang, a C++ compiler, CMake, pkg-config, cargo (from
 1.85 on), pip, go, node (from 18 on), tsc; musl-gcc and qemu-x86_64; for arm64 aarch64-linux-gnu-gcc and qemu-aarch64; for Windows
-x86_64-w64-mingw32-gcc and Wine; for riscv64 clang from 22 on and riscv64-linux-gnu-gcc; pion/sctp for Go. What follows pip, Debian has as musl-tools, qemu-user, gcc-aarch64-linux-gnu with
-libc6-dev-arm64-cross, gcc-mingw-w64-x86-64, wine64 and golang-github-pion-sctp-dev. For the archive of a
-release git, and for Debian'\''s packages debhelper, lintian and mandoc, by these names.'
+x86_64-w64-mingw32-gcc and Wine; for riscv64 clang from 22 on and riscv64-linux-gnu-gcc; pion/sctp for Go. Debian has musl-tools,
+qemu-user, gcc-aarch64-linux-gnu with libc6-dev-arm64-cross, gcc-mingw-w64-x86-64, wine64 and golang-github-pion-sctp-dev. For the
+archive of a release git, and for Debian'\''s packages debhelper, lintian and mandoc, by these names.'
 
 library=
 [ "${1:-}" != --library ] || { library=yes && shift; }

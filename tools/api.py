@@ -79,8 +79,8 @@ VERBS = set('''
 HEAD = '''# The public items
 
 Made from the sources by `tools/api.py --write`; the gate compares it. In bold is the path to write in a `use`, for `packet`, `api`,
-`types` and `laws` after `dcsctp_wire::`, which each program needs. In braces are a struct's public fields; behind a type come its
-constants and its methods: `add_to` behind `Tsn` is `Tsn::add_to`. What a name says comes without a sentence, and what a law proves is in
+`types` and `laws` after `dcsctp_wire::`, which each program needs. In braces are a struct's public fields; after a type come its
+constants and its methods: `add_to` after `Tsn` is `Tsn::add_to`. What a name says comes without a sentence, and what a law proves is in
 [PROVED.md](PROVED.md); the comment in the source says all. Not listed are `Debug`, a trait that another implies (`Clone` beside `Copy`),
 and what the libraries call of each other alone. What the caller has to prove (`requires`) comes after the signature, after *needs*:
 

@@ -9,7 +9,7 @@ Proves and builds the C library, and puts it into the folder PREFIX:
 
   include/dcsctp.h
   include/dcsctp_processor.h   the CRC32c of the processor, an option that is not proved
-  include/dcsctp_msan.h        what dcsctp.h tells MemorySanitizer
+  include/dcsctp_msan.h        what dcsctp.h says to MemorySanitizer
   lib/libdcsctp.a              for static linking; it needs libc and nothing else
   lib/libdcsctp.so             for dynamic linking; it needs libc and nothing else. A link to libdcsctp.so.MAJOR.MINOR,
                                since until 1.0.0 a minor version may change the interface

@@ -34,11 +34,10 @@ HEADER = '1388138801020304' + '00000000'
 
 PAGE_HEAD = '''# Packets of real peers
 
-Each line of digits is a packet, above it stands what it is, and below it what a program prints of it: `echo DIGITS | ./sctp_show` or
-`echo DIGITS | ./sctp_dump` ([how to build them](INSTALL.md)). Where the line `canonical=` of `sctp_show` is missing here, the canonical
-form is the packet itself with a checksum field of 0. `tools/captures.py --write` makes this page of `tools/captures.txt` and of what the
-programs print; tests hold it too (`tests/show/captures.txt`, `crates/test_values/src/tests/association.rt`, the stored run of
-`crates/sctp_dump`).
+Each line of digits is a packet. Above it is what it is, and below it what a program prints of it: `echo DIGITS | ./sctp_show` or `echo
+DIGITS | ./sctp_dump` ([how to build them](INSTALL.md)). Where the line `canonical=` of `sctp_show` is missing, the canonical form is the
+packet with a checksum field of 0. `tools/captures.py --write` makes this page of `tools/captures.txt` and of what the programs print. Tests
+have it too: `tests/show/captures.txt`, `crates/test_values/src/tests/association.rt`, and the stored run of `crates/sctp_dump`.
 '''
 
 # What is said below each heading; what is below others is in the tables alone.

@@ -2,13 +2,14 @@
 # SPDX-License-Identifier: Apache-2.0
 """usage: tools/commands.py [FOLDER] | --help
 
-Runs the commands of the pages as who reads them does, compiles the C of docs/C.md that is part of no program, and tries the
-Rust and the Python of README.md.
+Runs the commands of the pages as a reader does, compiles the C of docs/C.md that is part of no program, and tries the Rust and
+the Python of README.md.
 
 They run one after the other, in a copy of FOLDER, an unpacked release, or else of what dist/release.sh packs of this checkout, or of
-this folder itself, if it is no checkout. The Python package is installed, and no toolchain is on PATH. What they install goes below; `FILE` and the like are captures. Below a line that
-begins with `$ ` is what it prints, which is compared. A command of sctp_dump may end with 0, 1 or 3, any other with 0. What can't
-run here is left out, and named. The last line is: pages: N passed, M failed, K left out.
+this folder itself, if it is no checkout. The Python package is installed, and no toolchain is on PATH. What they install goes below
+that copy; `FILE` and the like are captures. Below a line that begins with `$ ` is what it prints, which is compared. A command of
+sctp_dump may end with 0, 1 or 3, any other with 0. What can't run here is left out, and named. The last line is: pages: N passed,
+M failed, K left out.
 """
 import importlib.util
 import os

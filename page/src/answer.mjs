@@ -16,7 +16,7 @@ const MESSAGES = [
   [/: ends in the file header$/, 'The file ends in its header, before the first packet.'],
   [/: doesn't begin as a file of its format$/, 'The file doesn’t begin as its form has to.'],
   [/: a block's length is wrong/, 'The length of a block is wrong: nothing after it can be read.'],
-  [/: link type (\d+) isn't read/, 'Its frames are of link type $1, which isn’t read. Record by `tcpdump -i any`, whose frames are.'],
+  [/: link type (\d+) isn't read/, 'Its frames are of link type $1, which isn’t read. Record by `tcpdump -i any`: its frames are read.'],
   [/: (a read failed|can't be opened)$/, 'The browser couldn’t read the file. If it was changed or moved, choose it once more.'],
   [/: out of memory$/, 'There isn’t enough memory for the rest: `sctp_dump` on a command line needs less.'],
   [/: is compressed by gzip/, 'It is compressed by gzip twice: unpack it once, and open what comes out.'],
@@ -90,7 +90,7 @@ function reasonOf(store) {
   }
   if (passedOver) {
     return { title: `None of ${counted(passedOver, 'packet')} is SCTP`, isRecorded: true,
-      texts: [...sentences, 'If SCTP is inside of UDP, and its port isn’t 9899, say the port in the options where a file is opened, and open it again.'] };
+      texts: [...sentences, 'If SCTP is inside of UDP, and its port isn’t 9899, set the port in the options where a file is opened, and open it again.'] };
   }
   if (has('empty'))
     return { title: 'This file is empty', texts: ['It has no byte. Choose another one, or record one:'], isRecorded: true };

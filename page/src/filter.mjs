@@ -23,7 +23,7 @@ const SYNTAX = [
   ['time:1.5-2', 'seconds since the first packet'],
   ['silence:>0.5', 'seconds since the packet before it in its association'],
   ['association:1', 'packets of an association'],
-  ['refused', 'also accepted, cut, and skipped, which alone shows what holds no packet'],
+  ['refused', 'also accepted, cut, and skipped; only skipped shows what holds no packet'],
   ['wrong', 'the checksum is wrong; also zero'],
   ['repeated', 'a TSN that was sent before; late: one that fills a gap; jump: TSNs are missing before it'],
   ['gaps', 'a SACK with gap blocks'],

@@ -40,7 +40,7 @@ const COLUMN_MEANINGS = {
 const CHANNEL_MEANINGS = {
   'Association': 'The association’s number.',
   'Stream': 'The number of the stream that each end sends on.',
-  'Label': 'Label and protocol that DATA_CHANNEL_OPEN has. Without it, what is agreed on otherwise isn’t known.',
+  'Label': 'Label and protocol that DATA_CHANNEL_OPEN has. What is agreed on without it isn’t known.',
   'Payload': 'Payload protocols of its messages, without those of DCEP. Of a stream without DATA_CHANNEL_OPEN each has a row.',
   'Reliability': 'Whether messages are kept in order, and how often or how long they are sent again.',
   'Ends': 'Addresses and port of each end.',

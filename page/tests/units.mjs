@@ -937,7 +937,7 @@ each('sentences', saidOf, [
   ['sctp_dump: a.pcap: ends inside a record\n', ['The file ends inside a packet: what comes before it was read.']],
   ['sctp_dump: a.pcap: ends inside a record\n', 2, ['a.pcap: The file ends inside a packet: what comes before it was read.']],
   ["sctp_dump: -: link type 147 isn't read (--help names those that are)\n",
-    ['Its frames are of link type 147, which isn’t read. Record by `tcpdump -i any`, whose frames are.']],
+    ['Its frames are of link type 147, which isn’t read. Record by `tcpdump -i any`: its frames are read.']],
   ['RuntimeError: unreachable', ['The reader stopped by a fault of its own. Please report it, with the file if you may.']],
   ['another `b`\u202e', ["another 'b'\\u202e"]],
 ]);

@@ -11,7 +11,7 @@ Compares what sctp_dump says of a capture's user messages, as lines and as JSON,
 
 Without a CAPTURE it makes some, and compares these and some stored ones, of crates/sctp_dump/data and tests/dump/data. The model keeps
 all fragments, where the program forgets those that it needs no longer and finds no room for some. tshark has no field for a
-payload: these are taken from the capture, a pcap file of this byte order, behind the common header that tshark found. One with
+payload: these are taken from the capture, a pcap file of this byte order, after the common header that tshark found. One with
 packets that were cut off can't be compared. Status: 0 if all agree, 1 if not. Needed is tshark.
 """
 import argparse

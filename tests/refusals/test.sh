@@ -5,9 +5,10 @@ set -u
 
 usage='usage: tests/refusals/test.sh
 
-Runs test_rows over rows.txt and faults.txt, and sctp_show over the inputs of show.txt, once for each of their requests for memory: in the first run the first request is refused, and so on. An answer stays as it is, or
-says that memory ran out; that of a fault stays. Then, without a refusal, what sctp_show asks for as it reads the packets of
-sizes.txt is compared with the sizes there and in SECURITY.md.
+Runs test_rows over rows.txt and faults.txt, and sctp_show over the inputs of show.txt, once for each of their requests for memory:
+in the first run the first request is refused, and so on. An answer stays as it is, or says that memory ran out; that of a fault
+stays. Then, without a refusal, what sctp_show asks for as it reads the packets of sizes.txt is compared with the sizes there and
+in SECURITY.md.
 
 The programs are those that `rt ci` proved and built; one that is missing, or older than a source file, is proved and
 built first. Needed are a C compiler and Python; the variable CC names another than cc.'
