@@ -24,7 +24,7 @@ const FLAGS = {
 /** So many characters of a packet's texts, and of a label, can be found. */
 const MOST_TEXT = 100;
 
-/** The columns of the rows, and their types: 63 bytes a row. `association` is 0 where a row is of none, or else `end` says which
+/** The columns of the rows, and their types: 67 bytes a row. `association` is 0 where a row is of none, or else `end` says which
     of its ends sent the packet. `batch`, `offset` and `size` say where its line is. */
 const COLUMNS = {
   kind: Uint8Array, digits: Uint8Array, flags: Uint16Array, file: Uint16Array, number: Float64Array, seconds: Float64Array,

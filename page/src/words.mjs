@@ -131,7 +131,7 @@ const diagramSigns = () => [
   ['zigzag', [shape('path', { class: 'life', d: 'M30,0V5l6,3l-12,6l6,3V22' })], 'a silence, which isn’t drawn to scale'],
   ['dotted lifeline', [line('life', 30, 0, 30, 22), line('stretched', 30, 0, 30, 22)], 'packets come faster than arrows fit: time is stretched'],
   ['curve', [line('life', 34, 0, 34, 22), shape('path', { class: 'tie', d: 'M34,2c-20,0 -20,18 0,18' })], 'from DATA that is sent again to its first sending'],
-  ['band', [shape('g', { class: 'arrow acked' }, shape('rect', { class: 'hit', width: 60, height: 22 }))], 'what the chosen SACK acknowledges, and the one before it didn’t'],
+  ['band', [shape('g', { class: 'arrow acked' }, shape('rect', { class: 'hit', width: 60, height: 22 }))], 'what the chosen SACK acknowledges in its gap blocks, or beyond the Cumulative TSN Ack of the one before it'],
 ];
 
 /** The colours of chunks, the marks of rows, and the signs of the diagram, as entries of a list. */
