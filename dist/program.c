@@ -3,7 +3,7 @@
 
    The start of the programs in dist/: what their texts take from the system, for POSIX and Windows. Their own work is all in
    the text, whose rattle_main returns the status. It says on standard error if the processor isn't of x86-64-v2, and returns
-   127. It takes Linux's numbers, and of errors tells apart EINTR and EPIPE alone, which have the same ones on all systems.
+   127. It takes Linux's numbers, and of errors distinguishes EINTR and EPIPE alone, which have the same ones on all systems.
    While sctp_dump reads a pipe or a socket, the first SIGINT ends its input, so that it prints what it has counted; a second
    one ends the program. On Windows Ctrl-C ends the program. */
 #ifdef _WIN32
@@ -25,8 +25,8 @@
 #include <stdint.h>
 #include <string.h>
 
-/* Linux's O_RDONLY | O_NOCTTY | O_CLOEXEC: a program opens files for this alone. */
-enum { TO_READ = 0x80100 };
+/* Linux's O_RDONLY | O_NOCTTY | O_CLOEXEC, and O_RDWR | O_CREAT | O_EXCL with these: a program opens files for these alone. */
+enum { TO_READ = 0x80100, TO_CREATE = 0x801c2 };
 
 static int count;
 
@@ -68,13 +68,16 @@ static DWORD part_of(size_t size)
     return size < 32768 ? (DWORD)size : 32768;
 }
 
-/* Opens a file that others may write, or a folder, of which a read fails, as on Linux. A path has 4,096 bytes at most. */
+/* Opens a file that others may write, or a folder, of which a read fails, as on Linux; or creates a file that isn't there. A path
+   has 4,096 bytes at most. */
 int32_t rattle_open(const char *path, int32_t flags, ...)
 {
     static wchar_t wide[4096];
     HANDLE file = INVALID_HANDLE_VALUE;
-    if (flags == TO_READ && MultiByteToWideChar(CP_UTF8, 0, path, -1, wide, 4096) > 0)
-        file = CreateFileW(wide, GENERIC_READ, FILE_SHARE_READ | FILE_SHARE_WRITE | FILE_SHARE_DELETE, NULL, OPEN_EXISTING,
+    DWORD access = flags == TO_CREATE ? GENERIC_READ | GENERIC_WRITE : GENERIC_READ;
+    DWORD how = flags == TO_CREATE ? CREATE_NEW : OPEN_EXISTING;
+    if ((flags == TO_READ || flags == TO_CREATE) && MultiByteToWideChar(CP_UTF8, 0, path, -1, wide, 4096) > 0)
+        file = CreateFileW(wide, access, FILE_SHARE_READ | FILE_SHARE_WRITE | FILE_SHARE_DELETE, NULL, how,
                            FILE_FLAG_BACKUP_SEMANTICS, NULL);
     return file == INVALID_HANDLE_VALUE ? fail() : (int32_t)(intptr_t)file;
 }
@@ -103,6 +106,12 @@ int64_t rattle_lseek(int32_t file, int64_t offset, int32_t from)
     LARGE_INTEGER by = {.QuadPart = offset}, at;
     HANDLE handle = handle_of(file);
     return GetFileType(handle) == FILE_TYPE_DISK && SetFilePointerEx(handle, by, &at, (DWORD)from) ? at.QuadPart : fail();
+}
+
+int32_t rattle_isatty(int32_t file)
+{
+    DWORD mode;
+    return GetConsoleMode(handle_of(file), &mode) != 0;
 }
 
 #else
@@ -144,14 +153,15 @@ static void end_input(int number)
 }
 
 /* A word of the command line. Where one is asked for, which only sctp_dump does, the first SIGINT is to end standard input, if
-   that is a pipe or a socket, no word is a file, and the signal isn't ignored. A call that it interrupts begins anew. */
+   that is a pipe or a socket, no word is a file other than a folder, and the signal isn't ignored. A call that it interrupts
+   begins anew. */
 static const char *word_of(size_t index)
 {
     static int is_settled;
     struct sigaction action = {.sa_handler = end_input, .sa_flags = SA_RESTART | (int)SA_RESETHAND}, old;
     struct stat input;
     for (int i = 1; !is_settled && i < count; i++)
-        is_settled = access(words[i], F_OK) == 0;
+        is_settled = stat(words[i], &input) == 0 && !S_ISDIR(input.st_mode);
     if (!is_settled && fstat(0, &input) == 0 && (S_ISFIFO(input.st_mode) || S_ISSOCK(input.st_mode))
         && sigaction(SIGINT, NULL, &old) == 0 && old.sa_handler == SIG_DFL)
         sigaction(SIGINT, &action, NULL);
@@ -161,8 +171,11 @@ static const char *word_of(size_t index)
 
 int32_t rattle_open(const char *path, int32_t flags, ...)
 {
+    int more = O_NOCTTY | O_CLOEXEC;
+    if (flags == TO_CREATE)
+        return open(path, O_RDWR | O_CREAT | O_EXCL | more, 0666);
     errno = EINVAL;
-    return flags == TO_READ ? open(path, O_RDONLY | O_NOCTTY | O_CLOEXEC) : -1;
+    return flags == TO_READ ? open(path, O_RDONLY | more) : -1;
 }
 
 int32_t rattle_close(int32_t file)
@@ -189,6 +202,11 @@ int64_t rattle_write(int32_t file, const void *bytes, size_t size)
 int64_t rattle_lseek(int32_t file, int64_t offset, int32_t from)
 {
     return lseek(file, offset, from);
+}
+
+int32_t rattle_isatty(int32_t file)
+{
+    return isatty(file);
 }
 
 #endif

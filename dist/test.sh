@@ -397,7 +397,8 @@ def start(*words):
     pipe = {"stdin": subprocess.PIPE, "stdout": subprocess.PIPE, "stderr": subprocess.PIPE}
     return subprocess.Popen(words, preexec_fn=lambda: signal.signal(signal.SIGINT, signal.SIG_DFL), **pipe)
 
-ran = start("./sctp_dump", "--brief")
+os.mkdir("messages")
+ran = start("./sctp_dump", "--brief", "--messages", "--write-messages", "messages")
 ran.stdin.write(PACKET)
 ran.stdin.flush()
 assert ran.stdout.readline().endswith(b" COOKIE_ACK\n"), "not a packet"

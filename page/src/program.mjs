@@ -64,6 +64,7 @@ function run(module, { words, open, print, report }) {
     },
     rattle_write: write,
     rattle_lseek: () => failed(IS_PIPE, -1n),
+    rattle_isatty: () => 0,
     rattle_signal: () => 0n,
     // The program asks whether an x86-64 has what it was compiled for: it wasn't here, so all is there.
     rattle_cpuid: () => features,

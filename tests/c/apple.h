@@ -12,13 +12,15 @@ typedef long long off_t;
 #define errno (*__error())
 int *__error(void);
 
-#define F_OK 0
 #define O_RDONLY 0
+#define O_RDWR 2
+#define O_CREAT 0x200
+#define O_EXCL 0x800
 #define O_NOCTTY 0x20000
 #define O_CLOEXEC 0x1000000
-int access(const char *, int);
 int close(int);
 int dup2(int, int);
+int isatty(int);
 off_t lseek(int, off_t, int);
 int open(const char *, int, ...);
 int pipe(int[2]);
@@ -52,6 +54,7 @@ struct sigaction {
 int sigaction(int, const struct sigaction *restrict, struct sigaction *restrict);
 void (*signal(int, void (*)(int)))(int);
 
+#define S_ISDIR(mode) (((mode) & 0170000) == 0040000)
 #define S_ISFIFO(mode) (((mode) & 0170000) == 0010000)
 #define S_ISSOCK(mode) (((mode) & 0170000) == 0140000)
 struct timespec {
@@ -72,6 +75,7 @@ struct stat {
     long long st_qspare[2];
 };
 int fstat(int, struct stat *);
+int stat(const char *, struct stat *);
 
 void *memcpy(void *, const void *, size_t);
 void *memset(void *, int, size_t);

@@ -9,7 +9,8 @@ Runs the program over the rows of runs.txt, and compares all that it prints, and
 manual page, docs/sctp_dump.1, at which mandoc, if it is there, finds nothing wrong. Then tools/rules.py has it ask the rules of
 the packets of rules.txt in examples/, it has the chunks of refused.txt and the captures in data/, reports.py compares what it
 prints of the packets of reports.txt, faults.py looks at lengths that are refused, objects.py at its JSON, forms.py at its three
-forms, logs.py at associations of logs, auth.py at AUTH, times.py at times, pcapng.py at the files that it writes; where tshark
+forms, logs.py at associations of logs, auth.py at AUTH, times.py at times, pcapng.py at the pcapng files that it writes, files.py at
+the files of messages; where tshark
 is, associations.py at associations of captures, messages.py at their messages, channels.py at their channels, fragments.py at IP
 fragments, and tshark.py at packets; where scapy is, scapy.py at the same; where both are, tunnels.py at tunnels; fields.py compares
 the JSON and the Python package, of each field of a real stack'\''s packets, with tshark and scapy, where they are. Last come a table
@@ -201,6 +202,7 @@ look "$root/tests/dump/forms.py" "$program"
 look "$root/tests/dump/logs.py" "$program"
 look "$root/tests/dump/auth.py" "$program"
 look "$root/tests/dump/pcapng.py" "$program"
+look "$root/tests/dump/files.py" "$program"
 look_with 'tshark capinfos' "$root/tests/dump/pcapng.py" "$program" --tshark
 look_with tshark "$root/tests/dump/associations.py" "$program"
 look_with tshark "$root/tests/dump/messages.py" "$program"

@@ -51,7 +51,7 @@ What is printed:
   --keep NUMBER    of --associations, --messages, --channels, --check, --auth-key
                    and --label: the most associations kept at a time; 10000 if not
                    given
-  --check          the rules of the RFCs that accepted packets break
+  --check          the rules of the RFCs that packets break which weren't refused
   --summary        counts alone
 
 Which packets are printed (all are counted): those for which each option holds.
@@ -88,9 +88,9 @@ Frames of these link types are read: 0 and 108 (loopback), 1 (Ethernet), 9 and 5
 
 An option that would have no effect is refused.
 
-Status: 0 if all packets were accepted, 1 if some were refused, 2 if an input
-couldn't be read, ends inside a record or has no packet in what it holds, the
-output or a file couldn't be written, or memory ran out, 3 if none was refused, but --check
+Status: 0 if no packet was refused, 1 if some were, 2 if an input couldn't be
+read, ends inside a record or has no packet in what it holds, the output or a
+file couldn't be written, or memory ran out, 3 if none was refused, but --check
 found a broken rule.
 ";
 

@@ -18,8 +18,8 @@ use dump_io::window::Window;
 use std::io::Write;
 use std::{env, fs, io};
 
-/// The statuses: all packets were accepted; some were refused; the program couldn't do its work;
-/// none was refused, but some break rules.
+/// The statuses: no packet was refused; some were; the program couldn't do its work; none was
+/// refused, but some break rules.
 const ACCEPTED: u8 = 0;
 
 const REFUSED: u8 = 1;
@@ -28,10 +28,10 @@ const FAILED: u8 = 2;
 
 const WARNED: u8 = 3;
 
-/// Runs the program with the host's arguments, and returns the status: 0 if all packets were
-/// accepted, 1 if some were refused, 2 if an input couldn't be read, ends inside a record or has no
-/// packet in what it holds, the output or a file couldn't be written, or memory ran out, 3 if none
-/// was refused, but some break rules that were looked at.
+/// Runs the program with the host's arguments, and returns the status: 0 if no packet was refused,
+/// 1 if some were, 2 if an input couldn't be read, ends inside a record or has no packet in what it
+/// holds, the output or a file couldn't be written, or memory ran out, 3 if none was refused, but
+/// some break rules that were looked at.
 ///
 /// Reports each failure on standard error, but not that whoever read the output reads no more of
 /// it. No clause says what a host is asked for, since none of std does.

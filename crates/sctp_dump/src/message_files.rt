@@ -71,7 +71,7 @@ impl<'h> MessageFiles<'h> {
         }
     }
 
-    /// Reports how many messages have no file, if some haven't.
+    /// Writes to standard error how many messages have no file, if some haven't.
     pub fn finish(&self) {
         let unknown = self.unknown;
         if unknown > 0 {
