@@ -4,55 +4,11 @@
 
 mod common;
 
-use common::{chunks, examples, sealed};
+use common::{Chance, chunks, examples, sealed};
 use davgyuti::{
     Cause, Chunk, ChunkType, Chunks, Content, Header, Packet, PacketBuilder, Parameter,
     ParameterType, Policy, ReConfig, TAG_REFLECTED, WriteError,
 };
-
-/// Numbers that look random: xorshift64*.
-struct Chance(u64);
-
-impl Chance {
-    fn below(&mut self, end: usize) -> usize {
-        self.0 ^= self.0 >> 12;
-        self.0 ^= self.0 << 25;
-        self.0 ^= self.0 >> 27;
-        usize::try_from(self.0.wrapping_mul(0x2545_f491_4f6c_dd1d) >> 33).unwrap() % end
-    }
-
-    fn byte(&mut self) -> u8 {
-        u8::try_from(self.below(256)).unwrap()
-    }
-
-    /// Changes some bytes, or how many there are.
-    fn change(&mut self, packet: &mut Vec<u8>, chunks: &[Vec<u8>]) {
-        for _ in 0..self.below(4) {
-            if packet.len() <= 16 {
-                packet.resize(16, 0);
-            }
-            let at = 12 + self.below(packet.len() - 12);
-            match self.below(6) {
-                0 => packet.extend(&chunks[self.below(chunks.len())]),
-                1 => packet[at] = self.byte(),
-                2 => packet[at] ^= 1 << self.below(8),
-                3 => packet.truncate(at),
-                4 => {
-                    let types = [0, 1, 2, 3, 4, 5, 6, 7, 9, 10, 14, 64, 130, 192, 194];
-                    let at = at & !3;
-                    packet[at] = types[self.below(types.len())];
-                    if let Some(length) = packet.get_mut(at + 2..at + 4) {
-                        length.copy_from_slice(&[0, self.byte() & 63]);
-                    }
-                }
-                _ => {
-                    let more = (0..self.below(9)).map(|_| self.byte()).collect::<Vec<_>>();
-                    packet.splice(at..at, more);
-                }
-            }
-        }
-    }
-}
 
 /// How much there is in a chunk, read to the last part.
 fn read_chunk(chunk: &Chunk) -> usize {
@@ -262,11 +218,7 @@ fn changed_packets() {
     let mut chance = Chance(1);
     let (mut packets, mut others) = (0, 0);
     for _ in 0..6000 {
-        let mut packet = match chance.below(2) {
-            0 => examples[chance.below(examples.len())].clone(),
-            _ => [&[0; 12], &chunks[chance.below(chunks.len())][..]].concat(),
-        };
-        chance.change(&mut packet, &chunks);
+        let mut packet = chance.packet(&examples, &chunks);
         // (a Vec has no byte after its last one that a sanitizer would allow)
         packet.shrink_to_fit();
         let packet = if packet.len() >= 12 { sealed(packet) } else { packet };
