@@ -25,20 +25,43 @@ pub const FIRST_CHUNK: usize = 12;
 /// its own packets, sent back to it (section 8.5.1).
 pub const TAG_REFLECTED: u8 = 1;
 
-/// The size of a chunk's header (RFC 9260 section 3.2).
-const CHUNK_HEADER: usize = 4;
+/// The size of the header of a chunk (RFC 9260 section 3.2), a parameter (section 3.2.1) or an
+/// error cause (section 3.3.10).
+pub(crate) const HEADER: usize = 4;
 
-/// Calls a function that reads what a chunk, a parameter or an error cause holds; at an offset, if
-/// one is named.
+/// Calls a function that reads what a chunk, a parameter or an error cause holds.
 macro_rules! read {
-    ($it:expr, $function:ident $(, $index:expr)?) => {{
-        let (bytes, raw) = ($it.bytes(), $it.raw());
+    ($it:expr, $function:ident) => {{
+        let (bytes, raw) = ($it.bytes, $it.raw());
         let (start, length) = (bytes.as_ptr(), bytes.len());
-        // SAFETY: `bytes` is a slice, and `raw` and `found` are references.
-        ffi::read(|found| unsafe { ffi::$function(start, length, raw $(, $index)?, found) })
+        // SAFETY: `bytes` is a slice, `raw` a value here, and `found` a reference.
+        ffi::read(|found| unsafe { ffi::$function(start, length, &raw const raw, found) })
     }};
 }
 pub(crate) use read;
+
+/// Returns none from the function that this is in, if the C function returns false: this isn't asked
+/// of what a packet holds, which was checked whole.
+macro_rules! ask_unless_checked {
+    ($it:expr, $function:ident) => {
+        if !$it.is_checked {
+            read!($it, $function)?;
+        }
+    };
+}
+pub(crate) use ask_unless_checked;
+
+/// Returns what the header at an offset of a packet begins with, the value after it, and where the
+/// next one begins: of a chunk, a parameter or an error cause.
+#[inline]
+pub(crate) fn split(bytes: &[u8], offset: usize) -> Option<([u8; 2], &[u8], usize)> {
+    let rest = bytes.get(offset..)?;
+    let &[first, second, high, low] = rest.first_chunk()?;
+    let length = usize::from(u16::from_be_bytes([high, low]));
+    let next = offset + length.next_multiple_of(4);
+    // (the last one may lack its padding)
+    Some(([first, second], rest.get(HEADER..length)?, next.min(bytes.len())))
+}
 
 /// Has `==` and `Hash` look at what `as_bytes` returns, and at nothing else.
 macro_rules! same_bytes {
@@ -76,7 +99,13 @@ pub(crate) use same_bytes;
 #[derive(Clone, Copy)]
 pub struct Chunk<'a> {
     bytes: &'a [u8],
-    raw: ffi::Chunk,
+    r#type: ChunkType,
+    flags: u8,
+    offset: usize,
+    value: &'a [u8],
+    next: usize,
+    // Whether it is one of a packet, where each is as its type allows.
+    is_checked: bool,
 }
 
 // The header and the value: the length between them is that of the value.
@@ -203,9 +232,9 @@ impl<'a> Chunk<'a> {
         let (start, length) = (bytes.as_ptr(), bytes.len());
         // SAFETY: `bytes` is a slice, and `chunk` a reference.
         let raw = ffi::read(|chunk| unsafe { ffi::dcsctp_chunk_at(start, length, offset, chunk) })?;
-        // (field by field: a copy of the whole waits until each field is written)
         let ffi::Chunk { r#type, flags, value_offset, value_size, next } = raw;
-        Some(Self { bytes, raw: ffi::Chunk { r#type, flags, value_offset, value_size, next } })
+        let (r#type, value) = (ChunkType(r#type), part(bytes, value_offset, value_size));
+        Some(Self { bytes, r#type, flags, offset, value, next, is_checked: false })
     }
 
     /// Checks bytes that have to be one chunk, without a packet around it, and with or without its
@@ -249,7 +278,7 @@ impl<'a> Chunk<'a> {
     #[must_use]
     #[inline]
     pub const fn chunk_type(&self) -> ChunkType {
-        ChunkType(self.raw.r#type)
+        self.r#type
     }
 
     /// Returns the flags (RFC 9260 section 3.2), whose meaning depends on the type.
@@ -262,7 +291,7 @@ impl<'a> Chunk<'a> {
     #[must_use]
     #[inline]
     pub const fn flags(&self) -> u8 {
-        self.raw.flags
+        self.flags
     }
 
     /// Returns the value (RFC 9260 section 3.2): what follows the header of four bytes, without
@@ -276,7 +305,7 @@ impl<'a> Chunk<'a> {
     #[must_use]
     #[inline]
     pub fn value(&self) -> &'a [u8] {
-        part(self.bytes, self.raw.value_offset, self.raw.value_size)
+        self.value
     }
 
     /// Returns the header and the value, without padding (RFC 9260 section 3.2): what the cause
@@ -290,7 +319,7 @@ impl<'a> Chunk<'a> {
     #[must_use]
     #[inline]
     pub fn as_bytes(&self) -> &'a [u8] {
-        part(self.bytes, self.offset(), CHUNK_HEADER + self.raw.value_size)
+        part(self.bytes, self.offset, HEADER + self.value.len())
     }
 
     /// Returns a copy that has bytes of its own, to keep it.
@@ -317,7 +346,7 @@ impl<'a> Chunk<'a> {
     #[must_use]
     #[inline]
     pub const fn offset(&self) -> usize {
-        self.raw.value_offset - CHUNK_HEADER
+        self.offset
     }
 
     /// Returns where the next chunk begins, after the padding; the end of the bytes if this one is
@@ -331,7 +360,7 @@ impl<'a> Chunk<'a> {
     #[must_use]
     #[inline]
     pub const fn next_offset(&self) -> usize {
-        self.raw.next
+        self.next
     }
 
     /// Returns what the chunk holds, by its type.
@@ -345,7 +374,7 @@ impl<'a> Chunk<'a> {
     #[inline]
     pub fn content(&self) -> Content<'a> {
         let tag_reflected = self.flags() & TAG_REFLECTED != 0;
-        let has_no_value = self.raw.value_size == 0;
+        let has_no_value = self.value.is_empty();
         match self.chunk_type() {
             ChunkType::DATA => self.data().map_or(Content::Other, Content::Data),
             ChunkType::I_DATA => self.data().map_or(Content::Other, Content::IData),
@@ -394,19 +423,23 @@ impl<'a> Chunk<'a> {
     #[must_use]
     #[inline]
     pub fn data(&self) -> Option<Data<'a>> {
-        let data: ffi::Data = read!(self, dcsctp_data)?;
-        Some(Data {
-            tsn: data.tsn,
-            stream: data.stream,
-            ssn: data.ssn,
-            mid: data.mid,
-            fsn: data.fsn,
-            ppid: data.ppid,
-            is_unordered: data.is_unordered,
-            is_beginning: data.is_beginning,
-            is_end: data.is_end,
-            immediate_ack: data.immediate_ack,
-            payload: part(self.bytes, data.payload_offset, data.payload_size),
+        ask_unless_checked!(self, dcsctp_data);
+        let data = Data::default().with_flags(self.flags);
+        Some(match self.r#type {
+            ChunkType::DATA => {
+                let (it, payload) = self.value.split_first_chunk::<12>()?;
+                let (tsn, stream, ssn) = (u32_at(it, 0), u16_at(it, 4), u16_at(it, 6));
+                Data { tsn, stream, ssn, ppid: u32_at(it, 8), payload, ..data }
+            }
+            ChunkType::I_DATA => {
+                let (it, payload) = self.value.split_first_chunk::<16>()?;
+                let (tsn, stream, mid) = (u32_at(it, 0), u16_at(it, 4), u32_at(it, 8));
+                // (the first fragment has the PPID where the others have their FSN)
+                let last = u32_at(it, 12);
+                let (fsn, ppid) = if data.is_beginning { (0, last) } else { (last, 0) };
+                Data { tsn, stream, mid, fsn, ppid, payload, ..data }
+            }
+            _ => return None,
         })
     }
 
@@ -424,7 +457,18 @@ impl<'a> Chunk<'a> {
     #[must_use]
     #[inline]
     pub fn init(&self) -> Option<Init> {
-        read!(self, dcsctp_init)
+        ask_unless_checked!(self, dcsctp_init);
+        if !matches!(self.r#type, ChunkType::INIT | ChunkType::INIT_ACK) {
+            return None;
+        }
+        let it: &[u8; INIT_NUMBERS] = self.value.first_chunk()?;
+        Some(Init {
+            initiate_tag: u32_at(it, 0),
+            a_rwnd: u32_at(it, 4),
+            outbound_streams: u16_at(it, 8),
+            inbound_streams: u16_at(it, 10),
+            initial_tsn: u32_at(it, 12),
+        })
     }
 
     /// Returns what a SACK says (RFC 9260 section 3.3.4).
@@ -438,14 +482,15 @@ impl<'a> Chunk<'a> {
     #[must_use]
     #[inline]
     pub fn sack(&self) -> Option<Sack<'a>> {
-        let sack: ffi::Sack = read!(self, dcsctp_sack)?;
-        Some(Sack {
-            cumulative_tsn_ack: sack.cumulative_tsn_ack,
-            a_rwnd: sack.a_rwnd,
-            chunk: *self,
-            block_count: sack.block_count,
-            duplicate_count: sack.duplicate_count,
-        })
+        ask_unless_checked!(self, dcsctp_sack);
+        if self.r#type != ChunkType::SACK {
+            return None;
+        }
+        let (it, lists) = self.value.split_first_chunk::<12>()?;
+        let blocks_size = SACK_ITEM * usize::from(u16_at(it, 8));
+        let (blocks, duplicates) = lists.split_at_checked(blocks_size)?;
+        let (cumulative_tsn_ack, a_rwnd) = (u32_at(it, 0), u32_at(it, 4));
+        Some(Sack { cumulative_tsn_ack, a_rwnd, value: self.value, blocks, duplicates })
     }
 
     /// Returns the cumulative TSN ack of SHUTDOWN (RFC 9260 section 3.3.8).
@@ -459,7 +504,9 @@ impl<'a> Chunk<'a> {
     #[must_use]
     #[inline]
     pub fn shutdown(&self) -> Option<u32> {
-        read!(self, dcsctp_shutdown)
+        ask_unless_checked!(self, dcsctp_shutdown);
+        let it: &[u8; 4] = self.value.first_chunk()?;
+        (self.r#type == ChunkType::SHUTDOWN).then(|| u32_at(it, 0))
     }
 
     /// Returns what FORWARD-TSN (RFC 3758 section 3.2) or I-FORWARD-TSN (RFC 8260 section 2.3.1)
@@ -474,12 +521,14 @@ impl<'a> Chunk<'a> {
     #[must_use]
     #[inline]
     pub fn forward_tsn(&self) -> Option<ForwardTsn<'a>> {
-        let it: ffi::ForwardTsn = read!(self, dcsctp_forward_tsn)?;
-        Some(ForwardTsn {
-            new_cumulative_tsn: it.new_cumulative_tsn,
-            chunk: *self,
-            stream_count: it.stream_count,
-        })
+        ask_unless_checked!(self, dcsctp_forward_tsn);
+        let stream_size = match self.r#type {
+            ChunkType::FORWARD_TSN => 4,
+            ChunkType::I_FORWARD_TSN => 8,
+            _ => return None,
+        };
+        let (it, streams) = self.value.split_first_chunk::<4>()?;
+        Some(ForwardTsn { new_cumulative_tsn: u32_at(it, 0), streams, stream_size })
     }
 
     /// Returns the parameters (RFC 9260 section 3.2.1) of INIT, INIT ACK, HEARTBEAT, HEARTBEAT ACK
@@ -530,29 +579,25 @@ impl<'a> Chunk<'a> {
     #[must_use]
     pub fn registered(&self) -> Option<RegisteredChunk<'a>> {
         let raw: ffi::Registered = read!(self, dcsctp_registered_chunk)?;
-        RegisteredChunk::of(self.chunk_type(), self.bytes, &raw)
+        RegisteredChunk::of(self.r#type, self.bytes, &raw)
     }
 
-    /// Returns where the value ends.
+    /// The packet's bytes up to the end of the value, and whether these were checked.
     #[inline]
-    pub(crate) const fn value_end(&self) -> usize {
-        self.raw.value_offset + self.raw.value_size
-    }
-
-    /// The packet's bytes.
-    #[inline]
-    pub(crate) const fn bytes(&self) -> &'a [u8] {
-        self.bytes
+    pub(crate) fn bytes_to_end(&self) -> (&'a [u8], bool) {
+        (part(self.bytes, 0, self.offset + HEADER + self.value.len()), self.is_checked)
     }
 
     /// What the C API knows of it.
     #[inline]
-    pub(crate) const fn raw(&self) -> &ffi::Chunk {
-        &self.raw
+    const fn raw(&self) -> ffi::Chunk {
+        let (value_offset, value_size) = (self.offset + HEADER, self.value.len());
+        let ChunkType(r#type) = self.r#type;
+        ffi::Chunk { r#type, flags: self.flags, value_offset, value_size, next: self.next }
     }
 }
 
-/// The bytes at an offset. The C API returns only those within a packet.
+/// The bytes at an offset. Only those within a packet are asked for.
 #[inline]
 pub(crate) fn part(bytes: &[u8], offset: usize, size: usize) -> &[u8] {
     &bytes[offset..offset + size]
@@ -573,6 +618,7 @@ pub(crate) fn part(bytes: &[u8], offset: usize, size: usize) -> &[u8] {
 pub struct Chunks<'a> {
     bytes: &'a [u8],
     next: usize,
+    is_checked: bool,
 }
 
 list_of_items!(Chunks);
@@ -590,7 +636,13 @@ impl<'a> Chunks<'a> {
     #[must_use]
     #[inline]
     pub const fn of(bytes: &'a [u8]) -> Self {
-        Self { bytes, next: FIRST_CHUNK }
+        Self { bytes, next: FIRST_CHUNK, is_checked: false }
+    }
+
+    /// Those of a packet.
+    #[inline]
+    pub(crate) const fn of_packet(bytes: &'a [u8]) -> Self {
+        Self { bytes, next: FIRST_CHUNK, is_checked: true }
     }
 }
 
@@ -603,8 +655,14 @@ impl<'a> Iterator for Chunks<'a> {
         if self.next >= self.bytes.len() {
             return None;
         }
-        let chunk = Chunk::at(self.bytes, self.next)?;
-        self.next = chunk.raw.next;
+        let Self { bytes, next: offset, is_checked } = *self;
+        let chunk = if is_checked {
+            let ([number, flags], value, next) = split(bytes, offset)?;
+            Chunk { bytes, r#type: ChunkType(number), flags, offset, value, next, is_checked }
+        } else {
+            Chunk::at(bytes, offset)?
+        };
+        self.next = chunk.next;
         Some(chunk)
     }
 }
@@ -631,15 +689,15 @@ impl FusedIterator for Chunks<'_> {}
 /// assert!(sack.duplicate_tsns().eq([40]));
 /// # Ok::<(), Box<dyn std::error::Error>>(())
 /// ```
-#[derive(Clone, Copy)]
+#[derive(Clone, Copy, PartialEq, Eq)]
 pub struct Sack<'a> {
     /// All TSNs up to this one have come.
     pub cumulative_tsn_ack: u32,
     /// How many bytes its sender has room for: the advertised receiver window credit.
     pub a_rwnd: u32,
-    chunk: Chunk<'a>,
-    block_count: usize,
-    duplicate_count: usize,
+    value: &'a [u8],
+    blocks: &'a [u8],
+    duplicates: &'a [u8],
 }
 
 impl<'a> Sack<'a> {
@@ -655,9 +713,7 @@ impl<'a> Sack<'a> {
     #[must_use]
     #[inline]
     pub const fn gap_ack_blocks(&self) -> GapAckBlocks<'a> {
-        // (the duplicate TSNs follow)
-        let end = self.chunk.value_end() - SACK_ITEM * self.duplicate_count;
-        GapAckBlocks::before(self.chunk.bytes, end, SACK_ITEM, self.block_count)
+        GapAckBlocks { bytes: self.blocks, size: SACK_ITEM }
     }
 
     /// Returns the TSNs that came more than once (RFC 9260 section 3.3.4).
@@ -670,8 +726,7 @@ impl<'a> Sack<'a> {
     #[must_use]
     #[inline]
     pub const fn duplicate_tsns(&self) -> DuplicateTsns<'a> {
-        let Chunk { bytes, .. } = self.chunk;
-        DuplicateTsns::before(bytes, self.chunk.value_end(), SACK_ITEM, self.duplicate_count)
+        DuplicateTsns { bytes: self.duplicates, size: SACK_ITEM }
     }
 
     /// Returns whether the gap ack blocks are in order, apart, and begin at 2 or later, as RFC 9260
@@ -686,20 +741,13 @@ impl<'a> Sack<'a> {
     #[doc(alias = "dcsctp_validate_sack")]
     #[must_use]
     pub fn is_valid(&self) -> bool {
-        let Chunk { bytes, raw } = &self.chunk;
-        // SAFETY: `bytes` is a slice, and `raw` a reference.
-        unsafe { ffi::dcsctp_validate_sack(bytes.as_ptr(), bytes.len(), raw) }
+        let (start, length) = (self.value.as_ptr(), self.value.len());
+        let ChunkType(r#type) = ChunkType::SACK;
+        let raw = ffi::Chunk { r#type, value_size: length, ..ffi::Chunk::default() };
+        // SAFETY: the value is a slice, and `raw` a value here.
+        unsafe { ffi::dcsctp_validate_sack(start, length, &raw const raw) }
     }
 }
-
-impl PartialEq for Sack<'_> {
-    fn eq(&self, other: &Self) -> bool {
-        // There is nothing else in the value, and how many blocks there are is in it too.
-        self.chunk.value() == other.chunk.value()
-    }
-}
-
-impl Eq for Sack<'_> {}
 
 /// FORWARD-TSN (RFC 3758 section 3.2) or I-FORWARD-TSN (RFC 8260 section 2.3.1).
 ///
@@ -713,8 +761,8 @@ impl Eq for Sack<'_> {}
 pub struct ForwardTsn<'a> {
     /// The receiver has to take it that all TSNs up to this one have come.
     pub new_cumulative_tsn: u32,
-    chunk: Chunk<'a>,
-    stream_count: usize,
+    streams: &'a [u8],
+    stream_size: usize,
 }
 
 impl<'a> ForwardTsn<'a> {
@@ -731,9 +779,7 @@ impl<'a> ForwardTsn<'a> {
     #[must_use]
     #[inline]
     pub const fn skipped_streams(&self) -> SkippedStreams<'a> {
-        let Chunk { bytes, raw } = self.chunk;
-        let size = if raw.r#type == ChunkType::FORWARD_TSN.0 { 4 } else { 8 };
-        SkippedStreams::before(bytes, self.chunk.value_end(), size, self.stream_count)
+        SkippedStreams { bytes: self.streams, size: self.stream_size }
     }
 }
 
@@ -746,12 +792,14 @@ impl PartialEq for ForwardTsn<'_> {
 
 impl Eq for ForwardTsn<'_> {}
 
+/// How many bytes the numbers of INIT and INIT ACK have (RFC 9260 section 3.3.2).
+pub(crate) const INIT_NUMBERS: usize = 16;
+
 /// How many bytes each item of a SACK's two lists has (RFC 9260 section 3.3.4).
 const SACK_ITEM: usize = 4;
 
-/// Defines an iterator over a list whose items have one size, and end a value: where that ends and
-/// how many they are is what the C API says, and each is read of its bytes here, by the function
-/// that is named.
+/// Defines an iterator over a list whose items have one size: `bytes` are those that are left, and
+/// each item is read of its own by the function that is named.
 macro_rules! list_of_numbers {
     ($(#[$about:meta])* $name:ident, $item:ty, $read:expr) => {
         $(#[$about])*
@@ -759,27 +807,15 @@ macro_rules! list_of_numbers {
         pub struct $name<'a> {
             bytes: &'a [u8],
             size: usize,
-            indices: core::ops::Range<usize>,
         }
 
         list_of_items!($name);
 
-        impl<'a> $name<'a> {
-            /// Returns the last `count` items of this size before an offset.
+        impl $name<'_> {
             #[inline]
-            pub(crate) const fn before(
-                bytes: &'a [u8],
-                end: usize,
-                size: usize,
-                count: usize,
-            ) -> Self {
-                Self { bytes: bytes.split_at(end - size * count).1, size, indices: 0..count }
-            }
-
-            #[inline]
-            fn read(&self, index: usize) -> $item {
+            fn read(bytes: &[u8]) -> $item {
                 let read: fn(&[u8]) -> $item = $read;
-                read($crate::chunk::part(self.bytes, index * self.size, self.size))
+                read(bytes)
             }
         }
 
@@ -788,27 +824,32 @@ macro_rules! list_of_numbers {
 
             #[inline]
             fn next(&mut self) -> Option<$item> {
-                let index = self.indices.next()?;
-                Some(self.read(index))
+                let (item, rest) = self.bytes.split_at_checked(self.size)?;
+                self.bytes = rest;
+                Some(Self::read(item))
             }
 
             #[inline]
             fn size_hint(&self) -> (usize, Option<usize>) {
-                self.indices.size_hint()
+                let count = self.bytes.len() / self.size;
+                (count, Some(count))
             }
 
             #[inline]
             fn nth(&mut self, n: usize) -> Option<$item> {
-                let index = self.indices.nth(n)?;
-                Some(self.read(index))
+                let skipped = n.saturating_mul(self.size);
+                self.bytes = self.bytes.get(skipped..).unwrap_or_default();
+                self.next()
             }
         }
 
         impl DoubleEndedIterator for $name<'_> {
             #[inline]
             fn next_back(&mut self) -> Option<$item> {
-                let index = self.indices.next_back()?;
-                Some(self.read(index))
+                let end = self.bytes.len().checked_sub(self.size)?;
+                let (rest, item) = self.bytes.split_at_checked(end)?;
+                self.bytes = rest;
+                Some(Self::read(item))
             }
         }
 
@@ -818,27 +859,27 @@ macro_rules! list_of_numbers {
 }
 pub(crate) use list_of_numbers;
 
-/// The number that the first two bytes are.
+/// The number that the two bytes at an offset are.
 #[inline]
-pub(crate) fn u16_of(bytes: &[u8]) -> u16 {
-    u16::from_be_bytes([bytes[0], bytes[1]])
+pub(crate) fn u16_at(bytes: &[u8], at: usize) -> u16 {
+    u16::from_be_bytes([bytes[at], bytes[at + 1]])
 }
 
-/// The number that the first four bytes are.
+/// The number that the four bytes at an offset are.
 #[inline]
-fn u32_of(bytes: &[u8]) -> u32 {
-    u32::from_be_bytes([bytes[0], bytes[1], bytes[2], bytes[3]])
+pub(crate) fn u32_at(bytes: &[u8], at: usize) -> u32 {
+    u32::from_be_bytes([bytes[at], bytes[at + 1], bytes[at + 2], bytes[at + 3]])
 }
 
 /// The stream of FORWARD-TSN, in four bytes (RFC 3758 section 3.2), or of I-FORWARD-TSN, in eight
 /// (RFC 8260 section 2.3.1).
 #[inline]
 fn skipped_stream_of(bytes: &[u8]) -> SkippedStream {
-    let (stream, rest) = (u16_of(bytes), &bytes[2..]);
+    let stream = u16_at(bytes, 0);
     if bytes.len() == 4 {
-        return SkippedStream { stream, ssn: u16_of(rest), ..SkippedStream::default() };
+        return SkippedStream { stream, ssn: u16_at(bytes, 2), ..SkippedStream::default() };
     }
-    SkippedStream { stream, ssn: 0, mid: u32_of(&rest[2..]), is_unordered: rest[1] & 1 != 0 }
+    SkippedStream { stream, ssn: 0, mid: u32_at(bytes, 4), is_unordered: bytes[3] & 1 != 0 }
 }
 
 list_of_numbers! {
@@ -851,7 +892,7 @@ list_of_numbers! {
     /// assert_eq!((blocks.len(), blocks.last().unwrap().end), (1, 3));
     /// ```
     #[doc(alias = "dcsctp_gap_ack_block")]
-    GapAckBlocks, GapAckBlock, |it| GapAckBlock { start: u16_of(it), end: u16_of(&it[2..]) }
+    GapAckBlocks, GapAckBlock, |it| GapAckBlock { start: u16_at(it, 0), end: u16_at(it, 2) }
 }
 list_of_numbers! {
     /// The duplicate TSNs of a [`Sack`] (RFC 9260 section 3.3.4).
@@ -863,7 +904,7 @@ list_of_numbers! {
     /// assert_eq!(tsns, [40]);
     /// ```
     #[doc(alias = "dcsctp_duplicate_tsn")]
-    DuplicateTsns, u32, u32_of
+    DuplicateTsns, u32, |it| u32_at(it, 0)
 }
 list_of_numbers! {
     /// The streams of a [`ForwardTsn`] (RFC 3758 section 3.2, RFC 8260 section 2.3.1).

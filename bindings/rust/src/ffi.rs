@@ -182,7 +182,6 @@ unsafe extern "C" {
     ) -> u32;
     pub fn dcsctp_word(bytes: *const u8, length: usize) -> u32;
 
-    pub fn dcsctp_header(bytes: *const u8, length: usize, header: *mut Header) -> bool;
     pub fn dcsctp_chunk_at(
         bytes: *const u8,
         length: usize,
@@ -220,18 +219,11 @@ unsafe extern "C" {
         chunk: *const Chunk,
         forward_tsn: *mut ForwardTsn,
     ) -> bool;
-    pub fn dcsctp_list_offset(chunk: *const Chunk) -> usize;
     pub fn dcsctp_item_at(
         bytes: *const u8,
         length: usize,
         offset: usize,
         item: *mut Parameter,
-    ) -> bool;
-    pub fn dcsctp_number(
-        bytes: *const u8,
-        length: usize,
-        parameter: *const Parameter,
-        number: *mut u32,
     ) -> bool;
     pub fn dcsctp_re_config(
         bytes: *const u8,

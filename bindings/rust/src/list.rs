@@ -1,7 +1,10 @@
 // SPDX-License-Identifier: Apache-2.0
 //! Parameters and error causes, where they lie.
 
-use crate::chunk::{Chunk, list_of_numbers, part, read, same_bytes, u16_of};
+use crate::chunk::{
+    Chunk, HEADER, INIT_NUMBERS, ask_unless_checked, list_of_numbers, part, read, same_bytes,
+    split, u16_at, u32_at,
+};
 use crate::debug::list_of_items;
 use crate::error::WriteError;
 use crate::ffi;
@@ -15,60 +18,40 @@ use core::net::IpAddr;
 #[derive(Clone, Copy)]
 pub(crate) struct Item<'a> {
     bytes: &'a [u8],
-    raw: ffi::Parameter,
+    number: u16,
+    offset: usize,
+    value: &'a [u8],
+    next: usize,
+    is_checked: bool,
 }
-
-/// The size of the header of a parameter (RFC 9260 section 3.2.1) or an error cause (section
-/// 3.3.10).
-const ITEM_HEADER: usize = 4;
 
 impl<'a> Item<'a> {
     /// Writes one with this type or code and this value to the front of `output`.
     fn write(output: &'a mut [u8], number: u16, value: &[u8]) -> Result<Self, WriteError> {
-        let next = ITEM_HEADER + value.len();
+        let next = HEADER + value.len();
         let length = u16::try_from(next).map_err(|_| WriteError::BadValue)?;
         let bytes = output.get_mut(..next).ok_or(WriteError::NoRoom)?;
-        let (header, rest) = bytes.split_at_mut(ITEM_HEADER);
+        let (header, rest) = bytes.split_at_mut(HEADER);
         header[..2].copy_from_slice(&number.to_be_bytes());
         header[2..].copy_from_slice(&length.to_be_bytes());
         rest.copy_from_slice(value);
-        let (value_offset, value_size) = (ITEM_HEADER, value.len());
-        Ok(Self { bytes, raw: ffi::Parameter { r#type: number, value_offset, value_size, next } })
-    }
-
-    #[inline]
-    const fn offset(&self) -> usize {
-        self.raw.value_offset - ITEM_HEADER
+        Ok(Self { bytes, number, offset: 0, value: &bytes[HEADER..], next, is_checked: false })
     }
 
     fn as_bytes(&self) -> &'a [u8] {
-        part(self.bytes, self.offset(), ITEM_HEADER + self.raw.value_size)
+        part(self.bytes, self.offset, HEADER + self.value.len())
     }
 
-    #[inline]
-    fn value(&self) -> &'a [u8] {
-        part(self.bytes, self.raw.value_offset, self.raw.value_size)
-    }
-
-    /// Returns where the value ends.
-    #[inline]
-    const fn value_end(&self) -> usize {
-        self.raw.value_offset + self.raw.value_size
-    }
-
+    /// The number that the value is, if it has four bytes.
     #[inline]
     fn number(&self) -> Option<u32> {
-        read!(self, dcsctp_number)
+        Some(u32::from_be_bytes(self.value.try_into().ok()?))
     }
 
-    #[inline]
-    const fn bytes(&self) -> &'a [u8] {
-        self.bytes
-    }
-
-    #[inline]
-    const fn raw(&self) -> &ffi::Parameter {
-        &self.raw
+    /// What the C API knows of it.
+    const fn raw(&self) -> ffi::Parameter {
+        let (value_offset, value_size) = (self.offset + HEADER, self.value.len());
+        ffi::Parameter { r#type: self.number, value_offset, value_size, next: self.next }
     }
 }
 
@@ -80,20 +63,21 @@ same_bytes!(Item);
 struct Items<'a> {
     bytes: &'a [u8],
     next: usize,
+    is_checked: bool,
 }
 
 impl<'a> Items<'a> {
-    /// Those of a chunk whose list has the items that are asked for; of another none.
+    /// Those of a chunk, from this place of its value on.
     #[inline]
-    fn of_chunk(chunk: Chunk<'a>, has_them: bool) -> Self {
-        let bytes = part(chunk.bytes(), 0, chunk.value_end());
-        let next = if has_them {
-            // SAFETY: the chunk is a reference.
-            unsafe { ffi::dcsctp_list_offset(chunk.raw()) }
-        } else {
-            bytes.len()
-        };
-        Self { bytes, next }
+    fn of_chunk(chunk: Chunk<'a>, place: usize) -> Self {
+        let (bytes, is_checked) = chunk.bytes_to_end();
+        let next = chunk.offset() + HEADER + place.min(chunk.value().len());
+        Self { bytes, next, is_checked }
+    }
+
+    /// Those from an offset of bytes on that weren't checked.
+    const fn at(bytes: &'a [u8], next: usize) -> Self {
+        Self { bytes, next, is_checked: false }
     }
 
     #[inline]
@@ -102,23 +86,25 @@ impl<'a> Items<'a> {
         if self.next >= self.bytes.len() {
             return None;
         }
-        let (start, length, at) = (self.bytes.as_ptr(), self.bytes.len(), self.next);
-        // SAFETY: `bytes` is a slice, and `item` a reference.
-        let raw = ffi::read(|item| unsafe { ffi::dcsctp_item_at(start, length, at, item) })?;
-        self.next = raw.next;
-        Some(Item { bytes: self.bytes, raw })
+        let Self { bytes, next: offset, is_checked } = *self;
+        let (number, value, next) = if is_checked {
+            let (number, value, next) = split(bytes, offset)?;
+            (u16::from_be_bytes(number), value, next)
+        } else {
+            let (start, length) = (bytes.as_ptr(), bytes.len());
+            // SAFETY: `bytes` is a slice, and `item` a reference.
+            let it = ffi::read(|it| unsafe { ffi::dcsctp_item_at(start, length, offset, it) })?;
+            let ffi::Parameter { r#type, value_offset, value_size, next } = it;
+            (r#type, part(bytes, value_offset, value_size), next)
+        };
+        self.next = next;
+        Some(Item { bytes, number, offset, value, next, is_checked })
     }
 
     /// The bytes of those that are left.
     fn as_bytes(&self) -> &'a [u8] {
         self.bytes.get(self.next..).unwrap_or(&[])
     }
-}
-
-/// Whether a chunk's list has error causes (RFC 9260 sections 3.3.7 and 3.3.10).
-#[inline]
-const fn has_causes(chunk: &Chunk) -> bool {
-    matches!(chunk.chunk_type(), ChunkType::ABORT | ChunkType::ERROR)
 }
 
 /// The parameters of a list (RFC 9260 section 3.2.1), up to where no whole one is: of a chunk, or of
@@ -139,7 +125,12 @@ list_of_items!(Parameters);
 impl<'a> Parameters<'a> {
     #[inline]
     pub(crate) fn of_chunk(chunk: Chunk<'a>) -> Self {
-        Self(Items::of_chunk(chunk, !has_causes(&chunk)))
+        let place = match chunk.chunk_type() {
+            ChunkType::INIT | ChunkType::INIT_ACK => INIT_NUMBERS,
+            ChunkType::HEARTBEAT | ChunkType::HEARTBEAT_ACK | ChunkType::RE_CONFIG => 0,
+            _ => usize::MAX,
+        };
+        Self(Items::of_chunk(chunk, place))
     }
 
     /// Returns what is left, as their bytes and the offset of these.
@@ -149,7 +140,7 @@ impl<'a> Parameters<'a> {
 
     /// Those from an offset of the bytes on.
     pub(crate) const fn at(bytes: &'a [u8], next: usize) -> Self {
-        Self(Items { bytes, next })
+        Self(Items::at(bytes, next))
     }
 
     /// Returns the parameters that bytes are, one after the other, with their padding: to be read,
@@ -226,12 +217,13 @@ list_of_items!(Causes);
 impl<'a> Causes<'a> {
     #[inline]
     pub(crate) fn of_chunk(chunk: Chunk<'a>) -> Self {
-        Self(Items::of_chunk(chunk, has_causes(&chunk)))
+        let has_causes = matches!(chunk.chunk_type(), ChunkType::ABORT | ChunkType::ERROR);
+        Self(Items::of_chunk(chunk, if has_causes { 0 } else { usize::MAX }))
     }
 
     /// Those from an offset of the bytes on.
     pub(crate) const fn at(bytes: &'a [u8], next: usize) -> Self {
-        Self(Items { bytes, next })
+        Self(Items::at(bytes, next))
     }
 
     /// Returns the error causes that bytes are, as [`Parameters::of`] does.
@@ -319,7 +311,7 @@ impl<'a> Parameter<'a> {
     #[must_use]
     #[inline]
     pub const fn parameter_type(&self) -> ParameterType {
-        ParameterType(self.0.raw.r#type)
+        ParameterType(self.0.number)
     }
 
     /// Returns the value, without padding (RFC 9260 section 3.2.1): of a State Cookie the cookie,
@@ -333,7 +325,7 @@ impl<'a> Parameter<'a> {
     #[must_use]
     #[inline]
     pub fn value(&self) -> &'a [u8] {
-        self.0.value()
+        self.0.value
     }
 
     /// Returns the header and the value, without padding (RFC 9260 section 3.2.1): what an
@@ -407,7 +399,7 @@ impl<'a> Parameter<'a> {
     #[must_use]
     #[inline]
     pub const fn offset(&self) -> usize {
-        self.0.offset()
+        self.0.offset
     }
 
     /// Returns a value that is one number of four bytes: the method of Zero Checksum Acceptable (RFC
@@ -441,33 +433,38 @@ impl<'a> Parameter<'a> {
     #[doc(alias = "dcsctp_re_config")]
     #[must_use]
     pub fn re_config(&self) -> Option<ReConfig<ResetStreams<'a>>> {
-        let it: ffi::ReConfig = read!(self.0, dcsctp_re_config)?;
-        let request_number = it.request_number;
-        let streams = ResetStreams::before(self.0.bytes, self.0.value_end(), 2, it.stream_count);
-        Some(match ParameterType(it.r#type) {
-            ParameterType::OUTGOING_SSN_RESET => ReConfig::OutgoingSsnReset {
-                request_number,
-                response_number: it.response_number,
-                last_tsn: it.last_tsn,
-                streams,
-            },
+        ask_unless_checked!(self.0, dcsctp_re_config);
+        let (first, rest) = self.0.value.split_first_chunk::<4>()?;
+        let request_number = u32_at(first, 0);
+        Some(match self.parameter_type() {
+            ParameterType::OUTGOING_SSN_RESET => {
+                let (it, rest) = rest.split_first_chunk::<8>()?;
+                let (response_number, last_tsn) = (u32_at(it, 0), u32_at(it, 4));
+                let streams = ResetStreams { bytes: rest, size: 2 };
+                ReConfig::OutgoingSsnReset { request_number, response_number, last_tsn, streams }
+            }
             ParameterType::INCOMING_SSN_RESET => {
+                let streams = ResetStreams { bytes: rest, size: 2 };
                 ReConfig::IncomingSsnReset { request_number, streams }
             }
             ParameterType::SSN_TSN_RESET => ReConfig::SsnTsnReset { request_number },
-            ParameterType::RECONFIGURATION_RESPONSE => ReConfig::Response {
-                response_number: it.response_number,
-                result: ReConfigResult::of(it.result)?,
-                next_tsns: it.has_next_tsns.then_some(NextTsns {
-                    sender: it.sender_next_tsn,
-                    receiver: it.receiver_next_tsn,
-                }),
-            },
+            ParameterType::RECONFIGURATION_RESPONSE => {
+                let (it, rest) = rest.split_first_chunk::<4>()?;
+                let next_tsns = rest.first_chunk::<8>();
+                ReConfig::Response {
+                    response_number: request_number,
+                    result: ReConfigResult::of(u32_at(it, 0))?,
+                    next_tsns: next_tsns
+                        .map(|it| NextTsns { sender: u32_at(it, 0), receiver: u32_at(it, 4) }),
+                }
+            }
             ParameterType::ADD_OUTGOING_STREAMS => {
-                ReConfig::AddOutgoingStreams { request_number, new_streams: it.new_streams }
+                let new_streams = u16_at(rest.first_chunk::<4>()?, 0);
+                ReConfig::AddOutgoingStreams { request_number, new_streams }
             }
             ParameterType::ADD_INCOMING_STREAMS => {
-                ReConfig::AddIncomingStreams { request_number, new_streams: it.new_streams }
+                let new_streams = u16_at(rest.first_chunk::<4>()?, 0);
+                ReConfig::AddIncomingStreams { request_number, new_streams }
             }
             _ => return None,
         })
@@ -535,7 +532,7 @@ impl<'a> Cause<'a> {
     #[must_use]
     #[inline]
     pub const fn code(&self) -> CauseCode {
-        CauseCode(self.0.raw.r#type)
+        CauseCode(self.0.number)
     }
 
     /// Returns the value, without padding (RFC 9260 section 3.3.10): of User-Initiated Abort and
@@ -549,7 +546,7 @@ impl<'a> Cause<'a> {
     #[must_use]
     #[inline]
     pub fn value(&self) -> &'a [u8] {
-        self.0.value()
+        self.0.value
     }
 
     /// Returns the header and the value, without padding (RFC 9260 section 3.3.10).
@@ -578,7 +575,7 @@ impl<'a> Cause<'a> {
     #[must_use]
     #[inline]
     pub const fn offset(&self) -> usize {
-        self.0.offset()
+        self.0.offset
     }
 
     /// Returns a value that is one number of four bytes: the TSN of No User Data (RFC 9260 section
@@ -606,14 +603,23 @@ impl<'a> Cause<'a> {
     /// assert!(missing.eq([davgyuti::ParameterType::STATE_COOKIE]));
     /// ```
     #[must_use]
+    #[inline]
     pub fn missing_parameters(&self) -> MissingParameters<'a> {
-        // How many there are; each has two bytes.
-        let (Item { bytes, raw }, none) = (self.0, core::ptr::null_mut());
-        let (start, length) = (bytes.as_ptr(), bytes.len());
+        // (how many there are comes before them)
+        let types = self.0.value.get(4..).filter(|_| self.has_missing_parameters());
+        MissingParameters { bytes: types.unwrap_or_default(), size: 2 }
+    }
+
+    #[inline]
+    fn has_missing_parameters(&self) -> bool {
+        let Item { bytes, is_checked, .. } = self.0;
+        if is_checked {
+            return self.code() == CauseCode::MISSING_MANDATORY_PARAMETER;
+        }
+        let (start, length, none) = (bytes.as_ptr(), bytes.len(), core::ptr::null_mut());
+        let raw = self.0.raw();
         // SAFETY: `bytes` is a slice, `raw` a value here, and no item is written.
-        let count =
-            unsafe { ffi::dcsctp_missing_parameters(start, length, &raw const raw, none, 0) };
-        MissingParameters::before(bytes, self.0.value_end(), 2, count)
+        0 < unsafe { ffi::dcsctp_missing_parameters(start, length, &raw const raw, none, 0) }
     }
 
     /// Returns the cause by its fields, if its code is one of [`RegisteredCause`]; none where the
@@ -648,7 +654,7 @@ list_of_numbers! {
     /// assert_eq!(request, ReConfig::IncomingSsnReset { request_number: 1, streams: vec![2] });
     /// ```
     #[doc(alias = "dcsctp_reset_stream")]
-    ResetStreams, u16, u16_of
+    ResetStreams, u16, |it| u16_at(it, 0)
 }
 
 list_of_numbers! {
@@ -661,7 +667,7 @@ list_of_numbers! {
     /// assert_eq!((missing.len(), missing.last().unwrap().name()), (1, "State Cookie"));
     /// ```
     #[doc(alias = "dcsctp_missing_parameter")]
-    MissingParameters, ParameterType, |it| ParameterType(u16_of(it))
+    MissingParameters, ParameterType, |it| ParameterType(u16_at(it, 0))
 }
 
 list_of_numbers! {
@@ -672,7 +678,7 @@ list_of_numbers! {
     /// assert!(davgyuti::ShortNumbers::of(&[0, 5, 0, 6]).eq([5, 6]));
     /// ```
     #[doc(alias = "dcsctp_short_numbers")]
-    ShortNumbers, u16, u16_of
+    ShortNumbers, u16, |it| u16_at(it, 0)
 }
 
 impl<'a> ShortNumbers<'a> {
@@ -684,8 +690,7 @@ impl<'a> ShortNumbers<'a> {
     /// ```
     #[must_use]
     pub const fn of(bytes: &'a [u8]) -> Self {
-        let count = bytes.len() / 2;
-        Self::before(bytes, 2 * count, 2, count)
+        Self { bytes: bytes.split_at(bytes.len() / 2 * 2).0, size: 2 }
     }
 
     /// Writes numbers to the front of `output`, and returns them, to be added to a packet.
@@ -712,7 +717,7 @@ impl<'a> ShortNumbers<'a> {
     }
 
     /// The bytes of the numbers that are left.
-    pub(crate) fn as_bytes(&self) -> &'a [u8] {
-        part(self.bytes, self.size * self.indices.start, self.size * self.indices.len())
+    pub(crate) const fn as_bytes(&self) -> &'a [u8] {
+        self.bytes
     }
 }

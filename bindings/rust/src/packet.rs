@@ -1,7 +1,7 @@
 // SPDX-License-Identifier: Apache-2.0
 //! Whole packets.
 
-use crate::chunk::{Chunk, Chunks, TAG_REFLECTED, same_bytes};
+use crate::chunk::{Chunk, Chunks, FIRST_CHUNK, TAG_REFLECTED, same_bytes, u16_at, u32_at};
 use crate::error::{Fault, FaultKind, OutputError, WriteError};
 use crate::ffi;
 use crate::types::ChunkType;
@@ -50,14 +50,18 @@ pub fn needs_checksum(bytes: &[u8]) -> bool {
     })
 }
 
+/// Whether a packet may have a checksum of zero where that was negotiated, and has it.
+fn is_allowed_zero(bytes: &[u8]) -> bool {
+    Header::read(bytes).is_some_and(|it| it.checksum == 0)
+        // (what is larger is no packet, and isn't gone through)
+        && bytes.len() <= 0xffff
+        && !needs_checksum(bytes)
+}
+
 /// What C takes of a policy, for these bytes.
 #[inline]
 fn raw_policy(policy: Policy, bytes: &[u8]) -> ffi::Policy {
-    let is_allowed = policy.allowed_zero_checksum
-        && Header::read(bytes).is_some_and(|it| it.checksum == 0)
-        // (what is larger is no packet, and isn't gone through)
-        && bytes.len() <= 0xffff
-        && !needs_checksum(bytes);
+    let is_allowed = policy.allowed_zero_checksum && is_allowed_zero(bytes);
     ffi::Policy {
         any_checksum: policy.any_checksum,
         zero_checksum: policy.zero_checksum || is_allowed,
@@ -81,6 +85,7 @@ fn raw_policy(policy: Policy, bytes: &[u8]) -> ffi::Policy {
 /// # Errors
 /// The kind of the first fault; [`first_fault`] says where it is.
 #[doc(alias = "dcsctp_check")]
+#[inline]
 pub fn check(bytes: &[u8], word: u32, policy: Policy) -> Result<(), FaultKind> {
     let (start, length) = (bytes.as_ptr(), bytes.len());
     let policy = raw_policy(policy, bytes);
@@ -187,8 +192,13 @@ impl Header {
     #[doc(alias = "dcsctp_header")]
     #[must_use]
     pub fn read(bytes: &[u8]) -> Option<Self> {
-        // SAFETY: `bytes` is a slice, and `header` a reference.
-        ffi::read(|header| unsafe { ffi::dcsctp_header(bytes.as_ptr(), bytes.len(), header) })
+        let it: &[u8; FIRST_CHUNK] = bytes.first_chunk()?;
+        Some(Self {
+            source_port: u16_at(it, 0),
+            destination_port: u16_at(it, 2),
+            verification_tag: u32_at(it, 4),
+            checksum: u32_at(it, 8),
+        })
     }
 }
 
@@ -317,7 +327,7 @@ impl<'a> Packet<'a> {
     #[must_use]
     #[inline]
     pub fn chunks(&self) -> Chunks<'a> {
-        Chunks::of(self.bytes)
+        Chunks::of_packet(self.bytes)
     }
 
     /// Writes the canonical packet to the front of `output`, and returns it: a checksum of zero,

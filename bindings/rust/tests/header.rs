@@ -7,8 +7,9 @@ const FFI: &str = include_str!("../src/ffi.rs");
 const VALUES: &str = include_str!("../src/values.rs");
 
 /// Text without C's comments; without `dcsctp_read`, `dcsctp_read_many` and their structs, as the
-/// crate reads chunk by chunk; without what reads the numbers of lists, which it reads where they
-/// lie; and without what reads a list of a chunk alone, which it reads as any list.
+/// crate reads chunk by chunk; without what reads the header, numbers, the numbers of lists and where
+/// a list begins, which it reads by itself; and without what reads a list of a chunk alone, which it
+/// reads as any list.
 fn without_comments(text: &str) -> String {
     let mut text: String =
         text.split("/*").map(|it| it.split_once("*/").map_or(it, |(_, rest)| rest)).collect();
@@ -18,12 +19,15 @@ fn without_comments(text: &str) -> String {
         ("struct dcsctp_placed_packet {", "};"),
         ("uint32_t dcsctp_read(", ");"),
         ("size_t dcsctp_read_many(", ");"),
+        ("bool dcsctp_header(", ");"),
         ("bool dcsctp_gap_ack_block(", ");"),
         ("size_t dcsctp_gap_ack_blocks(", ");"),
         ("bool dcsctp_duplicate_tsn(", ");"),
         ("size_t dcsctp_duplicate_tsns(", ");"),
         ("bool dcsctp_skipped_stream(", ");"),
         ("size_t dcsctp_skipped_streams(", ");"),
+        ("size_t dcsctp_list_offset(", ");"),
+        ("bool dcsctp_number(", ");"),
         ("bool dcsctp_reset_stream(", ");"),
         ("size_t dcsctp_reset_streams(", ");"),
         ("bool dcsctp_missing_parameter(", ");"),
