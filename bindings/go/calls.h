@@ -5,7 +5,6 @@
 #define CALLS_H
 
 #include "dcsctp.h"
-#include <string.h>
 
 /* ---- a whole packet */
 
@@ -26,8 +25,24 @@ static inline bool go_needs_checksum(const uint8_t *bytes, size_t length)
     return false;
 }
 
-static inline uint32_t go_check(const uint8_t *bytes, size_t length, uint32_t word, struct dcsctp_policy policy)
+/* A policy, and whether a field of zero is accepted where RFC 9653 section 5.2 allows one. */
+struct go_policy {
+    bool any_checksum, zero_checksum, allowed_zero_checksum, strict_padding;
+};
+
+/* The policy for a packet. */
+static inline struct dcsctp_policy go_policy(const uint8_t *bytes, size_t length, struct go_policy asked)
 {
+    struct dcsctp_policy policy = {asked.any_checksum, asked.zero_checksum, asked.strict_padding, {0}};
+    struct dcsctp_header header;
+    if (asked.allowed_zero_checksum && length <= 0xFFFF && dcsctp_header(bytes, length, &header) && header.checksum == 0)
+        policy.zero_checksum |= !go_needs_checksum(bytes, length);
+    return policy;
+}
+
+static inline uint32_t go_check(const uint8_t *bytes, size_t length, uint32_t word, struct go_policy asked)
+{
+    const struct dcsctp_policy policy = go_policy(bytes, length, asked);
     return dcsctp_check(bytes, length, word, &policy);
 }
 
@@ -37,8 +52,9 @@ struct go_result {
     size_t size;
 };
 
-static inline struct go_result go_first_fault(const uint8_t *bytes, size_t length, uint32_t word, struct dcsctp_policy policy)
+static inline struct go_result go_first_fault(const uint8_t *bytes, size_t length, uint32_t word, struct go_policy asked)
 {
+    const struct dcsctp_policy policy = go_policy(bytes, length, asked);
     struct go_result result = {0, 0};
     result.code = dcsctp_first_fault(bytes, length, word, &policy, &result.size);
     return result;
@@ -46,8 +62,9 @@ static inline struct go_result go_first_fault(const uint8_t *bytes, size_t lengt
 
 #define WRITES_PACKET(name)                                                                                            \
     static inline struct go_result go_##name(const uint8_t *bytes, size_t length, uint32_t word,                       \
-                                             struct dcsctp_policy policy, uint8_t *output, size_t room)                \
+                                             struct go_policy asked, uint8_t *output, size_t room)                     \
     {                                                                                                                  \
+        const struct dcsctp_policy policy = go_policy(bytes, length, asked);                                           \
         struct go_result result = {0, 0};                                                                              \
         result.code = dcsctp_##name(bytes, length, word, &policy, output, room, &result.size);                         \
         return result;                                                                                                 \
@@ -55,52 +72,6 @@ static inline struct go_result go_first_fault(const uint8_t *bytes, size_t lengt
 WRITES_PACKET(canonical)
 WRITES_PACKET(print)
 WRITES_PACKET(report)
-
-/* The most items of the lists that there is place for; and how many there are, in all chunks. */
-struct go_counts {
-    size_t rows, blocks, numbers, streams, items;
-};
-
-/* Reads a packet with its rows, and the lists of its chunks one after the other, each as far as there is place. Of a row whose
-   list is one of parameters or error causes `count` becomes how many. */
-static inline struct go_counts go_read(const uint8_t *bytes, size_t length, uint32_t word, struct dcsctp_policy policy,
-                                       bool allowed_zero_checksum, struct go_counts room, struct dcsctp_packet *packet, struct dcsctp_row *rows,
-                                       struct dcsctp_gap_ack_block *blocks, uint32_t *numbers,
-                                       struct dcsctp_skipped_stream *streams, struct dcsctp_parameter *items)
-{
-    struct go_counts counts = {0};
-    if (allowed_zero_checksum && !policy.zero_checksum && length <= 0xFFFF && dcsctp_header(bytes, length, &packet->header)
-        && packet->header.checksum == 0)
-        policy.zero_checksum = !go_needs_checksum(bytes, length);
-    dcsctp_read(bytes, length, word, &policy, rows, room.rows, packet);
-    counts.rows = packet->chunk_count;
-    for (size_t i = 0; i < counts.rows && i < room.rows; i++) {
-        const size_t before = counts.items;
-/* Writes a list after those before it, as far as there is place, and counts it. */
-#define FILL(call, list)                                                                                               \
-    {                                                                                                                  \
-        const size_t first = counts.list < room.list ? counts.list : room.list;                                        \
-        counts.list += call(bytes, length, &rows[i].chunk, list + first, room.list - first);                           \
-    }
-        switch (rows[i].chunk.type) {
-        case DCSCTP_CHUNK_SACK:
-            FILL(dcsctp_gap_ack_blocks, blocks)
-            FILL(dcsctp_duplicate_tsns, numbers)
-            break;
-        case DCSCTP_CHUNK_FORWARD_TSN:
-        case DCSCTP_CHUNK_I_FORWARD_TSN: FILL(dcsctp_skipped_streams, streams) break;
-        case DCSCTP_CHUNK_INIT:
-        case DCSCTP_CHUNK_INIT_ACK:
-        case DCSCTP_CHUNK_HEARTBEAT:
-        case DCSCTP_CHUNK_HEARTBEAT_ACK:
-        case DCSCTP_CHUNK_ABORT:
-        case DCSCTP_CHUNK_ERROR:
-        case DCSCTP_CHUNK_RE_CONFIG: FILL(dcsctp_parameters, items) rows[i].count = counts.items - before;
-        }
-#undef FILL
-    }
-    return counts;
-}
 
 /* ---- the parts of a packet */
 

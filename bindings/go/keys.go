@@ -51,7 +51,8 @@ func (chunk Chunk) SignAuth(key []byte) error {
 
 // toEnd returns the packet from the chunk on.
 func (chunk Chunk) toEnd() []byte {
-	return chunk.packet.part(C.size_t(chunk.Offset), C.size_t(len(chunk.packet)-chunk.Offset))
+	packet := chunk.packet()
+	return packet.part(C.size_t(chunk.Offset), C.size_t(len(packet)-chunk.Offset))
 }
 
 // A Cookie is what a State Cookie says: what its sender needs to set up the association, and for how long (section 5.1.3).

@@ -2,12 +2,11 @@
 
 package davgyuti
 
-// #include "calls.h"
-import "C"
+import "encoding/binary"
 
-// A Parsed is a packet that Read has read with all its chunks and their lists, in one call of C. Keep one, and read packet after
-// packet into it: of a packet nothing is allocated, once it has the memory that the largest one took (a packet can have 16,380
-// chunks, for which it keeps 2 megabytes). Of what is no packet the *Error is, and so it stays as it is when the next one is read:
+// A Parsed is a packet that Read has checked in one call of C, and read with all its chunks and their lists. Keep one, and read packet
+// after packet into it: of a packet nothing is allocated, once it has the memory that the largest one took (a packet can have 16,380
+// chunks, for which it keeps 300 kilobytes). Of what is no packet the *Error is, and so it stays as it is when the next one is read:
 // where many are refused, ask IsValid first, which allocates nothing. The zero value has no chunks.
 //
 //	var parsed davgyuti.Parsed
@@ -27,154 +26,234 @@ import "C"
 // What its methods return holds until the next Read, and as long as the packet's bytes aren't changed. One goroutine at a time
 // may read into it; then any number may look at it.
 type Parsed struct {
-	Header  Header
-	packet  Packet
-	read    C.struct_dcsctp_packet
-	counts  C.struct_go_counts
-	rows    []C.struct_dcsctp_row
-	firsts  []C.struct_go_counts // where the lists of each chunk begin
-	blocks  []GapAckBlock
-	numbers []uint32
-	streams []SkippedStream
-	items   []C.struct_dcsctp_parameter
+	Header     Header
+	packet     Packet
+	rows       []row
+	blocks     []GapAckBlock
+	duplicates []uint32
+	streams    []SkippedStream
+	items      []place // the parameters and error causes
+}
+
+// A row is where a chunk is, and which of the lists are its own.
+type row struct {
+	place
+	chunkType                      ChunkType
+	flags                          uint8
+	first, count                   uint16
+	firstDuplicate, duplicateCount uint16
 }
 
 // Read reads a packet, and returns nil; or an *Error, as Check returns it, and then there are no chunks, and Header is zero.
 func (parsed *Parsed) Read(packet Packet, policy Policy) error {
-	if len(parsed.rows) == 0 {
-		parsed.grow(C.struct_go_counts{8, 32, 8, 8, 16})
+	parsed.Header, parsed.packet, parsed.rows = Header{}, packet, parsed.rows[:0]
+	if fault := packet.firstFault(policy); fault != nil {
+		return fault
 	}
-	c := C.struct_dcsctp_policy{
-		any_checksum:   C.bool(policy.AnyChecksum),
-		zero_checksum:  C.bool(policy.ZeroChecksum),
-		strict_padding: C.bool(policy.StrictPadding),
-	}
-	word := policy.word(packet)
-	for {
-		room := C.struct_go_counts{C.size_t(len(parsed.rows)), C.size_t(len(parsed.blocks)), C.size_t(len(parsed.numbers)),
-			C.size_t(len(parsed.streams)), C.size_t(len(parsed.items))}
-		counts := C.go_read(bytesOf(packet), C.size_t(len(packet)), word, c, C.bool(policy.AllowedZeroChecksum), room, &parsed.read,
-			&parsed.rows[0], blocksOf(parsed.blocks), (*C.uint32_t)(&parsed.numbers[0]), streamsOf(parsed.streams), &parsed.items[0])
-		parsed.packet, parsed.counts = packet, counts
-		isWhole := counts.rows <= room.rows && counts.blocks <= room.blocks && counts.numbers <= room.numbers
-		if isWhole && counts.streams <= room.streams && counts.items <= room.items {
-			break
-		}
-		parsed.grow(counts)
-	}
-	if parsed.read.code != C.DCSCTP_OK {
-		parsed.Header = Header{}
-		return &Error{Code(parsed.read.code), int(parsed.read.fault_offset)}
-	}
-	header := &parsed.read.header
-	parsed.Header = Header{uint16(header.source_port), uint16(header.destination_port), uint32(header.verification_tag),
-		uint32(header.checksum)}
-	var next C.struct_go_counts
-	for i := range parsed.rows[:parsed.counts.rows] {
-		row := &parsed.rows[i]
-		parsed.firsts[i] = next
-		switch ChunkType(row.chunk._type) {
-		case ChunkSACK:
-			next.blocks += row.count
-			next.numbers += row.duplicate_count
-		case ChunkForwardTSN, ChunkIForwardTSN:
-			next.streams += row.count
-		default:
-			next.items += row.count
+	parsed.Header = Header{shortAt(packet, 0), shortAt(packet, 2), numberAt(packet, 4), numberAt(packet, 8)}
+	parsed.blocks, parsed.duplicates = parsed.blocks[:0], parsed.duplicates[:0]
+	parsed.streams, parsed.items = parsed.streams[:0], parsed.items[:0]
+	for it, isThere := placeAt(packet, FirstChunk); isThere; it, isThere = placeAt(packet, it.next()) {
+		parsed.rows = append(parsed.rows, row{})
+		row := &parsed.rows[len(parsed.rows)-1]
+		row.place, row.chunkType, row.flags = it, ChunkType(packet[it.offset]), packet[it.offset+1]
+		if row.chunkType != ChunkData {
+			parsed.readLists(row)
 		}
 	}
 	return nil
 }
 
-// grow makes place for as many.
-func (parsed *Parsed) grow(counts C.struct_go_counts) {
-	grow(&parsed.rows, counts.rows)
-	grow(&parsed.firsts, counts.rows)
-	grow(&parsed.blocks, counts.blocks)
-	grow(&parsed.numbers, counts.numbers)
-	grow(&parsed.streams, counts.streams)
-	grow(&parsed.items, counts.items)
+// readLists reads the lists of a chunk.
+func (parsed *Parsed) readLists(row *row) {
+	value := row.value(parsed.packet)
+	switch row.chunkType {
+	case ChunkSACK:
+		blocks, duplicates := listsOfSACK(row.chunkType, value)
+		row.first, row.count = uint16(len(parsed.blocks)), uint16(len(blocks)/4)
+		row.firstDuplicate, row.duplicateCount = uint16(len(parsed.duplicates)), uint16(len(duplicates)/4)
+		parsed.blocks = append(parsed.blocks, make([]GapAckBlock, len(blocks)/4)...)
+		parsed.readBlocks(row, parsed.blocks[row.first:], blocks)
+		for ; len(duplicates) >= 4; duplicates = duplicates[4:] {
+			parsed.duplicates = append(parsed.duplicates, numberAt(duplicates, 0))
+		}
+	case ChunkForwardTSN, ChunkIForwardTSN:
+		row.first = uint16(len(parsed.streams))
+		list, size, of := listOfStreams(row.chunkType, value)
+		for ; len(list) >= size; list = list[size:] {
+			parsed.streams = append(parsed.streams, of(list))
+		}
+		row.count = uint16(len(parsed.streams)) - row.first
+	default:
+		row.first = uint16(len(parsed.items))
+		list := listOfItems(row.chunkType, value)
+		from := int(row.offset) + 4 + len(value) - len(list)
+		for it, isThere := placeAt(list, 0); isThere; it, isThere = placeAt(list, it.next()) {
+			parsed.items = append(parsed.items, place{uint16(from) + it.offset, it.size})
+		}
+		row.count = uint16(len(parsed.items)) - row.first
+	}
 }
 
-func grow[T any](items *[]T, count C.size_t) {
-	if C.size_t(len(*items)) < count {
-		*items = make([]T, count+count/4)
+// readBlocks reads the gap ack blocks of a SACK. Of many the library's loop takes less time, with the call.
+func (parsed *Parsed) readBlocks(row *row, to []GapAckBlock, blocks []byte) {
+	if len(to) >= 100 {
+		parsed.chunk(row).fillBlocks(to)
+		return
+	}
+	for i := range to {
+		to[i] = blockOf(blocks[4*i:])
 	}
 }
 
 // Len returns how many chunks there are.
-func (parsed *Parsed) Len() int { return int(parsed.counts.rows) }
+func (parsed *Parsed) Len() int { return len(parsed.rows) }
 
 // Chunk returns a chunk, by its index; it panics as a slice does where there is none. Of its methods Data, SACK, Init, Shutdown and
 // ForwardTSN call no C, and allocate nothing.
 func (parsed *Parsed) Chunk(i int) Chunk {
-	row := &parsed.rows[:parsed.counts.rows][i]
-	return parsed.packet.chunk(&row.chunk, row)
+	return parsed.chunk(&parsed.rows[i])
+}
+
+func (parsed *Parsed) chunk(row *row) Chunk {
+	next := len(parsed.packet)
+	if it := row.next(); it < next {
+		next = it
+	}
+	return Chunk{row.chunkType, row.flags, row.value(parsed.packet), int(row.offset), next, &parsed.packet[0], ^len(parsed.packet)}
+}
+
+// list returns the items of a list that are a chunk's, if it is of these types.
+func list[T any](of []T, first, count uint16) []T {
+	from, to := int(first), int(first)+int(count)
+	return of[from:to:to]
 }
 
 // GapAckBlocks returns those of a chunk that is a SACK, and none of another.
 func (parsed *Parsed) GapAckBlocks(i int) []GapAckBlock {
-	row, first := &parsed.rows[:parsed.counts.rows][i], parsed.firsts[i].blocks
-	if ChunkType(row.chunk._type) != ChunkSACK {
+	row := &parsed.rows[i]
+	if row.chunkType != ChunkSACK {
 		return nil
 	}
-	return parsed.blocks[first : first+row.count : first+row.count]
+	return list(parsed.blocks, row.first, row.count)
 }
 
 // DuplicateTSNs returns those of a chunk that is a SACK, and none of another.
 func (parsed *Parsed) DuplicateTSNs(i int) []uint32 {
-	row, first := &parsed.rows[:parsed.counts.rows][i], parsed.firsts[i].numbers
-	return parsed.numbers[first : first+row.duplicate_count : first+row.duplicate_count]
+	row := &parsed.rows[i]
+	return list(parsed.duplicates, row.firstDuplicate, row.duplicateCount)
 }
 
 // SkippedStreams returns those of a chunk that is FORWARD-TSN or I-FORWARD-TSN, and none of another.
 func (parsed *Parsed) SkippedStreams(i int) []SkippedStream {
-	row, first := &parsed.rows[:parsed.counts.rows][i], parsed.firsts[i].streams
-	if it := ChunkType(row.chunk._type); it != ChunkForwardTSN && it != ChunkIForwardTSN {
+	row := &parsed.rows[i]
+	if row.chunkType != ChunkForwardTSN && row.chunkType != ChunkIForwardTSN {
 		return nil
 	}
-	return parsed.streams[first : first+row.count : first+row.count]
+	return list(parsed.streams, row.first, row.count)
 }
 
-// itemsOf returns the parameters, or the error causes, of a chunk.
-func (parsed *Parsed) itemsOf(i int) []C.struct_dcsctp_parameter {
-	row, first := &parsed.rows[:parsed.counts.rows][i], parsed.firsts[i].items
-	switch ChunkType(row.chunk._type) {
+// itemsOf returns the places of a chunk's error causes, or of its parameters.
+func (parsed *Parsed) itemsOf(i int, areCauses bool) []place {
+	row := &parsed.rows[i]
+	switch row.chunkType {
 	case ChunkSACK, ChunkForwardTSN, ChunkIForwardTSN:
 		return nil
 	}
-	return parsed.items[first : first+row.count]
+	if row.chunkType.hasCauses() != areCauses {
+		return nil
+	}
+	return list(parsed.items, row.first, row.count)
 }
 
 // ParameterCount returns how many parameters a chunk has: none for ABORT and ERROR, and types that have no list.
-func (parsed *Parsed) ParameterCount(i int) int {
-	if parsed.isOfCauses(i) {
-		return 0
-	}
-	return len(parsed.itemsOf(i))
-}
+func (parsed *Parsed) ParameterCount(i int) int { return len(parsed.itemsOf(i, false)) }
 
 // Parameter returns a parameter of a chunk, by both indices; it panics where there is none.
 func (parsed *Parsed) Parameter(i, index int) Parameter {
-	c := parsed.itemsOf(i)[:parsed.ParameterCount(i)][index]
-	return parameterOf(item{parsed.packet, c}, int(c.value_offset)-4)
+	it := parsed.itemsOf(i, false)[index]
+	return parameterOf(parsed.packet, shortAt(parsed.packet, int(it.offset)), int(it.offset), it.value(parsed.packet))
 }
 
 // CauseCount returns how many error causes a chunk has: none, unless it is ABORT or ERROR.
-func (parsed *Parsed) CauseCount(i int) int {
-	if !parsed.isOfCauses(i) {
-		return 0
-	}
-	return len(parsed.itemsOf(i))
-}
+func (parsed *Parsed) CauseCount(i int) int { return len(parsed.itemsOf(i, true)) }
 
 // Cause returns an error cause of a chunk, by both indices; it panics where there is none.
 func (parsed *Parsed) Cause(i, index int) Cause {
-	c := parsed.itemsOf(i)[:parsed.CauseCount(i)][index]
-	return causeOf(item{parsed.packet, c}, int(c.value_offset)-4)
+	it := parsed.itemsOf(i, true)[index]
+	return causeOf(parsed.packet, shortAt(parsed.packet, int(it.offset)), int(it.offset), it.value(parsed.packet))
 }
 
-func (parsed *Parsed) isOfCauses(i int) bool {
-	it := ChunkType(parsed.rows[:parsed.counts.rows][i].chunk._type)
-	return it == ChunkAbort || it == ChunkError
+// What a Parsed has is read at its place in the packet, which C has accepted. Whatever the bytes become after that, each read stays
+// within them.
+
+func shortAt(bytes []byte, at int) uint16 { return binary.BigEndian.Uint16(bytes[at:]) }
+
+func numberAt(bytes []byte, at int) uint32 { return binary.BigEndian.Uint32(bytes[at:]) }
+
+// A place is where a chunk, a parameter or an error cause begins, and the size of its value. (No packet needs more than 16 bits.)
+type place struct{ offset, size uint16 }
+
+// placeAt reads what begins at an offset; false where no whole one is: at the end.
+func placeAt(bytes []byte, offset int) (place, bool) {
+	if offset+4 > len(bytes) || offset > largest {
+		return place{}, false
+	}
+	size := int(shortAt(bytes, offset+2)) - 4
+	return place{uint16(offset), uint16(size)}, size >= 0 && size <= len(bytes)-offset-4
+}
+
+// next returns where the next one begins.
+func (it place) next() int { return (int(it.offset) + 4 + int(it.size) + 3) &^ 3 }
+
+func (it place) value(bytes []byte) []byte {
+	from, to := int(it.offset)+4, int(it.offset)+4+int(it.size)
+	return bytes[from:to:to]
+}
+
+// listsOfSACK returns the gap ack blocks and the duplicate TSNs in the value of a chunk that is a SACK.
+func listsOfSACK(chunkType ChunkType, value []byte) (blocks, duplicates []byte) {
+	if chunkType != ChunkSACK || len(value) < 12 {
+		return nil, nil
+	}
+	list, size := value[12:], 4*int(shortAt(value, 8))
+	if size > len(list) {
+		return nil, nil
+	}
+	return list[:size], list[size:]
+}
+
+func blockOf(bytes []byte) GapAckBlock { return GapAckBlock{shortAt(bytes, 0), shortAt(bytes, 2)} }
+
+// listOfStreams returns the streams in the value of a chunk that is FORWARD-TSN or I-FORWARD-TSN, the size of one, and what reads one.
+func listOfStreams(chunkType ChunkType, value []byte) (list []byte, size int, of func([]byte) SkippedStream) {
+	switch {
+	case len(value) < 4:
+	case chunkType == ChunkForwardTSN:
+		return value[4:], 4, streamOf
+	case chunkType == ChunkIForwardTSN:
+		return value[4:], 8, iStreamOf
+	}
+	return nil, 8, iStreamOf
+}
+
+func streamOf(bytes []byte) SkippedStream {
+	return SkippedStream{Stream: shortAt(bytes, 0), SSN: shortAt(bytes, 2)}
+}
+
+func iStreamOf(bytes []byte) SkippedStream {
+	return SkippedStream{Stream: shortAt(bytes, 0), IsUnordered: bytes[3]&1 != 0, MID: numberAt(bytes, 4)}
+}
+
+// listOfItems returns the parameters or error causes in the value of a chunk of a type.
+func listOfItems(chunkType ChunkType, value []byte) []byte {
+	switch chunkType {
+	case ChunkInit, ChunkInitAck:
+		if len(value) >= 16 {
+			return value[16:]
+		}
+	case ChunkHeartbeat, ChunkHeartbeatAck, ChunkAbort, ChunkError, ChunkReConfig:
+		return value
+	}
+	return nil
 }

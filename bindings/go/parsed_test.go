@@ -34,6 +34,7 @@ func isRead(t *testing.T, parsed *davgyuti.Parsed, packet davgyuti.Packet, polic
 		equal(t, what, []interface{}{chunk.Type, chunk.Flags, chunk.Value, chunk.Offset, chunk.NextOffset, chunk.Bytes()},
 			[]interface{}{wanted.Type, wanted.Flags, wanted.Value, wanted.Offset, wanted.NextOffset, wanted.Bytes()})
 		equal(t, what, numbersOf(chunk), numbersOf(wanted))
+		equal(t, what, listsOf(chunk), listsOf(wanted))
 		equal(t, what, append([]davgyuti.GapAckBlock(nil), parsed.GapAckBlocks(i)...), wanted.GapAckBlocks().Slice())
 		equal(t, what, append([]uint32(nil), parsed.DuplicateTSNs(i)...), wanted.DuplicateTSNs().Slice())
 		equal(t, what, append([]davgyuti.SkippedStream(nil), parsed.SkippedStreams(i)...), wanted.SkippedStreams().Slice())
@@ -58,6 +59,11 @@ func numbersOf(chunk davgyuti.Chunk) (all []interface{}) {
 	shutdown, isShutdown := chunk.Shutdown()
 	forwardTSN, isForwardTSN := chunk.ForwardTSN()
 	return append(all, data, isData, sack, isSACK, init, isInit, shutdown, isShutdown, forwardTSN, isForwardTSN)
+}
+
+func listsOf(chunk davgyuti.Chunk) (all []interface{}) {
+	return append(all, chunk.GapAckBlocks().Slice(), chunk.DuplicateTSNs().Slice(), chunk.SkippedStreams().Slice(),
+		chunk.Parameters().Slice(), chunk.Causes().Slice())
 }
 
 var policies = []davgyuti.Policy{{}, {AnyChecksum: true}, {ZeroChecksum: true}, {AllowedZeroChecksum: true}, {StrictPadding: true}}
@@ -104,6 +110,37 @@ func TestParsed(t *testing.T) {
 	}
 	if accepted < 300 || accepted > 2700 {
 		t.Errorf("%d of 3000 are accepted", accepted)
+	}
+}
+
+// Whatever becomes of a packet that was read, and of its chunks: nothing panics.
+func TestParsedChanged(t *testing.T) {
+	var parsed davgyuti.Parsed
+	random := rand.New(rand.NewSource(3))
+	for round := 0; round < 2000; round++ {
+		packet := sealed(strings.Join(bare, "") + "c0000010 0000000a 0001 0002 0003 0004 c2000010 0000000a 0001 0001 00000002")
+		equal(t, "read", parsed.Read(packet, davgyuti.Policy{}), nil)
+		for change := 0; change < 40; change++ {
+			packet[random.Intn(len(packet))] = byte(random.Intn(256))
+		}
+		for i := 0; i < parsed.Len(); i++ {
+			chunk := parsed.Chunk(i)
+			if random.Intn(2) == 0 {
+				chunk.Type, chunk.Value = davgyuti.ChunkType(random.Intn(16)*random.Intn(14)), chunk.Value[:random.Intn(len(chunk.Value)+1)]
+				chunk.Offset += random.Intn(100) - 50
+			}
+			_, _ = append(numbersOf(chunk), listsOf(chunk)...), chunk.Bytes()
+			for _, parameter := range chunk.Parameters().Slice() {
+				_, _ = parameter.ReConfig()
+				_, _ = parameter.Registered()
+			}
+			for k := 0; k < parsed.ParameterCount(i); k++ {
+				_ = parsed.Parameter(i, k).ResetStreams().Slice()
+			}
+			for k := 0; k < parsed.CauseCount(i); k++ {
+				_ = parsed.Cause(i, k).MissingParameters().Slice()
+			}
+		}
 	}
 }
 

@@ -6,6 +6,7 @@ package davgyuti
 import "C"
 
 import (
+	"encoding/binary"
 	"fmt"
 	"hash/crc32"
 	"math/bits"
@@ -33,14 +34,12 @@ type Policy struct {
 	StrictPadding bool
 }
 
-// c returns the policy for a packet.
-func (policy Policy) c(p Packet) C.struct_dcsctp_policy {
-	isAllowed := policy.AllowedZeroChecksum && len(p) >= FirstChunk && len(p) <= largest &&
-		string(p[8:FirstChunk]) == "\x00\x00\x00\x00" && !p.NeedsChecksum()
-	return C.struct_dcsctp_policy{
-		any_checksum:   C.bool(policy.AnyChecksum),
-		zero_checksum:  C.bool(policy.ZeroChecksum || isAllowed),
-		strict_padding: C.bool(policy.StrictPadding),
+func (policy Policy) c() C.struct_go_policy {
+	return C.struct_go_policy{
+		any_checksum:          C.bool(policy.AnyChecksum),
+		zero_checksum:         C.bool(policy.ZeroChecksum),
+		allowed_zero_checksum: C.bool(policy.AllowedZeroChecksum),
+		strict_padding:        C.bool(policy.StrictPadding),
 	}
 }
 
@@ -67,7 +66,7 @@ func (p Packet) Check(policy Policy) error {
 }
 
 func (p Packet) firstFault(policy Policy) *Error {
-	result := C.go_first_fault(bytesOf(p), C.size_t(len(p)), policy.word(p), policy.c(p))
+	result := C.go_first_fault(bytesOf(p), C.size_t(len(p)), policy.word(p), policy.c())
 	if result.code == C.DCSCTP_OK {
 		return nil
 	}
@@ -76,14 +75,26 @@ func (p Packet) firstFault(policy Policy) *Error {
 
 // IsValid returns whether Check returns nil.
 func (p Packet) IsValid(policy Policy) bool {
-	return C.go_check(bytesOf(p), C.size_t(len(p)), policy.word(p), policy.c(p)) == C.DCSCTP_OK
+	return C.go_check(bytesOf(p), C.size_t(len(p)), policy.word(p), policy.c()) == C.DCSCTP_OK
 }
 
 // castagnoli is the table of CRC32c, which hash/crc32 computes by the processor's own instructions where it has them.
 var castagnoli = crc32.MakeTable(crc32.Castagnoli)
 
-// zeros stand for the checksum field.
-var zeros = make([]byte, FirstChunk-8)
+// headers has what each byte of ports and tag adds to the CRC32c of the header with zeros in its field: one call of hash/crc32
+// for the rest takes half of the time of three.
+var headers = func() (headers [8][256]uint32) {
+	for value := range headers[0] {
+		sum := uint32(value)
+		for following := 0; following < FirstChunk; following++ {
+			sum = castagnoli[byte(sum)] ^ sum>>8
+			if following >= 4 {
+				headers[FirstChunk-1-following][value] = sum
+			}
+		}
+	}
+	return headers
+}()
 
 // Word computes what the checksum field has to be (section 6.8): the packet's CRC32c over zeros in the field, as the number
 // that Header.Checksum has to be. It is 0 for fewer than 12 bytes.
@@ -91,8 +102,9 @@ func (p Packet) Word() uint32 {
 	if len(p) < FirstChunk {
 		return 0
 	}
-	sum := crc32.Update(crc32.Checksum(p[:8], castagnoli), castagnoli, zeros)
-	return bits.ReverseBytes32(crc32.Update(sum, castagnoli, p[FirstChunk:]))
+	sum := headers[0][^p[0]] ^ headers[1][^p[1]] ^ headers[2][^p[2]] ^ headers[3][^p[3]] ^
+		headers[4][p[4]] ^ headers[5][p[5]] ^ headers[6][p[6]] ^ headers[7][p[7]]
+	return bits.ReverseBytes32(crc32.Update(^sum, castagnoli, p[FirstChunk:]))
 }
 
 // NeedsChecksum returns whether the packet has to have its CRC32c also where a checksum of zero was negotiated (RFC 9653
@@ -105,7 +117,7 @@ func (p Packet) NeedsChecksum() bool {
 // that of Check, or ErrNoMemory.
 func (p Packet) Print(policy Policy) (string, error) {
 	text, err := p.write(policy, func(word C.uint32_t, output []byte) C.struct_go_result {
-		return C.go_print(bytesOf(p), C.size_t(len(p)), word, policy.c(p), bytesOf(output), C.size_t(len(output)))
+		return C.go_print(bytesOf(p), C.size_t(len(p)), word, policy.c(), bytesOf(output), C.size_t(len(output)))
 	})
 	return string(text), err
 }
@@ -114,7 +126,7 @@ func (p Packet) Print(policy Policy) (string, error) {
 // inside of something is two blanks deeper. The error is that of Check.
 func (p Packet) Report(policy Policy) (string, error) {
 	text, err := p.write(policy, func(word C.uint32_t, output []byte) C.struct_go_result {
-		return C.go_report(bytesOf(p), C.size_t(len(p)), word, policy.c(p), bytesOf(output), C.size_t(len(output)))
+		return C.go_report(bytesOf(p), C.size_t(len(p)), word, policy.c(), bytesOf(output), C.size_t(len(output)))
 	})
 	return string(text), err
 }
@@ -134,7 +146,7 @@ func (p Packet) String() string {
 // same. Its checksum is 0. The error is that of Check, or ErrTooLong.
 func (p Packet) Canonical(policy Policy) ([]byte, error) {
 	return p.write(policy, func(word C.uint32_t, output []byte) C.struct_go_result {
-		return C.go_canonical(bytesOf(p), C.size_t(len(p)), word, policy.c(p), bytesOf(output), C.size_t(len(output)))
+		return C.go_canonical(bytesOf(p), C.size_t(len(p)), word, policy.c(), bytesOf(output), C.size_t(len(output)))
 	})
 }
 
@@ -237,6 +249,18 @@ func listed[T any](fill func(to unsafe.Pointer, room C.size_t) C.size_t) *Iterat
 	}}
 }
 
+// inPlace goes over a list whose items have a size.
+func inPlace[T any](list []byte, size int, of func([]byte) T) *Iterator[T] {
+	return &Iterator[T]{read: func() (none T, isThere bool) {
+		if len(list) < size {
+			return none, false
+		}
+		it := list
+		list = list[size:]
+		return of(it), true
+	}}
+}
+
 // part returns bytes of a packet; nil where they aren't there.
 func (p Packet) part(offset, size C.size_t) []byte {
 	if length := C.size_t(len(p)); offset > length || size > length-offset {
@@ -248,15 +272,30 @@ func (p Packet) part(offset, size C.size_t) []byte {
 // withHeader returns a value, and the four bytes of its header before it; nil where they aren't there.
 func (p Packet) withHeader(offset, size C.size_t) []byte { return p.part(offset-4, size+4) }
 
-// A Chunk is a chunk of a packet (section 3.2), where it lies. One of a Parsed has its numbers too: to read them calls no C.
+// A Chunk is a chunk of a packet (section 3.2), where it lies. Of one of a Parsed its numbers and lists are read without calling C.
 type Chunk struct {
 	Type       ChunkType
 	Flags      uint8
 	Value      []byte // what follows its header of four bytes, without padding
 	Offset     int    // where it begins in the packet
 	NextOffset int    // where the next one begins
-	packet     Packet
-	row        *C.struct_dcsctp_row // of a Parsed
+	bytes      *byte  // of the packet
+	size       int    // how many they are; of a chunk of a Parsed the complement of that
+}
+
+// (Without a slice for its packet, and one more field, a chunk has the nine words that Go passes in registers.)
+
+func (chunk Chunk) packet() Packet {
+	if chunk.size < 0 {
+		return unsafe.Slice(chunk.bytes, ^chunk.size)
+	}
+	return unsafe.Slice(chunk.bytes, chunk.size)
+}
+
+// in returns the same chunk in another packet.
+func (chunk Chunk) in(p Packet) Chunk {
+	chunk.bytes, chunk.size = (*byte)(first(p)), len(p)
+	return chunk
 }
 
 // Chunks goes over the chunks. If the bytes are a packet, these are all; else they end where there is no whole chunk.
@@ -277,25 +316,24 @@ func (p Packet) ChunkAt(offset int) (Chunk, bool) {
 	if !read.is_there {
 		return Chunk{}, false
 	}
-	return p.chunk(&read.it, nil), true
+	return p.chunk(&read.it), true
 }
 
 // chunk returns the chunk that C has read.
-func (p Packet) chunk(c *C.struct_dcsctp_chunk, row *C.struct_dcsctp_row) Chunk {
+func (p Packet) chunk(c *C.struct_dcsctp_chunk) Chunk {
 	return Chunk{
 		Type:       ChunkType(c._type),
 		Flags:      uint8(c.flags),
 		Value:      p.part(c.value_offset, c.value_size),
 		Offset:     int(c.value_offset) - 4,
 		NextOffset: int(c.next),
-		packet:     p,
-		row:        row,
-	}
+	}.in(p)
 }
 
 // inC returns the packet's bytes and the chunk as C takes them.
 func (chunk Chunk) inC() (*C.uint8_t, C.size_t, C.struct_dcsctp_chunk) {
-	return bytesOf(chunk.packet), C.size_t(len(chunk.packet)), C.struct_dcsctp_chunk{
+	packet := chunk.packet()
+	return bytesOf(packet), C.size_t(len(packet)), C.struct_dcsctp_chunk{
 		_type:        C.uint8_t(chunk.Type),
 		flags:        C.uint8_t(chunk.Flags),
 		value_offset: C.size_t(chunk.Offset) + 4,
@@ -328,7 +366,7 @@ func ReadChunk(bytes []byte) (Chunk, error) {
 // Bytes returns the whole chunk, its header and its value, without padding, where it lies in the packet: what the cause
 // Unrecognized Chunk Type holds (section 3.3.10.6).
 func (chunk Chunk) Bytes() []byte {
-	return chunk.packet.part(C.size_t(chunk.Offset), C.size_t(len(chunk.Value))+4)
+	return chunk.packet().part(C.size_t(chunk.Offset), C.size_t(len(chunk.Value))+4)
 }
 
 // String returns its type, its flags and the size of its value, as in "DATA flags=0x03 size=20".
@@ -342,24 +380,24 @@ func (chunk Chunk) IsTagReflected() bool {
 }
 
 // Data reads DATA or I-DATA; false for another type.
-func (chunk Chunk) Data() (Data, bool) {
-	if row := chunk.row; row != nil {
-		if chunk.Type != ChunkData && chunk.Type != ChunkIData {
-			return Data{}, false
+func (chunk Chunk) Data() (data Data, ok bool) {
+	if chunk.size < 0 {
+		value, last := chunk.Value, uint32(0)
+		switch {
+		case chunk.Type == ChunkData && len(value) >= 12:
+			data.SSN, data.PPID, data.Payload = shortAt(value, 6), numberAt(value, 8), value[12:]
+		case chunk.Type == ChunkIData && len(value) >= 16:
+			data.MID, last, data.Payload = numberAt(value, 8), numberAt(value, 12), value[16:]
+			if data.PPID = last; chunk.Flags&2 == 0 {
+				data.PPID, data.FSN = 0, last
+			}
+		default:
+			return data, false
 		}
-		return Data{
-			TSN:          uint32(row.tsn),
-			MID:          uint32(row.mid),
-			FSN:          uint32(row.fsn),
-			PPID:         uint32(row.ppid),
-			Stream:       uint16(row.stream),
-			SSN:          uint16(row.ssn),
-			IsUnordered:  bool(row.is_unordered),
-			IsBeginning:  bool(row.is_beginning),
-			IsEnd:        bool(row.is_end),
-			ImmediateAck: bool(row.immediate_ack),
-			Payload:      chunk.packet.part(row.rest_offset, row.rest_size),
-		}, true
+		data.TSN, data.Stream = numberAt(value, 0), shortAt(value, 4)
+		data.IsEnd, data.IsBeginning = chunk.Flags&1 != 0, chunk.Flags&2 != 0
+		data.IsUnordered, data.ImmediateAck = chunk.Flags&4 != 0, chunk.Flags&8 != 0
+		return data, true
 	}
 	bytes, length, c := chunk.inC()
 	read := C.go_data(bytes, length, c)
@@ -378,17 +416,17 @@ func (chunk Chunk) Data() (Data, bool) {
 		IsBeginning:  bool(it.is_beginning),
 		IsEnd:        bool(it.is_end),
 		ImmediateAck: bool(it.immediate_ack),
-		Payload:      chunk.packet.part(it.payload_offset, it.payload_size),
+		Payload:      chunk.packet().part(it.payload_offset, it.payload_size),
 	}, true
 }
 
 // SACK reads the numbers of a SACK; false for another type.
 func (chunk Chunk) SACK() (SACK, bool) {
-	if row := chunk.row; row != nil {
-		if chunk.Type != ChunkSACK {
+	if value := chunk.Value; chunk.size < 0 {
+		if chunk.Type != ChunkSACK || len(value) < 12 {
 			return SACK{}, false
 		}
-		return SACK{uint32(row.tsn), uint32(row.a_rwnd), int(row.count), int(row.duplicate_count)}, true
+		return SACK{numberAt(value, 0), numberAt(value, 4), int(shortAt(value, 8)), int(shortAt(value, 10))}, true
 	}
 	bytes, length, c := chunk.inC()
 	read := C.go_sack(bytes, length, c)
@@ -402,14 +440,28 @@ func (chunk Chunk) SACK() (SACK, bool) {
 
 // GapAckBlocks goes over the gap ack blocks of a SACK; another type has none.
 func (chunk Chunk) GapAckBlocks() *Iterator[GapAckBlock] {
+	if chunk.size < 0 {
+		blocks, _ := listsOfSACK(chunk.Type, chunk.Value)
+		return inPlace(blocks, 4, blockOf)
+	}
 	bytes, length, c := chunk.inC()
 	return listed[GapAckBlock](func(to unsafe.Pointer, room C.size_t) C.size_t {
 		return C.go_gap_ack_blocks(bytes, length, c, to, room)
 	})
 }
 
+// fillBlocks reads the gap ack blocks of a SACK to a slice of as many.
+func (chunk Chunk) fillBlocks(to []GapAckBlock) {
+	bytes, length, c := chunk.inC()
+	C.go_gap_ack_blocks(bytes, length, c, first(to), C.size_t(len(to)))
+}
+
 // DuplicateTSNs goes over the duplicate TSNs of a SACK; another type has none.
 func (chunk Chunk) DuplicateTSNs() *Iterator[uint32] {
+	if chunk.size < 0 {
+		_, duplicates := listsOfSACK(chunk.Type, chunk.Value)
+		return inPlace(duplicates, 4, binary.BigEndian.Uint32)
+	}
 	bytes, length, c := chunk.inC()
 	return listed[uint32](func(to unsafe.Pointer, room C.size_t) C.size_t {
 		return C.go_duplicate_tsns(bytes, length, c, to, room)
@@ -424,12 +476,11 @@ func (chunk Chunk) IsValidSACK() bool {
 
 // Init reads the numbers of INIT or INIT ACK; false for another type.
 func (chunk Chunk) Init() (Init, bool) {
-	if row := chunk.row; row != nil {
-		if chunk.Type != ChunkInit && chunk.Type != ChunkInitAck {
+	if value := chunk.Value; chunk.size < 0 {
+		if (chunk.Type != ChunkInit && chunk.Type != ChunkInitAck) || len(value) < 16 {
 			return Init{}, false
 		}
-		return Init{uint32(row.initiate_tag), uint32(row.a_rwnd), uint16(row.outbound_streams), uint16(row.inbound_streams),
-			uint32(row.tsn)}, true
+		return Init{numberAt(value, 0), numberAt(value, 4), shortAt(value, 8), shortAt(value, 10), numberAt(value, 12)}, true
 	}
 	bytes, length, c := chunk.inC()
 	read := C.go_init(bytes, length, c)
@@ -444,11 +495,11 @@ func (chunk Chunk) Init() (Init, bool) {
 
 // Shutdown reads the cumulative TSN ack of SHUTDOWN; false for another type.
 func (chunk Chunk) Shutdown() (cumulativeTSNAck uint32, ok bool) {
-	if row := chunk.row; row != nil {
-		if chunk.Type != ChunkShutdown {
+	if chunk.size < 0 {
+		if chunk.Type != ChunkShutdown || len(chunk.Value) < 4 {
 			return 0, false
 		}
-		return uint32(row.tsn), true
+		return numberAt(chunk.Value, 0), true
 	}
 	bytes, length, c := chunk.inC()
 	read := C.go_shutdown(bytes, length, c)
@@ -457,11 +508,12 @@ func (chunk Chunk) Shutdown() (cumulativeTSNAck uint32, ok bool) {
 
 // ForwardTSN reads the numbers of FORWARD-TSN or I-FORWARD-TSN; false for another type.
 func (chunk Chunk) ForwardTSN() (ForwardTSN, bool) {
-	if row := chunk.row; row != nil {
-		if chunk.Type != ChunkForwardTSN && chunk.Type != ChunkIForwardTSN {
+	if chunk.size < 0 {
+		if (chunk.Type != ChunkForwardTSN && chunk.Type != ChunkIForwardTSN) || len(chunk.Value) < 4 {
 			return ForwardTSN{}, false
 		}
-		return ForwardTSN{uint32(row.tsn), int(row.count)}, true
+		list, size, _ := listOfStreams(chunk.Type, chunk.Value)
+		return ForwardTSN{numberAt(chunk.Value, 0), len(list) / size}, true
 	}
 	bytes, length, c := chunk.inC()
 	read := C.go_forward_tsn(bytes, length, c)
@@ -473,28 +525,18 @@ func (chunk Chunk) ForwardTSN() (ForwardTSN, bool) {
 
 // SkippedStreams goes over the streams of FORWARD-TSN or I-FORWARD-TSN; another type has none.
 func (chunk Chunk) SkippedStreams() *Iterator[SkippedStream] {
+	if chunk.size < 0 {
+		return inPlace(listOfStreams(chunk.Type, chunk.Value))
+	}
 	bytes, length, c := chunk.inC()
 	return listed[SkippedStream](func(to unsafe.Pointer, room C.size_t) C.size_t {
 		return C.go_skipped_streams(bytes, length, c, to, room)
 	})
 }
 
-// item is what parameters and error causes have.
-type item struct {
-	packet Packet
-	c      C.struct_dcsctp_parameter
-}
-
-// items goes over the parameters, or the error causes, if this is what the chunk has.
-func items[T any](chunk Chunk, areThere bool, value func(item, int) T) *Iterator[T] {
-	bytes, length, c := chunk.inC()
-	return itemsOf(chunk.packet, areThere, func(to unsafe.Pointer, room C.size_t) C.size_t {
-		return C.go_parameters(bytes, length, c, to, room)
-	}, value)
-}
-
-// itemsOf goes over the items of a list of a packet that C writes, if they are there.
-func itemsOf[T any](packet Packet, areThere bool, fill func(unsafe.Pointer, C.size_t) C.size_t, value func(item, int) T) *Iterator[T] {
+// itemsOf goes over the parameters or error causes of a list that C writes, if they are there.
+func itemsOf[T any](packet Packet, areThere bool, fill func(unsafe.Pointer, C.size_t) C.size_t,
+	of func(Packet, uint16, int, []byte) T) *Iterator[T] {
 	if !areThere {
 		return &Iterator[T]{}
 	}
@@ -504,38 +546,63 @@ func itemsOf[T any](packet Packet, areThere bool, fill func(unsafe.Pointer, C.si
 			return none, false
 		}
 		it := all.Value()
-		return value(item{packet, it}, int(it.value_offset)-4), true
+		return of(packet, uint16(it._type), int(it.value_offset)-4, packet.part(it.value_offset, it.value_size)), true
 	}}
 }
 
-// newItem returns one of this type with a copy of this value, in bytes of its own.
-func newItem(itemType uint16, value []byte) (item, error) {
-	size := 4 + len(value)
-	if size > 0xffff {
-		return item{}, ErrBadValue
+// items goes over the parameters, or the error causes, if this is what the chunk has.
+func items[T any](chunk Chunk, areThere bool, of func(Packet, uint16, int, []byte) T) *Iterator[T] {
+	if list := listOfItems(chunk.Type, chunk.Value); chunk.size < 0 {
+		packet, base, next := chunk.packet(), chunk.Offset+4+len(chunk.Value)-len(list), 0
+		return &Iterator[T]{read: func() (none T, isThere bool) {
+			it, isThere := placeAt(list, next)
+			if !isThere || !areThere {
+				return none, false
+			}
+			next = it.next()
+			return of(packet, shortAt(list, int(it.offset)), base+int(it.offset), it.value(list)), true
+		}}
 	}
-	bytes := append([]byte{byte(itemType >> 8), byte(itemType), byte(size >> 8), byte(size)}, value...)
-	return item{bytes, C.struct_dcsctp_parameter{
-		_type:        C.uint16_t(itemType),
-		value_offset: 4,
-		value_size:   C.size_t(len(value)),
-		next:         C.size_t(size),
-	}}, nil
+	bytes, length, c := chunk.inC()
+	return itemsOf(chunk.packet(), areThere, func(to unsafe.Pointer, room C.size_t) C.size_t {
+		return C.go_parameters(bytes, length, c, to, room)
+	}, of)
 }
 
-func (it item) bytes() (*C.uint8_t, C.size_t) { return bytesOf(it.packet), C.size_t(len(it.packet)) }
+// newItem returns the bytes of a parameter or an error cause.
+func newItem(itemType uint16, value []byte) (Packet, error) {
+	size := 4 + len(value)
+	if size > 0xffff {
+		return nil, ErrBadValue
+	}
+	packet := append(Packet{byte(itemType >> 8), byte(itemType), byte(size >> 8), byte(size)}, value...)
+	return packet[:size:size], nil
+}
 
-func (it item) value() []byte { return it.packet.part(it.c.value_offset, it.c.value_size) }
+// itemInC returns the bytes of a packet and a parameter or an error cause of it as C takes them.
+func itemInC(packet Packet, itemType uint16, offset int, value []byte) (*C.uint8_t, C.size_t, C.struct_dcsctp_parameter) {
+	return bytesOf(packet), C.size_t(len(packet)), C.struct_dcsctp_parameter{
+		_type:        C.uint16_t(itemType),
+		value_offset: C.size_t(offset) + 4,
+		value_size:   C.size_t(len(value)),
+		next:         C.size_t(offset + 4 + len(value)),
+	}
+}
 
-func (it item) whole() []byte { return it.packet.withHeader(it.c.value_offset, it.c.value_size) }
+func (parameter Parameter) inC() (*C.uint8_t, C.size_t, C.struct_dcsctp_parameter) {
+	return itemInC(parameter.packet, uint16(parameter.Type), parameter.Offset, parameter.Value)
+}
 
-func (it item) number() (uint32, bool) {
-	bytes, length := it.bytes()
-	read := C.go_number(bytes, length, it.c)
+func (cause Cause) inC() (*C.uint8_t, C.size_t, C.struct_dcsctp_parameter) {
+	return itemInC(cause.packet, uint16(cause.Code), cause.Offset, cause.Value)
+}
+
+func number(bytes *C.uint8_t, length C.size_t, item C.struct_dcsctp_parameter) (uint32, bool) {
+	read := C.go_number(bytes, length, item)
 	return uint32(read.it), bool(read.is_there)
 }
 
-func (chunk Chunk) hasCauses() bool { return chunk.Type == ChunkAbort || chunk.Type == ChunkError }
+func (t ChunkType) hasCauses() bool { return t == ChunkAbort || t == ChunkError }
 
 // A Parameter is a parameter of a chunk (section 3.2.1), where it lies. Its value is what it holds: a State Cookie the
 // cookie, a Heartbeat Info the info, Supported Extensions a ChunkType in each byte.
@@ -543,28 +610,33 @@ type Parameter struct {
 	Type   ParameterType
 	Value  []byte // without its header and padding
 	Offset int    // where it begins in the packet
-	item   item
+	packet Packet
 }
 
 // Parameters goes over the parameters; ABORT and ERROR, and types that have none, have none.
 func (chunk Chunk) Parameters() *Iterator[Parameter] {
-	return items(chunk, !chunk.hasCauses(), parameterOf)
+	return items(chunk, !chunk.Type.hasCauses(), parameterOf)
 }
 
-func parameterOf(it item, offset int) Parameter {
-	return Parameter{Type: ParameterType(it.c._type), Value: it.value(), Offset: offset, item: it}
+func parameterOf(packet Packet, itemType uint16, offset int, value []byte) Parameter {
+	return Parameter{Type: ParameterType(itemType), Value: value, Offset: offset, packet: packet}
 }
 
 // NewParameter returns a parameter of this type with a copy of this value, which is read as one of a packet is; its Offset is 0.
 // ErrBadValue where it would have more than 65,535 bytes.
 func NewParameter(parameterType ParameterType, value []byte) (Parameter, error) {
-	it, err := newItem(uint16(parameterType), value)
-	return parameterOf(it, 0), err
+	packet, err := newItem(uint16(parameterType), value)
+	if err != nil {
+		return Parameter{}, err
+	}
+	return parameterOf(packet, uint16(parameterType), 0, packet[4:]), nil
 }
 
 // Bytes returns the whole parameter, its header and its value, without padding, where it lies in the packet: what the parameter
 // Unrecognized Parameter of an INIT ACK holds (section 3.3.3.1.2).
-func (parameter Parameter) Bytes() []byte { return parameter.item.whole() }
+func (parameter Parameter) Bytes() []byte {
+	return parameter.packet.withHeader(C.size_t(parameter.Offset)+4, C.size_t(len(parameter.Value)))
+}
 
 // String returns its type and the size of its value, as in "State Cookie size=4".
 func (parameter Parameter) String() string {
@@ -573,12 +645,12 @@ func (parameter Parameter) String() string {
 
 // Number reads a value that is one number of four bytes, whatever its type: the method of Zero Checksum Acceptable
 // (RFC 9653 section 4). False where the value has another size.
-func (parameter Parameter) Number() (uint32, bool) { return parameter.item.number() }
+func (parameter Parameter) Number() (uint32, bool) { return number(parameter.inC()) }
 
 // ReConfig reads a request or the response of RE-CONFIG; false for another type.
 func (parameter Parameter) ReConfig() (ReConfig, bool) {
-	bytes, length := parameter.item.bytes()
-	read := C.go_re_config(bytes, length, parameter.item.c)
+	bytes, length, c := parameter.inC()
+	read := C.go_re_config(bytes, length, c)
 	it := read.it
 	return ReConfig{
 		Type:            ParameterType(it._type),
@@ -597,9 +669,9 @@ func (parameter Parameter) ReConfig() (ReConfig, bool) {
 // ResetStreams goes over the streams of an Outgoing or Incoming SSN Reset; another type has none. A request that names no
 // stream is for all of them.
 func (parameter Parameter) ResetStreams() *Iterator[uint16] {
-	bytes, length := parameter.item.bytes()
+	bytes, length, c := parameter.inC()
 	return listed[uint16](func(to unsafe.Pointer, room C.size_t) C.size_t {
-		return C.go_reset_streams(bytes, length, parameter.item.c, to, room)
+		return C.go_reset_streams(bytes, length, c, to, room)
 	})
 }
 
@@ -609,38 +681,43 @@ type Cause struct {
 	Code   CauseCode
 	Value  []byte // without its header and padding
 	Offset int    // where it begins in the packet
-	item   item
+	packet Packet
 }
 
 // Causes goes over the error causes of ABORT or ERROR; another type has none.
 func (chunk Chunk) Causes() *Iterator[Cause] {
-	return items(chunk, chunk.hasCauses(), causeOf)
+	return items(chunk, chunk.Type.hasCauses(), causeOf)
 }
 
-func causeOf(it item, offset int) Cause {
-	return Cause{Code: CauseCode(it.c._type), Value: it.value(), Offset: offset, item: it}
+func causeOf(packet Packet, itemType uint16, offset int, value []byte) Cause {
+	return Cause{Code: CauseCode(itemType), Value: value, Offset: offset, packet: packet}
 }
 
 // NewCause returns an error cause of this code with a copy of this value, likewise.
 func NewCause(code CauseCode, value []byte) (Cause, error) {
-	it, err := newItem(uint16(code), value)
-	return causeOf(it, 0), err
+	packet, err := newItem(uint16(code), value)
+	if err != nil {
+		return Cause{}, err
+	}
+	return causeOf(packet, uint16(code), 0, packet[4:]), nil
 }
 
 // Bytes returns the whole error cause, its header and its value, without padding, where it lies in the packet.
-func (cause Cause) Bytes() []byte { return cause.item.whole() }
+func (cause Cause) Bytes() []byte {
+	return cause.packet.withHeader(C.size_t(cause.Offset)+4, C.size_t(len(cause.Value)))
+}
 
 // String returns its code and the size of its value, as in "Protocol Violation size=3".
 func (cause Cause) String() string { return fmt.Sprintf("%v size=%d", cause.Code, len(cause.Value)) }
 
 // Number reads a value that is one number of four bytes, whatever its code: the TSN of No User Data (section 3.3.10.9).
 // False where the value has another size.
-func (cause Cause) Number() (uint32, bool) { return cause.item.number() }
+func (cause Cause) Number() (uint32, bool) { return number(cause.inC()) }
 
 // MissingParameters goes over the types of the cause Missing Mandatory Parameter (section 3.3.10.2); another code has none.
 func (cause Cause) MissingParameters() *Iterator[ParameterType] {
-	bytes, length := cause.item.bytes()
+	bytes, length, c := cause.inC()
 	return listed[ParameterType](func(to unsafe.Pointer, room C.size_t) C.size_t {
-		return C.go_missing_parameters(bytes, length, cause.item.c, to, room)
+		return C.go_missing_parameters(bytes, length, c, to, room)
 	})
 }

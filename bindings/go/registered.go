@@ -72,21 +72,19 @@ func (all layouts) of(number uint16) ([]field, bool) {
 // these values. A list is looked at one level deep.
 func (chunk Chunk) Registered() (Registered, bool) {
 	bytes, length, c := chunk.inC()
-	return registered(chunk.packet, registeredChunks, uint16(chunk.Type), C.go_registered_chunk(bytes, length, c))
+	return registered(chunk.packet(), registeredChunks, uint16(chunk.Type), C.go_registered_chunk(bytes, length, c))
 }
 
 // Registered reads a parameter of the registry that has no method of its own here.
 func (parameter Parameter) Registered() (Registered, bool) {
-	bytes, length := parameter.item.bytes()
-	return registered(parameter.item.packet, registeredParameters, uint16(parameter.Type),
-		C.go_registered_parameter(bytes, length, parameter.item.c))
+	bytes, length, c := parameter.inC()
+	return registered(parameter.packet, registeredParameters, uint16(parameter.Type), C.go_registered_parameter(bytes, length, c))
 }
 
 // Registered reads an error cause of the registry that has no method of its own here.
 func (cause Cause) Registered() (Registered, bool) {
-	bytes, length := cause.item.bytes()
-	return registered(cause.item.packet, registeredCauses, uint16(cause.Code),
-		C.go_registered_cause(bytes, length, cause.item.c))
+	bytes, length, c := cause.inC()
+	return registered(cause.packet, registeredCauses, uint16(cause.Code), C.go_registered_cause(bytes, length, c))
 }
 
 // registered returns what C has read.

@@ -218,8 +218,7 @@ func (b *Builder) AddMissingParameters(types []ParameterType) error {
 // program stops: the Offset of the parameter at which processing stops, or of the end of the INIT's value if it stops at none.
 func (b *Builder) AddUnrecognizedParameters(init Chunk, known []ParameterType) (int, error) {
 	to, room := b.to()
-	init.packet = b.apart(init.packet)
-	from, length, chunk := init.inC()
+	from, length, chunk := init.in(b.apart(init.packet())).inC()
 	reported := C.go_add_unrecognized_parameters(to, room, b.size, b.start, from, length, &chunk, (*C.uint16_t)(first(known)),
 		C.size_t(len(known)))
 	err := b.extended(reported.result)
@@ -231,8 +230,7 @@ func (b *Builder) AddUnrecognizedParameters(init Chunk, known []ParameterType) (
 // of an INIT ACK begins with COOKIE ECHO.
 func (b *Builder) AddUnrecognizedParametersError(came Chunk, known []ParameterType) (int, error) {
 	to, room := b.to()
-	came.packet = b.apart(came.packet)
-	from, length, chunk := came.inC()
+	from, length, chunk := came.in(b.apart(came.packet())).inC()
 	reported := C.go_add_unrecognized_parameters_error(to, room, b.size, from, length, &chunk, (*C.uint16_t)(first(known)),
 		C.size_t(len(known)))
 	err := b.reported(reported.result)
@@ -256,8 +254,8 @@ func (b *Builder) AddUnrecognizedChunks(came Packet, known []ChunkType) (int, er
 // with the addresses that an INIT adds to those of an association, known, as they are in the INIT: see Chunk.AddsAddresses.
 func (b *Builder) AddNewAddresses(init Chunk, known []byte) error {
 	to, room := b.to()
-	init.packet, known = b.apart(init.packet), b.apart(known)
-	from, length, chunk := init.inC()
+	known = b.apart(known)
+	from, length, chunk := init.in(b.apart(init.packet())).inC()
 	return b.extended(C.go_add_new_addresses(to, room, b.size, b.start, from, length, &chunk, bytesOf(known),
 		C.size_t(len(known))))
 }
