@@ -380,8 +380,8 @@ const U64 = new Struct({ it: 'u64' });
 const SIZE = new Struct({ it: 'size' });
 
 // The bytes that are read; those that are written; the packet that is built; a struct that a function takes, and one that it
-// writes; the rows of the packet that is read, of which each chunk has one; its lists; and its parameters or error causes.
-const [input, output, packet, taken, answer, rows, list, items] = Array.from({ length: 8 }, () => new Block());
+// writes; the lists that are read; and parameters or error causes.
+const [input, output, packet, taken, answer, list, items] = Array.from({ length: 7 }, () => new Block());
 // The packet of `read` that the input has.
 let inInput = null;
 const STRUCT = 128;
@@ -427,8 +427,7 @@ function found(struct, name, ...words) {
 
 /** Where the fields of a struct are. */
 const placesOf = struct => Object.freeze(Object.fromEntries(struct.fields.map(({ name, at }) => [name, at])));
-const [POLICY, CHUNK, PARAMETER, BLOCK, ROW, READ] =
-  ['policy', 'chunk', 'parameter', 'gapAckBlock', 'row', 'packet'].map(name => placesOf(structs[name]));
+const [POLICY, CHUNK, PARAMETER, BLOCK] = ['policy', 'chunk', 'parameter', 'gapAckBlock'].map(name => placesOf(structs[name]));
 
 /** The words for a packet, its checksum's word, and a policy. */
 function asked(bytes, policy) {
@@ -613,60 +612,87 @@ function chunks(bytes) {
 
 // ---- reading a packet in one call
 
-const ROW_SIZE = structs.row.size, PARAMETER_SIZE = structs.parameter.size, HEADER = 4;
+const PARAMETER_SIZE = structs.parameter.size, HEADER = 4, SACK_LIST = 12;
 
-/** What `read` keeps of a row besides the chunk: an object of its type's numbers, whose lists and views come when they are asked for. */
-function numbersOfRow(memory, at, type) {
+/** What `read` keeps of a chunk's value besides where it is: an object of its type's numbers, whose lists and views come when they are
+    asked for. */
+function numbersIn(memory, type, flags, at, valueOffset) {
   switch (type) {
     case ChunkType.DATA:
-    case ChunkType.I_DATA:
+    case ChunkType.I_DATA: {
+      const isIData = type === ChunkType.I_DATA, isBeginning = (flags & BITS.isBeginning) !== 0;
+      const last = memory.getUint32(at + (isIData ? 12 : 8));
       return {
-        tsn: memory.getUint32(at + ROW.tsn, true),
-        mid: memory.getUint32(at + ROW.mid, true),
-        fsn: memory.getUint32(at + ROW.fsn, true),
-        ppid: memory.getUint32(at + ROW.ppid, true),
-        stream: memory.getUint16(at + ROW.stream, true),
-        ssn: memory.getUint16(at + ROW.ssn, true),
-        isUnordered: memory.getUint8(at + ROW.isUnordered) !== 0,
-        isBeginning: memory.getUint8(at + ROW.isBeginning) !== 0,
-        isEnd: memory.getUint8(at + ROW.isEnd) !== 0,
-        immediateAck: memory.getUint8(at + ROW.immediateAck) !== 0,
+        tsn: memory.getUint32(at),
+        mid: isIData ? memory.getUint32(at + 8) : 0,
+        fsn: isIData && !isBeginning ? last : 0,
+        ppid: isIData && !isBeginning ? 0 : last,
+        stream: memory.getUint16(at + 4),
+        ssn: isIData ? 0 : memory.getUint16(at + 6),
+        isUnordered: (flags & BITS.isUnordered) !== 0,
+        isBeginning,
+        isEnd: (flags & BITS.isEnd) !== 0,
+        immediateAck: (flags & BITS.immediateAck) !== 0,
         // (where it begins, until it is asked for)
-        payload: memory.getUint32(at + ROW.restOffset, true),
+        payload: valueOffset + (isIData ? 16 : 12),
       };
+    }
     case ChunkType.INIT:
     case ChunkType.INIT_ACK:
       return {
-        initiateTag: memory.getUint32(at + ROW.initiateTag, true),
-        aRwnd: memory.getUint32(at + ROW.aRwnd, true),
-        outboundStreams: memory.getUint16(at + ROW.outboundStreams, true),
-        inboundStreams: memory.getUint16(at + ROW.inboundStreams, true),
-        initialTsn: memory.getUint32(at + ROW.tsn, true),
+        initiateTag: memory.getUint32(at),
+        aRwnd: memory.getUint32(at + 4),
+        outboundStreams: memory.getUint16(at + 8),
+        inboundStreams: memory.getUint16(at + 10),
+        initialTsn: memory.getUint32(at + 12),
       };
     case ChunkType.SACK:
       return {
-        cumulativeTsnAck: memory.getUint32(at + ROW.tsn, true),
-        aRwnd: memory.getUint32(at + ROW.aRwnd, true),
-        blocks: null,
-        duplicates: null,
+        cumulativeTsnAck: memory.getUint32(at),
+        aRwnd: memory.getUint32(at + 4),
+        // (how many there are, until they are asked for)
+        blocks: memory.getUint16(at + 8),
+        duplicates: memory.getUint16(at + 10),
         isInOrder: false,
       };
     case ChunkType.SHUTDOWN:
-      return { cumulativeTsnAck: memory.getUint32(at + ROW.tsn, true) };
+      return { cumulativeTsnAck: memory.getUint32(at) };
     case ChunkType.FORWARD_TSN:
     case ChunkType.I_FORWARD_TSN:
-      return { newCumulativeTsn: memory.getUint32(at + ROW.tsn, true), streams: null };
+      return { newCumulativeTsn: memory.getUint32(at), streams: null };
     default:
       return null;
   }
 }
 
-/** A view of a packet that `read` gave. (Of an array of that class itself there is one in less time.) */
-function partOf({ bytes, isPlain }, offset, size) {
-  if (size === 0)
-    return NOTHING;
-  return isPlain ? bytes.subarray(offset, offset + size) : part(bytes, offset, size);
+const shortAt = (bytes, at) => bytes[at] << 8 | bytes[at + 1];
+const numberAt = (bytes, at) => (bytes[at] << 24 | bytes[at + 1] << 16 | bytes[at + 2] << 8 | bytes[at + 3]) >>> 0;
+
+/** Reads the lists of a SACK that was accepted, which begin at a place. */
+function fillSack(it, bytes, at) {
+  const blocks = new Array(it.blocks), duplicates = new Array(it.duplicates);
+  let isInOrder = true;
+  for (let i = 0, before = 0; i < blocks.length; i++, at += 4) {
+    const start = shortAt(bytes, at), end = shortAt(bytes, at + 2);
+    blocks[i] = { start, end };
+    isInOrder &&= start > before + 1 && start <= end;
+    before = end;
+  }
+  for (let i = 0; i < duplicates.length; i++, at += 4)
+    duplicates[i] = numberAt(bytes, at);
+  it.isInOrder = isInOrder;
+  it.duplicates = duplicates;
+  it.blocks = blocks;
 }
+
+/** Where the parameters or error causes begin in a value, of the types that have some. */
+const LIST_OFFSETS = new Map([
+  [ChunkType.INIT, 16], [ChunkType.INIT_ACK, 16], [ChunkType.HEARTBEAT, 0], [ChunkType.HEARTBEAT_ACK, 0], [ChunkType.ABORT, 0],
+  [ChunkType.ERROR, 0], [ChunkType.RE_CONFIG, 0],
+]);
+
+/** A view of a packet that `read` gave. (Of a buffer that is at hand there is one in half of the time.) */
+const partOf = ({ buffer, base }, offset, size) => (size === 0 ? NOTHING : new Uint8Array(buffer, base + offset, size));
 
 /** Two numbers of 16 bits as one: so has each offset and size in a packet. What `read` gives is kept in few words, as a packet can
     have 16,380 chunks. */
@@ -674,20 +700,19 @@ const both = (high, low) => high << 16 | low;
 const high = it => it >>> 16;
 const low = it => it & 0xffff;
 
-/** A chunk that `read` gives: what its row has, and the packet, whose `bytes` are the caller's. */
+/** A chunk that `read` gives: where it is, its numbers, and the packet, whose `bytes` are the caller's. */
 class RowChunk {
   #packet;
   #kind;
   #place;
   #content;
 
-  // (in each row a size's upper half is 0, as the memory's addresses have 32 bits)
-  constructor(packet, memory, at) {
-    const type = memory.getUint8(at + ROW.type);
+  constructor(packet, memory, from, offset, size, next) {
+    const head = memory.getUint16(from + offset), type = head >> 8, flags = head & 0xff, valueOffset = offset + HEADER;
     this.#packet = packet;
-    this.#kind = both(memory.getUint32(at + ROW.next, true), memory.getUint8(at + ROW.flags) << 8 | type);
-    this.#place = both(memory.getUint32(at + ROW.valueOffset, true), memory.getUint32(at + ROW.valueSize, true));
-    this.#content = numbersOfRow(memory, at, type);
+    this.#kind = both(next, flags << 8 | type);
+    this.#place = both(valueOffset, size - HEADER);
+    this.#content = numbersIn(memory, type, flags, from + valueOffset, valueOffset);
   }
 
   get type() {
@@ -744,12 +769,8 @@ class RowChunk {
 
   get sack() {
     const it = this.#of(ChunkType.SACK);
-    if (it !== undefined && it.blocks === null) {
-      const words = this.#words(), size = low(this.#place);
-      it.isInOrder = calls.validateSack(words[0], words[1], words[2]) !== 0;
-      it.duplicates = duplicatesOf(size, words);
-      it.blocks = blocksOf(size, words);
-    }
+    if (it !== undefined && typeof it.blocks === 'number')
+      fillSack(it, this.#packet.bytes, high(this.#place) + SACK_LIST);
     return it;
   }
 
@@ -770,12 +791,28 @@ class RowChunk {
     return [input.at, big(bytes.length), head(this.type, this.flags, high(this.#place), low(this.#place), this.next)];
   }
 
-  /** Its parameters or error causes, each completed by a function. */
+  /** Its parameters or error causes, each completed by a function if its type has more than a value. */
   static items(chunk, complete) {
-    const words = chunk.#words(), all = new Array(parametersOf(low(chunk.#place), words));
-    for (let i = 0, at = items.from; i < all.length; i++, at += PARAMETER_SIZE)
-      all[i] = complete(new RowItem(chunk.#packet, view(), at, complete === completeCause), words, at);
+    const isCause = complete === completeCause, { bytes } = chunk.#packet, all = [];
+    const valueOffset = high(chunk.#place), end = valueOffset + low(chunk.#place);
+    // (should the bytes have changed since, the list ends where no whole one is)
+    for (let at = valueOffset + (LIST_OFFSETS.get(chunk.type) ?? low(chunk.#place)), next; at + HEADER <= end; at = next) {
+      const type = shortAt(bytes, at), size = shortAt(bytes, at + 2) - HEADER;
+      if (size < 0 || at + HEADER + size > end)
+        break;
+      next = Math.min(at + (HEADER + size + 3 & ~3), end);
+      const item = new RowItem(chunk.#packet, type, at + HEADER, size, next, isCause);
+      all.push(hasMore(type, isCause) ? complete(item, ...chunk.#placed(type, at + HEADER, size, next)) : item);
+    }
     return all;
+  }
+
+  /** The words for the packet, and where a parameter or an error cause of it lies in the memory, as the functions take it. */
+  #placed(...values) {
+    const words = this.#words();
+    reserve(items, PARAMETER_SIZE);
+    structs.parameter.write(items.from, values);
+    return [words, items.from];
   }
 
   static is(chunk) {
@@ -790,10 +827,10 @@ class RowItem {
   #place;
   #isCause;
 
-  constructor(packet, memory, at, isCause) {
+  constructor(packet, type, valueOffset, valueSize, next, isCause) {
     this.#packet = packet;
-    this.#kind = both(memory.getUint32(at + PARAMETER.next, true), memory.getUint16(at + PARAMETER.type, true));
-    this.#place = both(memory.getUint32(at + PARAMETER.valueOffset, true), memory.getUint32(at + PARAMETER.valueSize, true));
+    this.#kind = both(next, type);
+    this.#place = both(valueOffset, valueSize);
     this.#isCause = isCause;
   }
 
@@ -828,23 +865,22 @@ class RowItem {
 
 function read(bytes, policy = {}) {
   const [start, length, word, accepted] = asked(bytes, policy), at = place(answer);
-  // (no packet has more chunks than one for each four bytes behind its header)
-  const most = Math.max(0, Math.min(bytes.length, 65_536) - FIRST_CHUNK) >> 2;
-  reserve(rows, most * ROW_SIZE);
-  const code = calls.read(start, length, word, accepted, rows.at, big(most), at);
-  const memory = view(), from = answer.from;
+  const code = calls.firstFault(start, length, word, accepted, at), memory = view();
   if (code !== Result.OK)
-    throw new Fault(code, memory.getUint32(from + READ.faultOffset, true));
+    throw new Fault(code, memory.getUint32(answer.from, true));
+  const from = input.from, end = bytes.length, packet = { bytes, buffer: bytes.buffer, base: bytes.byteOffset }, chunks = [];
   const header = {
-    sourcePort: memory.getUint16(from + READ.sourcePort, true),
-    destinationPort: memory.getUint16(from + READ.destinationPort, true),
-    verificationTag: memory.getUint32(from + READ.verificationTag, true),
-    checksum: memory.getUint32(from + READ.checksum, true),
+    sourcePort: memory.getUint16(from),
+    destinationPort: memory.getUint16(from + 2),
+    verificationTag: memory.getUint32(from + 4),
+    checksum: memory.getUint32(from + 8),
   };
-  const packet = { bytes, isPlain: bytes.constructor === Uint8Array };
-  const chunks = new Array(memory.getUint32(from + READ.chunkCount, true));
-  for (let i = 0, at = rows.from; i < chunks.length; i++, at += ROW_SIZE)
-    chunks[i] = new RowChunk(packet, memory, at);
+  // (of a packet that was accepted, as it lies in the memory, each length is right)
+  for (let offset = FIRST_CHUNK, next; offset < end; offset = next) {
+    const size = memory.getUint16(from + offset + 2);
+    next = Math.min(offset + (size + 3 & ~3), end);
+    chunks.push(new RowChunk(packet, memory, from, offset, size, next));
+  }
   inInput = packet;
   return { header, chunks };
 }
@@ -918,6 +954,11 @@ function itemsIn(value, base, count, make, words) {
 
 const isCauses = chunk => [ChunkType.ABORT, ChunkType.ERROR].includes(record(chunk, 'chunk').type);
 
+/** Whether an item has more than its value, by its type: what is read by the functions. */
+const hasMore = (type, isCause) => (isCause ? type === CauseCode.NO_USER_DATA || type === CauseCode.MISSING_MANDATORY_PARAMETER
+  : type === ParameterType.ZERO_CHECKSUM_ACCEPTABLE || isReConfig(type));
+const isReConfig = type => type >= ParameterType.OUTGOING_SSN_RESET && type <= ParameterType.ADD_INCOMING_STREAMS;
+
 /** Gives an item what its type has besides its value: of the words for its bytes, and of where it lies in the memory. */
 function completeNumber(item, [start, length], at) {
   const it = found(U32, 'dcsctp_number', start, length, BigInt(at));
@@ -936,7 +977,7 @@ function completeParameter(parameter, words, at) {
   const { type } = parameter;
   if (type === ParameterType.ZERO_CHECKSUM_ACCEPTABLE) {
     completeNumber(parameter, words, at);
-  } else if (type >= ParameterType.OUTGOING_SSN_RESET && type <= ParameterType.ADD_INCOMING_STREAMS) {
+  } else if (isReConfig(type)) {
     const reConfig = found(structs.reConfig, 'dcsctp_re_config', words[0], words[1], BigInt(at));
     if (reConfig !== null) {
       delete reConfig.streamCount;

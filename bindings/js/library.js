@@ -42,9 +42,9 @@ function call(name, ...words) {
 
 /** Calls what packets are read by. (Each has a call of its own, which takes a fifth of the time of one that any name has.) */
 const calls = {
-  read(bytes, length, word, policy, rows, count, packet) {
+  firstFault(bytes, length, word, policy, offset) {
     try {
-      return wasm.dcsctp_read(bytes, length, word, policy, rows, count, packet);
+      return wasm.dcsctp_first_fault(bytes, length, word, policy, offset);
     } catch (error) {
       return leave(error);
     }
@@ -309,16 +309,6 @@ const structs = {
   gapAckBlock: new Struct({ start: 'u16', end: 'u16' }),
   init: new Struct({
     initiateTag: 'u32', aRwnd: 'u32', outboundStreams: 'u16', inboundStreams: 'u16', initialTsn: 'u32',
-  }),
-  row: new Struct({
-    type: 'u8', flags: 'u8', valueOffset: 'size', valueSize: 'size', next: 'size', restOffset: 'size', restSize: 'size',
-    count: 'size', duplicateCount: 'size', tsn: 'u32', aRwnd: 'u32', initiateTag: 'u32', mid: 'u32', fsn: 'u32', ppid: 'u32',
-    stream: 'u16', ssn: 'u16', outboundStreams: 'u16', inboundStreams: 'u16', isUnordered: 'bool', isBeginning: 'bool',
-    isEnd: 'bool', immediateAck: 'bool',
-  }),
-  packet: new Struct({
-    sourcePort: 'u16', destinationPort: 'u16', verificationTag: 'u32', checksum: 'u32', code: 'u32', chunkCount: 'size',
-    faultOffset: 'size',
   }),
   forwardTsn: new Struct({ newCumulativeTsn: 'u32', streamCount: 'size' }),
   skippedStream: new Struct({ stream: 'u16', ssn: 'u16', mid: 'u32', isUnordered: 'bool' }),

@@ -7,10 +7,11 @@ import * as davgyuti from '../davgyuti.mjs';
 import library from '../library.js';
 
 const file = name => readFileSync(new URL(name, import.meta.url), 'utf8');
-// (the package reads a list in one call, without those that read one item, and packets one by one)
-const OTHERS = 'gap_ack_block|duplicate_tsn|skipped_stream|parameter_at|item_at|reset_stream|missing_parameter|list_offset|read_many';
+// (the package reads a list in one call, without those that read one item, and packets one by one, by what their bytes say once they are
+// accepted)
+const OTHERS = 'gap_ack_block|duplicate_tsn|skipped_stream|parameter_at|item_at|reset_stream|missing_parameter|list_offset|read|read_many';
 const header = file('../../../include/dcsctp.h').replace(/\/\*[^]*?\*\//g, '').replace(new RegExp(`\\w+ dcsctp_(${OTHERS})\\([^)]*\\);`, 'g'), '')
-  .replace(/struct dcsctp_placed_packet \{[^}]*\};/g, '');
+  .replace(/struct dcsctp_(?:placed_packet|packet|row) \{[^}]*\};/g, '');
 const code = file('../davgyuti.js');
 const camel = name => name.replace(/_(\w)/g, (_, letter) => letter.toUpperCase());
 
@@ -36,11 +37,7 @@ test('the module imports nothing, and exports these functions, its memory, mallo
 test('the structs are the header\'s', () => {
   const sizes = { uint8_t: 1, bool: 1, uint16_t: 2, uint32_t: 4, uint64_t: 8, size_t: 8 };
   const found = {};
-  // (the package has the fields of a struct in a struct among the others: each of them ends where the next field may begin)
-  const bodies = {};
-  for (const [, name, body] of header.matchAll(/struct dcsctp_(\w+) \{([^}]*)\};/g))
-    bodies[name] = body.replace(/struct dcsctp_(\w+) \w+;/, (_, inner) => bodies[inner]);
-  for (const [name, body] of Object.entries(bodies)) {
+  for (const [, name, body] of header.matchAll(/struct dcsctp_(\w+) \{([^}]*)\};/g)) {
     const fields = [];
     let at = 0;
     for (const [, type, field] of body.matchAll(/(\w+) (\w+);/g)) {

@@ -108,6 +108,25 @@ test('lists are those of their packet, whatever is called in between', () => {
   }
 });
 
+test('whatever becomes of the bytes that were read, nothing is thrown, and numbers stay', () => {
+  const packet = new Builder({ sourcePort: 1, destinationPort: 2, verificationTag: 3 }).addInit({ initiateTag: 1, aRwnd: 2,
+    outboundStreams: 3, inboundStreams: 4, initialTsn: 5 }).addParameter(7, new Uint8Array(5)).addNumber(0x8001, 6)
+    .addSack({ cumulativeTsnAck: 7, aRwnd: 8, blocks: [{ start: 9, end: 10 }], duplicates: [11] })
+    .addForwardTsn({ newCumulativeTsn: 12, streams: [{ stream: 13, ssn: 14 }] })
+    .addChunk(ChunkType.ERROR).addMissingParameters([15, 16]).addNumber(9, 17).finish();
+  for (let i = 0; i < 2000; i++) {
+    const bytes = packet.slice(), { chunks: all } = read(bytes);
+    for (let k = 0; k < 30; k++)
+      bytes[Math.imul(i * 30 + k, 2654435761) >>> 8 & 127] = Math.imul(i + k, 40503) >>> 4;
+    if (i % 2 === 1)
+      davgyuti.word(bytes); // (which takes its place in the memory)
+    for (const chunk of all)
+      assert.ok([...parameters(chunk), ...causes(chunk)].every(it => it.value.length <= bytes.length) && fieldsOf(chunk));
+    const [{ init }, { sack }, { forwardTsn }] = all;
+    assert.deepEqual([init.initialTsn, sack.aRwnd, sack.blocks.length, sack.duplicates.length, forwardTsn.newCumulativeTsn], [5, 8, 1, 1, 12]);
+  }
+});
+
 test('what is no Uint8Array, and no policy, is refused', () => {
   for (const it of [null, undefined, 'ab', [1], new ArrayBuffer(20)])
     assert.throws(() => read(it), TypeError);
