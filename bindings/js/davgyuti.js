@@ -791,7 +791,7 @@ class RowChunk {
     return [input.at, big(bytes.length), head(this.type, this.flags, high(this.#place), low(this.#place), this.next)];
   }
 
-  /** Its parameters or error causes, each completed by a function if its type has more than a value. */
+  /** Its parameters or error causes, each completed by a function. */
   static items(chunk, complete) {
     const isCause = complete === completeCause, { bytes } = chunk.#packet, all = [];
     const valueOffset = high(chunk.#place), end = valueOffset + low(chunk.#place);
@@ -802,7 +802,7 @@ class RowChunk {
         break;
       next = Math.min(at + (HEADER + size + 3 & ~3), end);
       const item = new RowItem(chunk.#packet, type, at + HEADER, size, next, isCause);
-      all.push(hasMore(type, isCause) ? complete(item, ...chunk.#placed(type, at + HEADER, size, next)) : item);
+      all.push(complete(item, () => chunk.#placed(type, at + HEADER, size, next)));
     }
     return all;
   }
@@ -954,11 +954,6 @@ function itemsIn(value, base, count, make, words) {
 
 const isCauses = chunk => [ChunkType.ABORT, ChunkType.ERROR].includes(record(chunk, 'chunk').type);
 
-/** Whether an item has more than its value, by its type: what is read by the functions. */
-const hasMore = (type, isCause) => (isCause ? type === CauseCode.NO_USER_DATA || type === CauseCode.MISSING_MANDATORY_PARAMETER
-  : type === ParameterType.ZERO_CHECKSUM_ACCEPTABLE || isReConfig(type));
-const isReConfig = type => type >= ParameterType.OUTGOING_SSN_RESET && type <= ParameterType.ADD_INCOMING_STREAMS;
-
 /** Gives an item what its type has besides its value: of the words for its bytes, and of where it lies in the memory. */
 function completeNumber(item, [start, length], at) {
   const it = found(U32, 'dcsctp_number', start, length, BigInt(at));
@@ -973,11 +968,13 @@ function shortsOf(name, [start, length], at) {
   return Array.from({ length: count }, (_, i) => view().getUint16(list.from + 2 * i, true));
 }
 
-function completeParameter(parameter, words, at) {
+/** Gives a parameter what its type has besides its value, for which it is asked where that lies. */
+function completeParameter(parameter, placed) {
   const { type } = parameter;
   if (type === ParameterType.ZERO_CHECKSUM_ACCEPTABLE) {
-    completeNumber(parameter, words, at);
-  } else if (isReConfig(type)) {
+    completeNumber(parameter, ...placed());
+  } else if (type >= ParameterType.OUTGOING_SSN_RESET && type <= ParameterType.ADD_INCOMING_STREAMS) {
+    const [words, at] = placed();
     const reConfig = found(structs.reConfig, 'dcsctp_re_config', words[0], words[1], BigInt(at));
     if (reConfig !== null) {
       delete reConfig.streamCount;
@@ -988,16 +985,16 @@ function completeParameter(parameter, words, at) {
   return parameter;
 }
 
-function completeCause(cause, words, at) {
+function completeCause(cause, placed) {
   if (cause.code === CauseCode.NO_USER_DATA)
-    completeNumber(cause, words, at);
+    completeNumber(cause, ...placed());
   else if (cause.code === CauseCode.MISSING_MANDATORY_PARAMETER)
-    cause.missing = shortsOf('dcsctp_missing_parameters', words, at);
+    cause.missing = shortsOf('dcsctp_missing_parameters', ...placed());
   return cause;
 }
 
-const parameterOf = (type, rest, words, at) => completeParameter({ type, name: parameterName(type), ...rest }, words, at);
-const causeOf = (code, rest, words, at) => completeCause({ code, name: causeName(code), ...rest }, words, at);
+const parameterOf = (type, rest, words, at) => completeParameter({ type, name: parameterName(type), ...rest }, () => [words, at]);
+const causeOf = (code, rest, words, at) => completeCause({ code, name: causeName(code), ...rest }, () => [words, at]);
 
 function parameters(chunk) {
   if (isCauses(chunk))
