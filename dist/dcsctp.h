@@ -695,7 +695,7 @@ struct dcsctp_association {
 /* What is done with a packet, by its verification tag. */
 enum dcsctp_tag_verdict {
     DCSCTP_TAG_ACCEPT = 0,          /* the tag is right: the packet is processed */
-    DCSCTP_TAG_ESTABLISH = 1,       /* an INIT alone under the tag 0, or COOKIE ECHO first or behind AUTH: see section 5 */
+    DCSCTP_TAG_ESTABLISH = 1,       /* an INIT alone under the tag 0, or COOKIE ECHO first or after AUTH: see section 5 */
     DCSCTP_TAG_OUT_OF_THE_BLUE = 2, /* the packet is treated as if it belonged to no association */
     DCSCTP_TAG_DISCARD = 3          /* the packet is discarded, without an answer */
 };
@@ -713,7 +713,7 @@ enum dcsctp_answer {
 };
 
 /* Returns a dcsctp_answer (section 8.4). `is_unicast` says whether the packet is to and from unicast addresses. COOKIE ECHO is
-   the first chunk behind an AUTH too (RFC 4895 section 6.3), whose keys are then those that its cookie says. */
+   the first chunk after an AUTH too (RFC 4895 section 6.3), whose keys are then those that its cookie says. */
 uint32_t dcsctp_out_of_the_blue(const uint8_t *packet, size_t length, bool is_unicast);
 
 /* Writes what DCSCTP_ANSWER_SHUTDOWN_COMPLETE or DCSCTP_ANSWER_ABORT sends back to the sender of a packet with this header:
@@ -751,16 +751,16 @@ uint32_t dcsctp_init_refusal(uint32_t fault, bool is_ack, bool in_cookie_wait);
 
 /* Writes the packet with the ABORT that says this fault, of at most 28 bytes, to the sender of an INIT or INIT ACK with this
    initiate tag in a packet with this header. Its cause is Missing Mandatory Parameter or Invalid Mandatory Parameter; it has
-   none for DCSCTP_INIT_NOT_ALONE and DCSCTP_INIT_TOO_SHORT, which no ABORT answers. Its tag is the initiate tag; where that is
-   0, the packet's own, with the T bit. Its checksum field is zero, which dcsctp_seal fills. Returns DCSCTP_OK; or changes
-   nothing, and returns DCSCTP_BAD_VALUE for a number that is no fault's, else DCSCTP_NO_ROOM. */
+   none for DCSCTP_INIT_NOT_ALONE and DCSCTP_INIT_TOO_SHORT, which no ABORT answers. Its tag is the initiate tag; for
+   DCSCTP_INIT_TAG_ZERO it is the packet's own, with the T bit. Its checksum field is zero, which dcsctp_seal fills. Returns
+   DCSCTP_OK; or changes nothing, and returns DCSCTP_BAD_VALUE for a number that is no fault's, else DCSCTP_NO_ROOM. */
 uint32_t dcsctp_init_abort(uint8_t *packet, size_t room, size_t *size, const struct dcsctp_header *header,
                            uint32_t initiate_tag, uint32_t fault);
 
-/* Returns whether an INIT adds addresses to an association that is there already, or in COOKIE-ECHOED (sections 5.2.1 and 5.2.2): you
-   answer it by an ABORT under its initiate tag, and the association stays as it is. `list` are the INIT's parameters, and `known` the association's addresses,
-   as parameters too: IPv4 Address and IPv6 Address. What comes after the first whose length is impossible isn't looked at. The
-   address that the packet came from isn't in the list: look at it yourself. */
+/* Returns whether an INIT adds addresses to an association that is there already, or in COOKIE-ECHOED (sections 5.2.1 and
+   5.2.2): you answer it by an ABORT under its initiate tag, and the association stays as it is. `list` are the INIT's parameters,
+   and `known` the association's addresses, as parameters too: IPv4 Address and IPv6 Address. What comes after the first whose
+   length is impossible isn't looked at. The address that the packet came from isn't in the list: look at it yourself. */
 bool dcsctp_adds_addresses(const uint8_t *list, size_t list_size, const uint8_t *known, size_t known_size);
 
 /* Adds to the ABORT that begins at `start` the cause Restart of an Association with New Addresses (section 3.3.10.11), with the
@@ -1133,7 +1133,7 @@ static inline const char *dcsctp_cause_text(uint16_t code, char text[DCSCTP_TEXT
 }
 #endif
 
-/* MemorySanitizer sees what a program writes, but not what the library does: it is told. */
+/* MemorySanitizer sees what a program writes, but not what the library does: dcsctp_msan.h says it. */
 #ifdef __has_feature
 #if __has_feature(memory_sanitizer)
 #include "dcsctp_msan.h"
