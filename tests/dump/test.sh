@@ -10,11 +10,10 @@ manual page, docs/sctp_dump.1, at which mandoc, if it is there, finds nothing wr
 the packets of rules.txt in examples/, it has the chunks of refused.txt and the captures in data/, reports.py compares what it
 prints of the packets of reports.txt, faults.py looks at lengths that are refused, objects.py at its JSON, forms.py at its three
 forms, logs.py at associations of logs, auth.py at AUTH, times.py at times, pcapng.py at the pcapng files that it writes, files.py at
-the files of messages; where tshark
-is, associations.py at associations of captures, messages.py at their messages, channels.py at their channels, fragments.py at IP
-fragments, and tshark.py at packets; where scapy is, scapy.py at the same; where both are, tunnels.py at tunnels; fields.py compares
-the JSON and the Python package, of each field of a real stack'\''s packets, with tshark and scapy, where they are. Last come a table
-that is full, and inputs and outputs that fail.
+the files of messages; where tshark is, associations.py at associations of captures, messages.py at their messages, channels.py at
+their channels, fragments.py at IP fragments, and tshark.py at packets; where scapy is, scapy.py at the same; where both are, tunnels.py
+at tunnels; fields.py compares the JSON and the Python package, of each field of a real stack'\''s packets, with tshark and scapy, where
+they are. Last come a table that is full, and inputs and outputs that fail.
 The last line is: dump: N passed, M failed. --quick leaves out the scripts, a word that isn'\''t UTF-8, and an output that is
 limited, for a program that runs in an emulator or under Wine.
 
