@@ -666,21 +666,31 @@ function numbersIn(memory, type, flags, at, valueOffset) {
 }
 
 const shortAt = (bytes, at) => bytes[at] << 8 | bytes[at + 1];
-const numberAt = (bytes, at) => (bytes[at] << 24 | bytes[at + 1] << 16 | bytes[at + 2] << 8 | bytes[at + 3]) >>> 0;
+
+/** Whether gap ack blocks between two places are in order, apart, and begin at 2 or later. (It takes longer in the loop that makes
+    them.) */
+function areInOrder(view, at, end) {
+  for (let before = 0; at < end; at += 4) {
+    const start = view.getUint16(at);
+    if (start < before + 2)
+      return false;
+    before = view.getUint16(at + 2);
+    if (before < start)
+      return false;
+  }
+  return true;
+}
 
 /** Reads the lists of a SACK that was accepted, which begin at a place. */
-function fillSack(it, bytes, at) {
+function fillSack(it, view, at) {
   const blocks = new Array(it.blocks), duplicates = new Array(it.duplicates);
-  let isInOrder = true;
-  for (let i = 0, before = 0; i < blocks.length; i++, at += 4) {
-    const start = shortAt(bytes, at), end = shortAt(bytes, at + 2);
-    blocks[i] = { start, end };
-    isInOrder &&= start > before + 1 && start <= end;
-    before = end;
+  it.isInOrder = areInOrder(view, at, at + 4 * blocks.length);
+  for (let i = 0; i < blocks.length; i++, at += 4) {
+    const block = view.getInt32(at);
+    blocks[i] = { start: high(block), end: low(block) };
   }
   for (let i = 0; i < duplicates.length; i++, at += 4)
-    duplicates[i] = numberAt(bytes, at);
-  it.isInOrder = isInOrder;
+    duplicates[i] = view.getUint32(at);
   it.duplicates = duplicates;
   it.blocks = blocks;
 }
@@ -769,8 +779,12 @@ class RowChunk {
 
   get sack() {
     const it = this.#of(ChunkType.SACK);
-    if (it !== undefined && typeof it.blocks === 'number')
-      fillSack(it, this.#packet.bytes, high(this.#place) + SACK_LIST);
+    if (it !== undefined && typeof it.blocks === 'number') {
+      // (to make a view takes longer than to read most SACKs)
+      const packet = this.#packet, isHeld = inInput === packet && input.isHeld;
+      const where = isHeld ? view() : new DataView(packet.buffer, packet.base, packet.bytes.length);
+      fillSack(it, where, (isHeld ? input.from : 0) + high(this.#place) + SACK_LIST);
+    }
     return it;
   }
 
