@@ -717,8 +717,9 @@ class RowChunk {
   #place;
   #content;
 
-  constructor(packet, memory, from, offset, size, next) {
-    const head = memory.getUint16(from + offset), type = head >> 8, flags = head & 0xff, valueOffset = offset + HEADER;
+  constructor(packet, memory, from, offset, end) {
+    const head = memory.getInt32(from + offset), type = head >>> 24, flags = head >> 16 & 0xff, size = low(head);
+    const valueOffset = offset + HEADER, next = Math.min(offset + (size + 3 & ~3), end);
     this.#packet = packet;
     this.#kind = both(next, flags << 8 | type);
     this.#place = both(valueOffset, size - HEADER);
@@ -882,19 +883,19 @@ function read(bytes, policy = {}) {
   const code = calls.firstFault(start, length, word, accepted, at), memory = view();
   if (code !== Result.OK)
     throw new Fault(code, memory.getUint32(answer.from, true));
-  const from = input.from, end = bytes.length, packet = { bytes, buffer: bytes.buffer, base: bytes.byteOffset }, chunks = [];
+  const from = input.from, end = bytes.length, packet = { bytes, buffer: bytes.buffer, base: bytes.byteOffset };
   const header = {
     sourcePort: memory.getUint16(from),
     destinationPort: memory.getUint16(from + 2),
     verificationTag: memory.getUint32(from + 4),
     checksum: memory.getUint32(from + 8),
   };
-  // (of a packet that was accepted, as it lies in the memory, each length is right)
-  for (let offset = FIRST_CHUNK, next; offset < end; offset = next) {
-    const size = memory.getUint16(from + offset + 2);
-    next = Math.min(offset + (size + 3 & ~3), end);
-    chunks.push(new RowChunk(packet, memory, from, offset, size, next));
-  }
+  // (of a packet that was accepted, as it lies in the memory, each length is right; and an array of one has room for one, where the
+  // first that is added to an empty one makes room for 17)
+  let chunk = new RowChunk(packet, memory, from, FIRST_CHUNK, end);
+  const chunks = [chunk];
+  while (chunk.next < end)
+    chunks.push(chunk = new RowChunk(packet, memory, from, chunk.next, end));
   inInput = packet;
   return { header, chunks };
 }
