@@ -701,8 +701,13 @@ const LIST_OFFSETS = new Map([
   [ChunkType.ERROR, 0], [ChunkType.RE_CONFIG, 0],
 ]);
 
-/** A view of a packet that `read` gave. (Of a buffer that is at hand there is one in half of the time.) */
-const partOf = ({ buffer, base }, offset, size) => (size === 0 ? NOTHING : new Uint8Array(buffer, base + offset, size));
+/** A view of a packet that `read` gave. (The buffer is kept, as to ask for it takes as long as to make a view of it.) */
+function partOf(packet, offset, size) {
+  if (size === 0)
+    return NOTHING;
+  packet.buffer ??= packet.bytes.buffer;
+  return new Uint8Array(packet.buffer, packet.base + offset, size);
+}
 
 /** Two numbers of 16 bits as one: so has each offset and size in a packet. What `read` gives is kept in few words, as a packet can
     have 16,380 chunks. */
@@ -783,7 +788,7 @@ class RowChunk {
     if (it !== undefined && typeof it.blocks === 'number') {
       // (to make a view takes longer than to read most SACKs)
       const packet = this.#packet, isHeld = inInput === packet && input.isHeld;
-      const where = isHeld ? view() : new DataView(packet.buffer, packet.base, packet.bytes.length);
+      const where = isHeld ? view() : new DataView(packet.bytes.buffer, packet.base, packet.bytes.length);
       fillSack(it, where, (isHeld ? input.from : 0) + high(this.#place) + SACK_LIST);
     }
     return it;
@@ -883,7 +888,7 @@ function read(bytes, policy = {}) {
   const code = calls.firstFault(start, length, word, accepted, at), memory = view();
   if (code !== Result.OK)
     throw new Fault(code, memory.getUint32(answer.from, true));
-  const from = input.from, end = bytes.length, packet = { bytes, buffer: bytes.buffer, base: bytes.byteOffset };
+  const from = input.from, end = bytes.length, packet = { bytes, buffer: null, base: bytes.byteOffset };
   const header = {
     sourcePort: memory.getUint16(from),
     destinationPort: memory.getUint16(from + 2),
