@@ -715,6 +715,15 @@ const both = (high, low) => high << 16 | low;
 const high = it => it >>> 16;
 const low = it => it & 0xffff;
 
+/** The words for a packet that `read` gave; copies it into the memory if it isn't what was read last. */
+function wordsOf(packet) {
+  if (inInput !== packet || !input.isHeld) {
+    put(input, packet.bytes);
+    inInput = packet;
+  }
+  return [input.at, big(packet.bytes.length)];
+}
+
 /** A chunk that `read` gives: where it is, its numbers, and the packet, whose `bytes` are the caller's. */
 class RowChunk {
   #packet;
@@ -796,19 +805,11 @@ class RowChunk {
 
   get forwardTsn() {
     const it = this.#of(ChunkType.FORWARD_TSN, ChunkType.I_FORWARD_TSN);
-    if (it !== undefined)
-      it.streams ??= streamsOf(low(this.#place), this.#words());
-    return it;
-  }
-
-  /** The words for the packet and this chunk in it; copies it into the memory if it isn't what was read last. */
-  #words() {
-    const { bytes } = this.#packet;
-    if (inInput !== this.#packet || !input.isHeld) {
-      put(input, bytes);
-      inInput = this.#packet;
+    if (it !== undefined && it.streams === null) {
+      const words = wordsOf(this.#packet), size = low(this.#place);
+      it.streams = streamsOf(size, [...words, head(this.type, this.flags, this.valueOffset, size, this.next)]);
     }
-    return [input.at, big(bytes.length), head(this.type, this.flags, high(this.#place), low(this.#place), this.next)];
+    return it;
   }
 
   /** Its parameters or error causes, each completed by a function. */
@@ -821,18 +822,9 @@ class RowChunk {
       if (size < 0 || at + HEADER + size > end)
         break;
       next = Math.min(at + (HEADER + size + 3 & ~3), end);
-      const item = new RowItem(chunk.#packet, type, at + HEADER, size, next, isCause);
-      all.push(complete(item, () => chunk.#placed(type, at + HEADER, size, next)));
+      all.push(complete(new RowItem(chunk.#packet, type, at + HEADER, size, next, isCause), RowItem.placed));
     }
     return all;
-  }
-
-  /** The words for the packet, and where a parameter or an error cause of it lies in the memory, as the functions take it. */
-  #placed(...values) {
-    const words = this.#words();
-    reserve(items, PARAMETER_SIZE);
-    structs.parameter.write(items.from, values);
-    return [words, items.from];
   }
 
   static is(chunk) {
@@ -880,6 +872,14 @@ class RowItem {
 
   get bytes() {
     return partOf(this.#packet, this.offset, HEADER + low(this.#place));
+  }
+
+  /** The words for its packet, and where it lies in the memory, as the functions take it. */
+  static placed(item) {
+    const words = wordsOf(item.#packet), kind = item.#kind, place = item.#place;
+    reserve(items, PARAMETER_SIZE);
+    structs.parameter.write(items.from, [low(kind), high(place), low(place), high(kind)]);
+    return [words, items.from];
   }
 }
 
@@ -972,7 +972,10 @@ function itemsIn(value, base, count, make, words) {
   });
 }
 
-const isCauses = chunk => [ChunkType.ABORT, ChunkType.ERROR].includes(record(chunk, 'chunk').type);
+function isCauses(chunk) {
+  const { type } = record(chunk, 'chunk');
+  return type === ChunkType.ABORT || type === ChunkType.ERROR;
+}
 
 /** Gives an item what its type has besides its value: of the words for its bytes, and of where it lies in the memory. */
 function completeNumber(item, [start, length], at) {
@@ -992,9 +995,9 @@ function shortsOf(name, [start, length], at) {
 function completeParameter(parameter, placed) {
   const { type } = parameter;
   if (type === ParameterType.ZERO_CHECKSUM_ACCEPTABLE) {
-    completeNumber(parameter, ...placed());
+    completeNumber(parameter, ...placed(parameter));
   } else if (type >= ParameterType.OUTGOING_SSN_RESET && type <= ParameterType.ADD_INCOMING_STREAMS) {
-    const [words, at] = placed();
+    const [words, at] = placed(parameter);
     const reConfig = found(structs.reConfig, 'dcsctp_re_config', words[0], words[1], BigInt(at));
     if (reConfig !== null) {
       delete reConfig.streamCount;
@@ -1007,9 +1010,9 @@ function completeParameter(parameter, placed) {
 
 function completeCause(cause, placed) {
   if (cause.code === CauseCode.NO_USER_DATA)
-    completeNumber(cause, ...placed());
+    completeNumber(cause, ...placed(cause));
   else if (cause.code === CauseCode.MISSING_MANDATORY_PARAMETER)
-    cause.missing = shortsOf('dcsctp_missing_parameters', ...placed());
+    cause.missing = shortsOf('dcsctp_missing_parameters', ...placed(cause));
   return cause;
 }
 
