@@ -665,7 +665,50 @@ function numbersIn(memory, type, flags, at, valueOffset) {
   }
 }
 
+// (a library call for each list or item would take several times as long as what is in it)
 const shortAt = (bytes, at) => bytes[at] << 8 | bytes[at + 1];
+const numberAt = (bytes, at) => (bytes[at] << 24 | bytes[at + 1] << 16 | bytes[at + 2] << 8 | bytes[at + 3]) >>> 0;
+
+/** The numbers of two bytes between two places. (Bytes that have changed since can have put the end before the begin.) */
+function shortsIn(bytes, at, end) {
+  const all = new Array(Math.max(0, end - at >> 1));
+  for (let i = 0; i < all.length; i++, at += 2)
+    all[i] = shortAt(bytes, at);
+  return all;
+}
+
+/** The streams of FORWARD-TSN, or of I-FORWARD-TSN, between two places. */
+function streamsIn(bytes, at, end, isIForwardTsn) {
+  const step = isIForwardTsn ? 8 : 4, all = new Array((end - at) / step);
+  for (let i = 0; i < all.length; i++, at += step) {
+    all[i] = {
+      stream: shortAt(bytes, at),
+      ssn: isIForwardTsn ? 0 : shortAt(bytes, at + 2),
+      mid: isIForwardTsn ? numberAt(bytes, at + 4) : 0,
+      isUnordered: isIForwardTsn && (bytes[at + 3] & 1) !== 0,
+    };
+  }
+  return all;
+}
+
+/** A parameter of RE-CONFIG whose value is between two places. */
+function reConfigIn(type, bytes, at, end) {
+  const isOutgoing = type === ParameterType.OUTGOING_SSN_RESET, isIncoming = type === ParameterType.INCOMING_SSN_RESET;
+  const isResponse = type === ParameterType.RECONFIGURATION_RESPONSE, hasNextTsns = isResponse && end - at === 16;
+  const addsStreams = type === ParameterType.ADD_OUTGOING_STREAMS || type === ParameterType.ADD_INCOMING_STREAMS;
+  return {
+    type,
+    requestNumber: isResponse ? 0 : numberAt(bytes, at),
+    responseNumber: isResponse || isOutgoing ? numberAt(bytes, isOutgoing ? at + 4 : at) : 0,
+    lastTsn: isOutgoing ? numberAt(bytes, at + 8) : 0,
+    result: isResponse ? numberAt(bytes, at + 4) : 0,
+    hasNextTsns,
+    senderNextTsn: hasNextTsns ? numberAt(bytes, at + 8) : 0,
+    receiverNextTsn: hasNextTsns ? numberAt(bytes, at + 12) : 0,
+    newStreams: addsStreams ? shortAt(bytes, at + 4) : 0,
+    streams: isOutgoing || isIncoming ? shortsIn(bytes, isOutgoing ? at + 12 : at + 4, end) : [],
+  };
+}
 
 /** Whether gap ack blocks between two places are in order, apart, and begin at 2 or later. (It takes longer in the loop that makes
     them.) */
@@ -714,15 +757,6 @@ function partOf(packet, offset, size) {
 const both = (high, low) => high << 16 | low;
 const high = it => it >>> 16;
 const low = it => it & 0xffff;
-
-/** The words for a packet that `read` gave; copies it into the memory if it isn't what was read last. */
-function wordsOf(packet) {
-  if (inInput !== packet || !input.isHeld) {
-    put(input, packet.bytes);
-    inInput = packet;
-  }
-  return [input.at, big(packet.bytes.length)];
-}
 
 /** A chunk that `read` gives: where it is, its numbers, and the packet, whose `bytes` are the caller's. */
 class RowChunk {
@@ -806,15 +840,15 @@ class RowChunk {
   get forwardTsn() {
     const it = this.#of(ChunkType.FORWARD_TSN, ChunkType.I_FORWARD_TSN);
     if (it !== undefined && it.streams === null) {
-      const words = wordsOf(this.#packet), size = low(this.#place);
-      it.streams = streamsOf(size, [...words, head(this.type, this.flags, this.valueOffset, size, this.next)]);
+      const at = high(this.#place);
+      it.streams = streamsIn(this.#packet.bytes, at + 4, at + low(this.#place), this.type === ChunkType.I_FORWARD_TSN);
     }
     return it;
   }
 
-  /** Its parameters or error causes, each completed by a function. */
-  static items(chunk, complete) {
-    const isCause = complete === completeCause, { bytes } = chunk.#packet, all = [];
+  /** Its parameters or error causes. */
+  static items(chunk, isCause) {
+    const { bytes } = chunk.#packet, all = [];
     const valueOffset = high(chunk.#place), end = valueOffset + low(chunk.#place);
     // (should the bytes have changed since, the list ends where no whole one is)
     for (let at = valueOffset + (LIST_OFFSETS.get(chunk.type) ?? low(chunk.#place)), next; at + HEADER <= end; at = next) {
@@ -822,7 +856,7 @@ class RowChunk {
       if (size < 0 || at + HEADER + size > end)
         break;
       next = Math.min(at + (HEADER + size + 3 & ~3), end);
-      all.push(complete(new RowItem(chunk.#packet, type, at + HEADER, size, next, isCause), RowItem.placed));
+      all.push(new RowItem(chunk.#packet, type, at + HEADER, size, next, isCause));
     }
     return all;
   }
@@ -844,6 +878,13 @@ class RowItem {
     this.#kind = both(next, type);
     this.#place = both(valueOffset, valueSize);
     this.#isCause = isCause;
+    const { bytes } = packet, end = valueOffset + valueSize;
+    if (type === (isCause ? CauseCode.NO_USER_DATA : ParameterType.ZERO_CHECKSUM_ACCEPTABLE))
+      this.number = numberAt(bytes, valueOffset);
+    else if (!isCause && isReConfig(type))
+      this.reConfig = reConfigIn(type, bytes, valueOffset, end);
+    else if (isCause && type === CauseCode.MISSING_MANDATORY_PARAMETER)
+      this.missing = shortsIn(bytes, valueOffset + 4, end);
   }
 
   get type() {
@@ -872,14 +913,6 @@ class RowItem {
 
   get bytes() {
     return partOf(this.#packet, this.offset, HEADER + low(this.#place));
-  }
-
-  /** The words for its packet, and where it lies in the memory, as the functions take it. */
-  static placed(item) {
-    const words = wordsOf(item.#packet), kind = item.#kind, place = item.#place;
-    reserve(items, PARAMETER_SIZE);
-    structs.parameter.write(items.from, [low(kind), high(place), low(place), high(kind)]);
-    return [words, items.from];
   }
 }
 
@@ -991,13 +1024,14 @@ function shortsOf(name, [start, length], at) {
   return Array.from({ length: count }, (_, i) => view().getUint16(list.from + 2 * i, true));
 }
 
-/** Gives a parameter what its type has besides its value, for which it is asked where that lies. */
-function completeParameter(parameter, placed) {
-  const { type } = parameter;
+const isReConfig = type => type >= ParameterType.OUTGOING_SSN_RESET && type <= ParameterType.ADD_INCOMING_STREAMS;
+
+/** A parameter, of the words for its bytes and of where it lies in the memory, with what its type has besides its value. */
+function parameterOf(type, rest, words, at) {
+  const parameter = { type, name: parameterName(type), ...rest };
   if (type === ParameterType.ZERO_CHECKSUM_ACCEPTABLE) {
-    completeNumber(parameter, ...placed(parameter));
-  } else if (type >= ParameterType.OUTGOING_SSN_RESET && type <= ParameterType.ADD_INCOMING_STREAMS) {
-    const [words, at] = placed(parameter);
+    completeNumber(parameter, words, at);
+  } else if (isReConfig(type)) {
     const reConfig = found(structs.reConfig, 'dcsctp_re_config', words[0], words[1], BigInt(at));
     if (reConfig !== null) {
       delete reConfig.streamCount;
@@ -1008,27 +1042,25 @@ function completeParameter(parameter, placed) {
   return parameter;
 }
 
-function completeCause(cause, placed) {
-  if (cause.code === CauseCode.NO_USER_DATA)
-    completeNumber(cause, ...placed(cause));
-  else if (cause.code === CauseCode.MISSING_MANDATORY_PARAMETER)
-    cause.missing = shortsOf('dcsctp_missing_parameters', ...placed(cause));
+function causeOf(code, rest, words, at) {
+  const cause = { code, name: causeName(code), ...rest };
+  if (code === CauseCode.NO_USER_DATA)
+    completeNumber(cause, words, at);
+  else if (code === CauseCode.MISSING_MANDATORY_PARAMETER)
+    cause.missing = shortsOf('dcsctp_missing_parameters', words, at);
   return cause;
 }
-
-const parameterOf = (type, rest, words, at) => completeParameter({ type, name: parameterName(type), ...rest }, () => [words, at]);
-const causeOf = (code, rest, words, at) => completeCause({ code, name: causeName(code), ...rest }, () => [words, at]);
 
 function parameters(chunk) {
   if (isCauses(chunk))
     return [].values();
-  return (RowChunk.is(chunk) ? RowChunk.items(chunk, completeParameter) : itemsOf(chunk, parameterOf)).values();
+  return (RowChunk.is(chunk) ? RowChunk.items(chunk, false) : itemsOf(chunk, parameterOf)).values();
 }
 
 function causes(chunk) {
   if (!isCauses(chunk))
     return [].values();
-  return (RowChunk.is(chunk) ? RowChunk.items(chunk, completeCause) : itemsOf(chunk, causeOf)).values();
+  return (RowChunk.is(chunk) ? RowChunk.items(chunk, true) : itemsOf(chunk, causeOf)).values();
 }
 
 /** A chunk that has one item of a type and a value, or the fields of one, as its list. */
