@@ -108,6 +108,41 @@ test('lists are those of their packet, whatever is called in between', () => {
   }
 });
 
+test('each parameter of RE-CONFIG, and streams of both kinds', () => {
+  const builder = new Builder({ sourcePort: 1, destinationPort: 2, verificationTag: 3 });
+  const numbers = { requestNumber: 0x80000001, responseNumber: 0xfffffffe, lastTsn: 0x87654321, result: 6, newStreams: 0xfedc };
+  const next = { hasNextTsns: true, senderNextTsn: 0x90000000, receiverNextTsn: 0xffffffff };
+  builder.addChunk(ChunkType.RE_CONFIG);
+  for (let type = 13; type <= 18; type++)
+    builder.addReConfig({ ...numbers, type, streams: type < 15 ? [0, 7, 0xffff] : [] });
+  for (const it of [{ type: 13 }, { type: 14 }, { type: 16, ...next }])
+    builder.addReConfig(it);
+  builder.addForwardTsn({ newCumulativeTsn: 1, streams: [] }).addIForwardTsn({ newCumulativeTsn: 2, streams: [] })
+    .addForwardTsn({ newCumulativeTsn: 3, streams: [{ stream: 0xffff, ssn: 0xfffe }, { stream: 1, ssn: 2 }] })
+    .addIForwardTsn({ newCumulativeTsn: 4, streams: [{ stream: 0xffff, mid: 0xfffffffe, isUnordered: true }, { stream: 1, mid: 2 }] });
+  const packet = builder.finish();
+  assert.ok(compare(packet, { strictPadding: true }));
+  assert.deepEqual(Array.from(parameters(read(packet).chunks[0]), it => it.reConfig.type), [13, 14, 15, 16, 17, 18, 13, 14, 16]);
+});
+
+test('the longest lists', () => {
+  const shorts = all => all.flatMap(it => [it >> 8, it & 255]);
+  for (const [type, numbers, item] of [
+    [ChunkType.RE_CONFIG, 0, [15, 8, 0, 1]], [ChunkType.RE_CONFIG, 0, [13, 18, 0, 1, 0, 2, 0, 3, 4, 0]], [ChunkType.RE_CONFIG, 0, [99, 4]],
+    [ChunkType.ERROR, 0, [9, 8, 0x8000, 1]], [ChunkType.ERROR, 0, [2, 12, 0, 2, 5, 6]], [ChunkType.INIT, 16, [0x8001, 8, 0, 1]],
+    [ChunkType.FORWARD_TSN, 4, [1, 2]], [ChunkType.I_FORWARD_TSN, 4, [1, 1, 0x8000, 2]],
+  ]) {
+    const bytes = shorts(item), count = Math.floor((65_516 - numbers) / bytes.length), size = 16 + numbers + count * bytes.length;
+    const packet = new Uint8Array(size);
+    packet.set([type, 0, ...shorts([size - 12])], 12);
+    for (let i = 0; i < count; i++)
+      packet.set(bytes, 16 + numbers + i * bytes.length);
+    assert.ok(compare(packet, { anyChecksum: true }));
+    const [chunk] = read(packet, { anyChecksum: true }).chunks;
+    assert.equal([...parameters(chunk), ...causes(chunk), ...chunk.forwardTsn?.streams ?? []].length, count);
+  }
+});
+
 test('whatever becomes of the bytes that were read, nothing is thrown, and numbers stay', () => {
   const packet = new Builder({ sourcePort: 1, destinationPort: 2, verificationTag: 3 }).addInit({ initiateTag: 1, aRwnd: 2,
     outboundStreams: 3, inboundStreams: 4, initialTsn: 5 }).addParameter(7, new Uint8Array(5)).addNumber(0x8001, 6)
