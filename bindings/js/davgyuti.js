@@ -614,28 +614,33 @@ function chunks(bytes) {
 
 const PARAMETER_SIZE = structs.parameter.size, HEADER = 4, SACK_LIST = 12;
 
+/** User data; its payload is where it begins, until it is asked for. */
+const dataOf = (flags, tsn, mid, fsn, ppid, stream, ssn, payload) => ({
+  tsn,
+  mid,
+  fsn,
+  ppid,
+  stream,
+  ssn,
+  isUnordered: (flags & BITS.isUnordered) !== 0,
+  isBeginning: (flags & BITS.isBeginning) !== 0,
+  isEnd: (flags & BITS.isEnd) !== 0,
+  immediateAck: (flags & BITS.immediateAck) !== 0,
+  payload,
+});
+
 /** What `read` keeps of a chunk's value besides where it is: an object of its type's numbers, whose lists and views come when they are
     asked for. */
 function numbersIn(memory, type, flags, at, valueOffset) {
   switch (type) {
-    case ChunkType.DATA:
+    case ChunkType.DATA: {
+      const numbers = memory.getInt32(at + 4), ppid = memory.getUint32(at + 8);
+      return dataOf(flags, memory.getUint32(at), 0, 0, ppid, high(numbers), low(numbers), valueOffset + 12);
+    }
     case ChunkType.I_DATA: {
-      const isIData = type === ChunkType.I_DATA, isBeginning = (flags & BITS.isBeginning) !== 0;
-      const last = memory.getUint32(at + (isIData ? 12 : 8));
-      return {
-        tsn: memory.getUint32(at),
-        mid: isIData ? memory.getUint32(at + 8) : 0,
-        fsn: isIData && !isBeginning ? last : 0,
-        ppid: isIData && !isBeginning ? 0 : last,
-        stream: memory.getUint16(at + 4),
-        ssn: isIData ? 0 : memory.getUint16(at + 6),
-        isUnordered: (flags & BITS.isUnordered) !== 0,
-        isBeginning,
-        isEnd: (flags & BITS.isEnd) !== 0,
-        immediateAck: (flags & BITS.immediateAck) !== 0,
-        // (where it begins, until it is asked for)
-        payload: valueOffset + (isIData ? 16 : 12),
-      };
+      const mid = memory.getUint32(at + 8), last = memory.getUint32(at + 12), isBeginning = (flags & BITS.isBeginning) !== 0;
+      const [fsn, ppid] = isBeginning ? [0, last] : [last, 0];
+      return dataOf(flags, memory.getUint32(at), mid, fsn, ppid, memory.getUint16(at + 4), 0, valueOffset + 16);
     }
     case ChunkType.INIT:
     case ChunkType.INIT_ACK:
