@@ -749,11 +749,14 @@ const LIST_OFFSETS = new Map([
   [ChunkType.ERROR, 0], [ChunkType.RE_CONFIG, 0],
 ]);
 
-/** A view of a packet that `read` gave. (The buffer is kept, as to ask for it takes as long as to make a view of it.) */
+/** A view of a packet that `read` gave. (What is asked of its bytes is kept, as to ask takes as long as to make the view.) */
 function partOf(packet, offset, size) {
   if (size === 0)
     return NOTHING;
-  packet.buffer ??= packet.bytes.buffer;
+  if (packet.buffer === null) {
+    packet.buffer = packet.bytes.buffer;
+    packet.base = packet.bytes.byteOffset;
+  }
   return new Uint8Array(packet.buffer, packet.base + offset, size);
 }
 
@@ -835,9 +838,9 @@ class RowChunk {
     const it = this.#of(ChunkType.SACK);
     if (it !== undefined && typeof it.blocks === 'number') {
       // (to make a view takes longer than to read most SACKs)
-      const packet = this.#packet, isHeld = inInput === packet && input.isHeld;
-      const where = isHeld ? view() : new DataView(packet.bytes.buffer, packet.base, packet.bytes.length);
-      fillSack(it, where, (isHeld ? input.from : 0) + high(this.#place) + SACK_LIST);
+      const { bytes } = this.#packet, isHeld = inInput === this.#packet && input.isHeld;
+      const its = isHeld ? view() : new DataView(bytes.buffer, bytes.byteOffset, bytes.length);
+      fillSack(it, its, (isHeld ? input.from : 0) + high(this.#place) + SACK_LIST);
     }
     return it;
   }
@@ -926,7 +929,7 @@ function read(bytes, policy = {}) {
   const code = calls.firstFault(start, length, word, accepted, at), memory = view();
   if (code !== Result.OK)
     throw new Fault(code, memory.getUint32(answer.from, true));
-  const from = input.from, end = bytes.length, packet = { bytes, buffer: null, base: bytes.byteOffset };
+  const from = input.from, end = bytes.length, packet = { bytes, buffer: null, base: 0 };
   const header = {
     sourcePort: memory.getUint16(from),
     destinationPort: memory.getUint16(from + 2),
