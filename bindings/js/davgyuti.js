@@ -715,30 +715,21 @@ function reConfigIn(type, bytes, at, end) {
   };
 }
 
-/** Whether gap ack blocks between two places are in order, apart, and begin at 2 or later. (It takes longer in the loop that makes
-    them.) */
-function areInOrder(view, at, end) {
-  for (let before = 0; at < end; at += 4) {
-    const start = view.getUint16(at);
-    if (start < before + 2)
-      return false;
-    before = view.getUint16(at + 2);
-    if (before < start)
-      return false;
-  }
-  return true;
-}
-
 /** Reads the lists of a SACK that was accepted, which begin at a place. */
 function fillSack(it, view, at) {
   const blocks = new Array(it.blocks), duplicates = new Array(it.duplicates);
-  it.isInOrder = areInOrder(view, at, at + 4 * blocks.length);
+  let isInOrder = true, before = 0;
   for (let i = 0; i < blocks.length; i++, at += 4) {
-    const block = view.getInt32(at);
-    blocks[i] = { start: high(block), end: low(block) };
+    const block = view.getInt32(at), start = high(block), end = low(block);
+    blocks[i] = { start, end };
+    if (isInOrder) {
+      isInOrder = start >= before + 2 && start <= end;
+      before = end;
+    }
   }
   for (let i = 0; i < duplicates.length; i++, at += 4)
     duplicates[i] = view.getUint32(at);
+  it.isInOrder = isInOrder;
   it.duplicates = duplicates;
   it.blocks = blocks;
 }
