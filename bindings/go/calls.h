@@ -6,6 +6,8 @@
 
 #include "dcsctp.h"
 
+#include <string.h>
+
 /* ---- a whole packet */
 
 /* Whether the packet has to have its CRC32c also where a checksum of zero was negotiated (RFC 9653 section 5.2). */
@@ -30,19 +32,27 @@ struct go_policy {
     bool any_checksum, zero_checksum, allowed_zero_checksum, strict_padding;
 };
 
-/* The policy for a packet. */
-static inline struct dcsctp_policy go_policy(const uint8_t *bytes, size_t length, struct go_policy asked)
+/* Whether the field is zero, in a packet that may have it so. */
+static inline bool go_allows_zero(const uint8_t *bytes, size_t length)
 {
-    struct dcsctp_policy policy = {asked.any_checksum, asked.zero_checksum, asked.strict_padding, {0}};
     struct dcsctp_header header;
-    if (asked.allowed_zero_checksum && length <= 0xFFFF && dcsctp_header(bytes, length, &header) && header.checksum == 0)
-        policy.zero_checksum |= !go_needs_checksum(bytes, length);
-    return policy;
+    return length <= 0xFFFF && dcsctp_header(bytes, length, &header) && header.checksum == 0 && !go_needs_checksum(bytes, length);
+}
+
+/* Writes the policy for a packet. (One that it returned gcc would copy in one piece, right after it wrote the parts, which the
+   processor has to wait for.) */
+static inline void go_policy(const uint8_t *bytes, size_t length, struct go_policy asked, struct dcsctp_policy *policy)
+{
+    memset(policy, 0, sizeof *policy);
+    policy->any_checksum = asked.any_checksum;
+    policy->zero_checksum = asked.zero_checksum || (asked.allowed_zero_checksum && go_allows_zero(bytes, length));
+    policy->strict_padding = asked.strict_padding;
 }
 
 static inline uint32_t go_check(const uint8_t *bytes, size_t length, uint32_t word, struct go_policy asked)
 {
-    const struct dcsctp_policy policy = go_policy(bytes, length, asked);
+    struct dcsctp_policy policy;
+    go_policy(bytes, length, asked, &policy);
     return dcsctp_check(bytes, length, word, &policy);
 }
 
@@ -54,7 +64,8 @@ struct go_result {
 
 static inline struct go_result go_first_fault(const uint8_t *bytes, size_t length, uint32_t word, struct go_policy asked)
 {
-    const struct dcsctp_policy policy = go_policy(bytes, length, asked);
+    struct dcsctp_policy policy;
+    go_policy(bytes, length, asked, &policy);
     struct go_result result = {0, 0};
     result.code = dcsctp_first_fault(bytes, length, word, &policy, &result.size);
     return result;
@@ -64,7 +75,8 @@ static inline struct go_result go_first_fault(const uint8_t *bytes, size_t lengt
     static inline struct go_result go_##name(const uint8_t *bytes, size_t length, uint32_t word,                       \
                                              struct go_policy asked, uint8_t *output, size_t room)                     \
     {                                                                                                                  \
-        const struct dcsctp_policy policy = go_policy(bytes, length, asked);                                           \
+        struct dcsctp_policy policy;                                                                                   \
+        go_policy(bytes, length, asked, &policy);                                                                      \
         struct go_result result = {0, 0};                                                                              \
         result.code = dcsctp_##name(bytes, length, word, &policy, output, room, &result.size);                         \
         return result;                                                                                                 \

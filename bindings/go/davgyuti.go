@@ -337,7 +337,13 @@ func first[T any](items []T) unsafe.Pointer {
 	return unsafe.Pointer(&items[0])
 }
 
-func bytesOf(bytes []byte) *C.uint8_t { return (*C.uint8_t)(first(bytes)) }
+// bytesOf does so of bytes. (By itself it is inlined; a call of first isn't.)
+func bytesOf(bytes []byte) *C.uint8_t {
+	if len(bytes) == 0 {
+		return nil
+	}
+	return (*C.uint8_t)(&bytes[0])
+}
 
 func blocksOf(blocks []GapAckBlock) *C.struct_dcsctp_gap_ack_block {
 	return (*C.struct_dcsctp_gap_ack_block)(first(blocks))
