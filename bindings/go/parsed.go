@@ -17,7 +17,7 @@ import "encoding/binary"
 //			continue
 //		}
 //		for i := 0; i < parsed.Len(); i++ {
-//			if data, ok := parsed.Chunk(i).Data(); ok {
+//			if data, ok := parsed.Data(i); ok {
 //				receive(data.Stream, data.TSN, data.Payload)
 //			}
 //		}
@@ -46,11 +46,13 @@ type row struct {
 
 // Read reads a packet, and returns nil; or an *Error, as Check returns it, and then there are no chunks, and Header is zero.
 func (parsed *Parsed) Read(packet Packet, policy Policy) error {
-	parsed.Header, parsed.packet, parsed.rows = Header{}, packet, parsed.rows[:0]
+	parsed.Header, parsed.packet = Header{}, packet
+	parsed.rows = parsed.rows[:0] // (alone on a line it stores no pointer)
 	if fault := packet.firstFault(policy); fault != nil {
 		return fault
 	}
-	parsed.Header = Header{shortAt(packet, 0), shortAt(packet, 2), numberAt(packet, 4), numberAt(packet, 8)}
+	header := (*[FirstChunk]byte)(packet)
+	parsed.Header = Header{shortAt(header[:], 0), shortAt(header[:], 2), numberAt(header[:], 4), numberAt(header[:], 8)}
 	parsed.blocks, parsed.duplicates = parsed.blocks[:0], parsed.duplicates[:0]
 	parsed.streams, parsed.items = parsed.streams[:0], parsed.items[:0]
 	for it, isThere := placeAt(packet, FirstChunk); isThere; it, isThere = placeAt(packet, it.next()) {
@@ -72,8 +74,7 @@ func (parsed *Parsed) readLists(row *row) {
 		blocks, duplicates := listsOfSACK(row.chunkType, value)
 		row.first, row.count = uint16(len(parsed.blocks)), uint16(len(blocks)/4)
 		row.firstDuplicate, row.duplicateCount = uint16(len(parsed.duplicates)), uint16(len(duplicates)/4)
-		parsed.blocks = append(parsed.blocks, make([]GapAckBlock, len(blocks)/4)...)
-		parsed.readBlocks(row, parsed.blocks[row.first:], blocks)
+		parsed.readBlocks(int(row.first), blocks)
 		for ; len(duplicates) >= 4; duplicates = duplicates[4:] {
 			parsed.duplicates = append(parsed.duplicates, numberAt(duplicates, 0))
 		}
@@ -96,31 +97,66 @@ func (parsed *Parsed) readLists(row *row) {
 }
 
 // readBlocks reads the gap ack blocks of a SACK. Of many the library's loop takes less time, with the call.
-func (parsed *Parsed) readBlocks(row *row, to []GapAckBlock, blocks []byte) {
-	if len(to) >= 100 {
-		parsed.chunk(row).fillBlocks(to)
-		return
+func (parsed *Parsed) readBlocks(first int, blocks []byte) {
+	to := parsed.blocks
+	if len(blocks) >= 400 {
+		to = append(to, make([]GapAckBlock, len(blocks)/4)...)
+		parsed.Chunk(len(parsed.rows) - 1).fillBlocks(to[first:])
+	} else {
+		for ; len(blocks) >= 4; blocks = blocks[4:] {
+			block := numberAt(blocks, 0)
+			to = append(to, GapAckBlock{uint16(block >> 16), uint16(block)})
+		}
 	}
-	for i := range to {
-		to[i] = blockOf(blocks[4*i:])
-	}
+	parsed.blocks = to
 }
 
 // Len returns how many chunks there are.
 func (parsed *Parsed) Len() int { return len(parsed.rows) }
 
 // Chunk returns a chunk, by its index; it panics as a slice does where there is none. Of its methods Data, SACK, Init, Shutdown and
-// ForwardTSN call no C, and allocate nothing.
+// ForwardTSN call no C, and allocate nothing, nor do those of the Parsed.
 func (parsed *Parsed) Chunk(i int) Chunk {
-	return parsed.chunk(&parsed.rows[i])
-}
-
-func (parsed *Parsed) chunk(row *row) Chunk {
-	next := len(parsed.packet)
+	row, next := &parsed.rows[i], len(parsed.packet)
 	if it := row.next(); it < next {
 		next = it
 	}
 	return Chunk{row.chunkType, row.flags, row.value(parsed.packet), int(row.offset), next, &parsed.packet[0], ^len(parsed.packet)}
+}
+
+// Type returns the type of a chunk, by its index. It and the next five take less time than Chunk, which copies more; they panic as
+// it does.
+func (parsed *Parsed) Type(i int) ChunkType { return parsed.rows[i].chunkType }
+
+// Data reads DATA or I-DATA; false for another type.
+func (parsed *Parsed) Data(i int) (data Data, ok bool) {
+	row := &parsed.rows[i]
+	ok = data.read(row.chunkType, row.flags, row.value(parsed.packet))
+	return data, ok
+}
+
+// SACK reads the numbers of a SACK; false for another type.
+func (parsed *Parsed) SACK(i int) (SACK, bool) {
+	row := &parsed.rows[i]
+	return sackOf(row.chunkType, row.value(parsed.packet))
+}
+
+// Init reads the numbers of INIT or INIT ACK; false for another type.
+func (parsed *Parsed) Init(i int) (Init, bool) {
+	row := &parsed.rows[i]
+	return initOf(row.chunkType, row.value(parsed.packet))
+}
+
+// Shutdown reads the cumulative TSN ack of SHUTDOWN; false for another type.
+func (parsed *Parsed) Shutdown(i int) (cumulativeTSNAck uint32, ok bool) {
+	row := &parsed.rows[i]
+	return shutdownOf(row.chunkType, row.value(parsed.packet))
+}
+
+// ForwardTSN reads the numbers of FORWARD-TSN or I-FORWARD-TSN; false for another type.
+func (parsed *Parsed) ForwardTSN(i int) (ForwardTSN, bool) {
+	row := &parsed.rows[i]
+	return forwardTSNOf(row.chunkType, row.value(parsed.packet))
 }
 
 // list returns the items of a list that are a chunk's, if it is of these types.
@@ -209,6 +245,64 @@ func (it place) next() int { return (int(it.offset) + 4 + int(it.size) + 3) &^ 3
 func (it place) value(bytes []byte) []byte {
 	from, to := int(it.offset)+4, int(it.offset)+4+int(it.size)
 	return bytes[from:to:to]
+}
+
+// read reads the value of a chunk that is DATA or I-DATA.
+func (data *Data) read(chunkType ChunkType, flags uint8, value []byte) bool {
+	switch {
+	case chunkType == ChunkData && len(value) >= 12:
+		it := (*[12]byte)(value)
+		data.TSN, data.Stream, data.SSN = numberAt(it[:], 0), shortAt(it[:], 4), shortAt(it[:], 6)
+		data.PPID, data.Payload = numberAt(it[:], 8), value[12:]
+	case chunkType == ChunkIData && len(value) >= 16:
+		it := (*[16]byte)(value)
+		data.TSN, data.Stream, data.MID = numberAt(it[:], 0), shortAt(it[:], 4), numberAt(it[:], 8)
+		if data.Payload = value[16:]; flags&2 != 0 {
+			data.PPID = numberAt(it[:], 12)
+		} else {
+			data.FSN = numberAt(it[:], 12)
+		}
+	default:
+		return false
+	}
+	data.IsEnd, data.IsBeginning = flags&1 != 0, flags&2 != 0
+	data.IsUnordered, data.ImmediateAck = flags&4 != 0, flags&8 != 0
+	return true
+}
+
+// sackOf reads the numbers in the value of a chunk that is a SACK.
+func sackOf(chunkType ChunkType, value []byte) (SACK, bool) {
+	if chunkType != ChunkSACK || len(value) < 12 {
+		return SACK{}, false
+	}
+	it := (*[12]byte)(value)
+	return SACK{numberAt(it[:], 0), numberAt(it[:], 4), int(shortAt(it[:], 8)), int(shortAt(it[:], 10))}, true
+}
+
+// initOf reads the numbers in the value of a chunk that is INIT or INIT ACK.
+func initOf(chunkType ChunkType, value []byte) (Init, bool) {
+	if (chunkType != ChunkInit && chunkType != ChunkInitAck) || len(value) < 16 {
+		return Init{}, false
+	}
+	it := (*[16]byte)(value)
+	return Init{numberAt(it[:], 0), numberAt(it[:], 4), shortAt(it[:], 8), shortAt(it[:], 10), numberAt(it[:], 12)}, true
+}
+
+// shutdownOf reads the value of a chunk that is SHUTDOWN.
+func shutdownOf(chunkType ChunkType, value []byte) (uint32, bool) {
+	if chunkType != ChunkShutdown || len(value) < 4 {
+		return 0, false
+	}
+	return numberAt(value, 0), true
+}
+
+// forwardTSNOf reads the numbers in the value of a chunk that is FORWARD-TSN or I-FORWARD-TSN.
+func forwardTSNOf(chunkType ChunkType, value []byte) (ForwardTSN, bool) {
+	if (chunkType != ChunkForwardTSN && chunkType != ChunkIForwardTSN) || len(value) < 4 {
+		return ForwardTSN{}, false
+	}
+	list, size, _ := listOfStreams(chunkType, value)
+	return ForwardTSN{numberAt(value, 0), len(list) / size}, true
 }
 
 // listsOfSACK returns the gap ack blocks and the duplicate TSNs in the value of a chunk that is a SACK.

@@ -34,6 +34,8 @@ func isRead(t *testing.T, parsed *davgyuti.Parsed, packet davgyuti.Packet, polic
 		equal(t, what, []interface{}{chunk.Type, chunk.Flags, chunk.Value, chunk.Offset, chunk.NextOffset, chunk.Bytes()},
 			[]interface{}{wanted.Type, wanted.Flags, wanted.Value, wanted.Offset, wanted.NextOffset, wanted.Bytes()})
 		equal(t, what, numbersOf(chunk), numbersOf(wanted))
+		equal(t, what, append([]interface{}{parsed.Type(i)}, numbersAt(parsed, i)...),
+			append([]interface{}{wanted.Type}, numbersOf(wanted)...))
 		equal(t, what, listsOf(chunk), listsOf(wanted))
 		equal(t, what, append([]davgyuti.GapAckBlock(nil), parsed.GapAckBlocks(i)...), wanted.GapAckBlocks().Slice())
 		equal(t, what, append([]uint32(nil), parsed.DuplicateTSNs(i)...), wanted.DuplicateTSNs().Slice())
@@ -58,6 +60,15 @@ func numbersOf(chunk davgyuti.Chunk) (all []interface{}) {
 	init, isInit := chunk.Init()
 	shutdown, isShutdown := chunk.Shutdown()
 	forwardTSN, isForwardTSN := chunk.ForwardTSN()
+	return append(all, data, isData, sack, isSACK, init, isInit, shutdown, isShutdown, forwardTSN, isForwardTSN)
+}
+
+func numbersAt(parsed *davgyuti.Parsed, i int) (all []interface{}) {
+	data, isData := parsed.Data(i)
+	sack, isSACK := parsed.SACK(i)
+	init, isInit := parsed.Init(i)
+	shutdown, isShutdown := parsed.Shutdown(i)
+	forwardTSN, isForwardTSN := parsed.ForwardTSN(i)
 	return append(all, data, isData, sack, isSACK, init, isInit, shutdown, isShutdown, forwardTSN, isForwardTSN)
 }
 
@@ -130,6 +141,7 @@ func TestParsedChanged(t *testing.T) {
 				chunk.Offset += random.Intn(100) - 50
 			}
 			_, _ = append(numbersOf(chunk), listsOf(chunk)...), chunk.Bytes()
+			_ = numbersAt(&parsed, i)
 			for _, parameter := range chunk.Parameters().Slice() {
 				_, _ = parameter.ReConfig()
 				_, _ = parameter.Registered()

@@ -382,22 +382,8 @@ func (chunk Chunk) IsTagReflected() bool {
 // Data reads DATA or I-DATA; false for another type.
 func (chunk Chunk) Data() (data Data, ok bool) {
 	if chunk.size < 0 {
-		value, last := chunk.Value, uint32(0)
-		switch {
-		case chunk.Type == ChunkData && len(value) >= 12:
-			data.SSN, data.PPID, data.Payload = shortAt(value, 6), numberAt(value, 8), value[12:]
-		case chunk.Type == ChunkIData && len(value) >= 16:
-			data.MID, last, data.Payload = numberAt(value, 8), numberAt(value, 12), value[16:]
-			if data.PPID = last; chunk.Flags&2 == 0 {
-				data.PPID, data.FSN = 0, last
-			}
-		default:
-			return data, false
-		}
-		data.TSN, data.Stream = numberAt(value, 0), shortAt(value, 4)
-		data.IsEnd, data.IsBeginning = chunk.Flags&1 != 0, chunk.Flags&2 != 0
-		data.IsUnordered, data.ImmediateAck = chunk.Flags&4 != 0, chunk.Flags&8 != 0
-		return data, true
+		ok = data.read(chunk.Type, chunk.Flags, chunk.Value)
+		return data, ok
 	}
 	bytes, length, c := chunk.inC()
 	read := C.go_data(bytes, length, c)
@@ -422,11 +408,8 @@ func (chunk Chunk) Data() (data Data, ok bool) {
 
 // SACK reads the numbers of a SACK; false for another type.
 func (chunk Chunk) SACK() (SACK, bool) {
-	if value := chunk.Value; chunk.size < 0 {
-		if chunk.Type != ChunkSACK || len(value) < 12 {
-			return SACK{}, false
-		}
-		return SACK{numberAt(value, 0), numberAt(value, 4), int(shortAt(value, 8)), int(shortAt(value, 10))}, true
+	if chunk.size < 0 {
+		return sackOf(chunk.Type, chunk.Value)
 	}
 	bytes, length, c := chunk.inC()
 	read := C.go_sack(bytes, length, c)
@@ -476,11 +459,8 @@ func (chunk Chunk) IsValidSACK() bool {
 
 // Init reads the numbers of INIT or INIT ACK; false for another type.
 func (chunk Chunk) Init() (Init, bool) {
-	if value := chunk.Value; chunk.size < 0 {
-		if (chunk.Type != ChunkInit && chunk.Type != ChunkInitAck) || len(value) < 16 {
-			return Init{}, false
-		}
-		return Init{numberAt(value, 0), numberAt(value, 4), shortAt(value, 8), shortAt(value, 10), numberAt(value, 12)}, true
+	if chunk.size < 0 {
+		return initOf(chunk.Type, chunk.Value)
 	}
 	bytes, length, c := chunk.inC()
 	read := C.go_init(bytes, length, c)
@@ -496,10 +476,7 @@ func (chunk Chunk) Init() (Init, bool) {
 // Shutdown reads the cumulative TSN ack of SHUTDOWN; false for another type.
 func (chunk Chunk) Shutdown() (cumulativeTSNAck uint32, ok bool) {
 	if chunk.size < 0 {
-		if chunk.Type != ChunkShutdown || len(chunk.Value) < 4 {
-			return 0, false
-		}
-		return numberAt(chunk.Value, 0), true
+		return shutdownOf(chunk.Type, chunk.Value)
 	}
 	bytes, length, c := chunk.inC()
 	read := C.go_shutdown(bytes, length, c)
@@ -509,11 +486,7 @@ func (chunk Chunk) Shutdown() (cumulativeTSNAck uint32, ok bool) {
 // ForwardTSN reads the numbers of FORWARD-TSN or I-FORWARD-TSN; false for another type.
 func (chunk Chunk) ForwardTSN() (ForwardTSN, bool) {
 	if chunk.size < 0 {
-		if (chunk.Type != ChunkForwardTSN && chunk.Type != ChunkIForwardTSN) || len(chunk.Value) < 4 {
-			return ForwardTSN{}, false
-		}
-		list, size, _ := listOfStreams(chunk.Type, chunk.Value)
-		return ForwardTSN{numberAt(chunk.Value, 0), len(list) / size}, true
+		return forwardTSNOf(chunk.Type, chunk.Value)
 	}
 	bytes, length, c := chunk.inC()
 	read := C.go_forward_tsn(bytes, length, c)
