@@ -74,7 +74,7 @@ func (parsed *Parsed) readLists(row *row) {
 		blocks, duplicates := listsOfSACK(row.chunkType, value)
 		row.first, row.count = uint16(len(parsed.blocks)), uint16(len(blocks)/4)
 		row.firstDuplicate, row.duplicateCount = uint16(len(parsed.duplicates)), uint16(len(duplicates)/4)
-		parsed.readBlocks(int(row.first), blocks)
+		parsed.readBlocks(blocks)
 		for ; len(duplicates) >= 4; duplicates = duplicates[4:] {
 			parsed.duplicates = append(parsed.duplicates, numberAt(duplicates, 0))
 		}
@@ -97,15 +97,18 @@ func (parsed *Parsed) readLists(row *row) {
 }
 
 // readBlocks reads the gap ack blocks of a SACK. Of many the library's loop takes less time, with the call.
-func (parsed *Parsed) readBlocks(first int, blocks []byte) {
+func (parsed *Parsed) readBlocks(blocks []byte) {
 	to := parsed.blocks
 	if len(blocks) >= 400 {
-		to = append(to, make([]GapAckBlock, len(blocks)/4)...)
-		parsed.Chunk(len(parsed.rows) - 1).fillBlocks(to[first:])
+		before, count := len(to), len(to)+len(blocks)/4
+		if count > cap(to) {
+			to = append(make([]GapAckBlock, 0, count), to...)
+		}
+		to = to[:count]
+		parsed.Chunk(len(parsed.rows) - 1).fillBlocks(to[before:])
 	} else {
 		for ; len(blocks) >= 4; blocks = blocks[4:] {
-			block := numberAt(blocks, 0)
-			to = append(to, GapAckBlock{uint16(block >> 16), uint16(block)})
+			to = append(to, blockOf(blocks))
 		}
 	}
 	parsed.blocks = to
@@ -317,7 +320,10 @@ func listsOfSACK(chunkType ChunkType, value []byte) (blocks, duplicates []byte) 
 	return list[:size], list[size:]
 }
 
-func blockOf(bytes []byte) GapAckBlock { return GapAckBlock{shortAt(bytes, 0), shortAt(bytes, 2)} }
+func blockOf(bytes []byte) GapAckBlock {
+	both := numberAt(bytes, 0) // (so the bounds are looked at once)
+	return GapAckBlock{uint16(both >> 16), uint16(both)}
+}
 
 // listOfStreams returns the streams in the value of a chunk that is FORWARD-TSN or I-FORWARD-TSN, the size of one, and what reads one.
 func listOfStreams(chunkType ChunkType, value []byte) (list []byte, size int, of func([]byte) SkippedStream) {
