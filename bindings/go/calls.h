@@ -1,6 +1,6 @@
 // SPDX-License-Identifier: Apache-2.0
-/* The calls of dcsctp.h with structs and sizes as values: what cgo passes the address of, Go has to keep on its heap. (A
-   dcsctp_re_config isn't one, nor is a dcsctp_chunk beside a packet: Go 1.19 can't compile these under -d=checkptr.) */
+/* The calls of dcsctp.h with structs and sizes as values: what cgo passes the address of, Go has to keep on its heap, where a Builder
+   is. (A dcsctp_re_config isn't one, nor is a dcsctp_chunk beside a packet: Go 1.19 can't compile these under -d=checkptr.) */
 #ifndef CALLS_H
 #define CALLS_H
 
@@ -166,25 +166,52 @@ static inline bool go_validate_sack(const uint8_t *bytes, size_t length, struct 
     return dcsctp_validate_sack(bytes, length, &chunk);
 }
 
-/* ---- writing: each takes the size of the packet, and returns the code and the size after it */
+/* ---- writing */
 
-#define TO uint8_t *packet, size_t room, size_t size
+/* What Go keeps of a packet that it writes, but for its bytes. */
+struct go_builder {
+    size_t room, size, start; /* the start of the last chunk; the size where there is none */
+    uint32_t tag;
+    uint16_t source_port, destination_port;
+    bool begins; /* the header has still to be written: with what comes next, in one call of Go */
+};
+
+#define TO uint8_t *packet, struct go_builder *to
+
+static inline void go_begin(TO)
+{
+    if (to->begins)
+        dcsctp_begin(packet, to->room, &to->size, to->source_port, to->destination_port, to->tag);
+    to->begins = false;
+}
+
+static inline uint32_t go_seal(TO)
+{
+    go_begin(packet, to);
+    return dcsctp_seal(packet, to->size);
+}
+
+/* Adds to the last chunk. */
+#define EXTEND(name, parameters, ...)                                                                                  \
+    static inline uint32_t go_##name parameters                                                                        \
+    {                                                                                                                  \
+        go_begin(packet, to);                                                                                          \
+        return dcsctp_##name(packet, to->room, &to->size, to->start, __VA_ARGS__);                                     \
+    }
+/* Adds a chunk: where the packet grows, its start is the size before. */
+#define ADDS(call)                                                                                                     \
+    {                                                                                                                  \
+        go_begin(packet, to);                                                                                          \
+        const size_t size = to->size;                                                                                  \
+        const uint32_t code = call;                                                                                    \
+        if (to->size > size)                                                                                           \
+            to->start = size;                                                                                          \
+        return code;                                                                                                   \
+    }
 #define ADD(name, parameters, ...)                                                                                     \
-    static inline struct go_result go_##name parameters                                                                \
-    {                                                                                                                  \
-        struct go_result result = {0, size};                                                                           \
-        result.code = dcsctp_##name(packet, room, &result.size, __VA_ARGS__);                                          \
-        return result;                                                                                                 \
-    }
-#define ADD_ALONE(name)                                                                                                \
-    static inline struct go_result go_##name(TO)                                                                       \
-    {                                                                                                                  \
-        struct go_result result = {0, size};                                                                           \
-        result.code = dcsctp_##name(packet, room, &result.size);                                                       \
-        return result;                                                                                                 \
-    }
+    static inline uint32_t go_##name parameters ADDS(dcsctp_##name(packet, to->room, &to->size, __VA_ARGS__))
+#define ADD_ALONE(name) static inline uint32_t go_##name(TO) ADDS(dcsctp_##name(packet, to->room, &to->size))
 
-ADD(begin, (TO, uint16_t source_port, uint16_t destination_port, uint32_t tag), source_port, destination_port, tag)
 ADD(add_chunk, (TO, uint8_t type, uint8_t flags, const uint8_t *value, size_t count), type, flags, value, count)
 ADD(add_data, (TO, struct dcsctp_data data, const uint8_t *payload, size_t count), &data, payload, count)
 ADD(add_i_data, (TO, struct dcsctp_data data, const uint8_t *payload, size_t count), &data, payload, count)
@@ -203,22 +230,22 @@ ADD_ALONE(add_shutdown_ack)
 ADD(add_shutdown_complete, (TO, bool tag_reflected), tag_reflected)
 ADD(add_forward_tsn, (TO, uint32_t tsn, const struct dcsctp_skipped_stream *streams, size_t count), tsn, streams, count)
 ADD(add_i_forward_tsn, (TO, uint32_t tsn, const struct dcsctp_skipped_stream *streams, size_t count), tsn, streams, count)
-ADD(add_parameter, (TO, size_t start, uint16_t type, const uint8_t *value, size_t count), start, type, value, count)
-ADD(add_number, (TO, size_t start, uint16_t type, uint32_t number), start, type, number)
-ADD(add_re_config, (TO, size_t start, const struct dcsctp_re_config *re_config, const uint16_t *streams, size_t count),
-    start, re_config, streams, count)
-ADD(add_missing_parameters, (TO, size_t start, const uint16_t *types, size_t count), start, types, count)
+EXTEND(add_parameter, (TO, uint16_t type, const uint8_t *value, size_t count), type, value, count)
+EXTEND(add_number, (TO, uint16_t type, uint32_t number), type, number)
+EXTEND(add_re_config, (TO, const struct dcsctp_re_config *re_config, const uint16_t *streams, size_t count), re_config, streams,
+       count)
+EXTEND(add_missing_parameters, (TO, const uint16_t *types, size_t count), types, count)
 ADD(add_registered_chunk,
     (TO, uint8_t type, struct dcsctp_registered registered, const uint8_t *bytes, size_t count), type, &registered, bytes,
     count)
-#define ADD_REGISTERED_ITEM(level)                                                                                     \
-    ADD(add_registered_##level,                                                                                        \
-        (TO, size_t start, uint16_t type, struct dcsctp_registered registered, const uint8_t *bytes, size_t count),    \
-        start, type, &registered, bytes, count)
-ADD_REGISTERED_ITEM(parameter)
-ADD_REGISTERED_ITEM(cause)
+#define EXTEND_REGISTERED(level)                                                                                       \
+    EXTEND(add_registered_##level,                                                                                     \
+           (TO, uint16_t type, struct dcsctp_registered registered, const uint8_t *bytes, size_t count), type,         \
+           &registered, bytes, count)
+EXTEND_REGISTERED(parameter)
+EXTEND_REGISTERED(cause)
 
-/* ---- what is asked of whoever receives a packet, and what is authenticated; an output is written from its front */
+/* ---- what is asked of whoever receives a packet, and what is authenticated */
 
 static inline uint32_t go_verify_tag(const uint8_t *bytes, size_t length, struct dcsctp_association association)
 {
@@ -230,9 +257,9 @@ static inline uint32_t go_broken_rules(const uint8_t *bytes, size_t length, stru
     return dcsctp_broken_rules(bytes, length, &known);
 }
 
-/* A code, the size of the packet after the call, and where the program stops. */
+/* A code, and where the program stops. */
 struct go_reported {
-    struct go_result result;
+    uint32_t code;
     size_t end;
 };
 
@@ -255,36 +282,41 @@ static inline struct go_list go_list(const uint8_t *bytes, size_t length, const 
 }
 
 /* Where the program stops is an offset of the chunk's packet. */
-static inline struct go_reported go_add_unrecognized_parameters(TO, size_t start, const uint8_t *bytes, size_t length,
+static inline struct go_reported go_add_unrecognized_parameters(TO, const uint8_t *bytes, size_t length,
                                                                 const struct dcsctp_chunk *chunk, const uint16_t *known,
                                                                 size_t known_count)
 {
     const struct go_list list = go_list(bytes, length, chunk);
-    struct go_reported reported = {{0, size}, 0};
-    reported.result.code = dcsctp_add_unrecognized_parameters(packet, room, &reported.result.size, start, list.bytes, list.size,
-                                                              known, known_count, &reported.end);
+    struct go_reported reported = {0, 0};
+    go_begin(packet, to);
+    reported.code = dcsctp_add_unrecognized_parameters(packet, to->room, &to->size, to->start, list.bytes, list.size, known,
+                                                       known_count, &reported.end);
     reported.end += list.offset;
     return reported;
 }
+
+static inline uint32_t go_added_error(TO, struct go_list list, const uint16_t *known, size_t known_count, size_t *end)
+    ADDS(dcsctp_add_unrecognized_parameters_error(packet, to->room, &to->size, list.bytes, list.size, known, known_count, end))
 
 static inline struct go_reported go_add_unrecognized_parameters_error(TO, const uint8_t *bytes, size_t length,
                                                                       const struct dcsctp_chunk *chunk, const uint16_t *known,
                                                                       size_t known_count)
 {
     const struct go_list list = go_list(bytes, length, chunk);
-    struct go_reported reported = {{0, size}, 0};
-    reported.result.code = dcsctp_add_unrecognized_parameters_error(packet, room, &reported.result.size, list.bytes, list.size,
-                                                                    known, known_count, &reported.end);
+    struct go_reported reported = {0, 0};
+    reported.code = go_added_error(packet, to, list, known, known_count, &reported.end);
     reported.end += list.offset;
     return reported;
 }
 
+static inline uint32_t go_added_chunks(TO, const uint8_t *bytes, size_t length, const uint8_t *known, size_t known_count, size_t *end)
+    ADDS(dcsctp_add_unrecognized_chunks(packet, to->room, &to->size, bytes, length, known, known_count, end))
+
 static inline struct go_reported go_add_unrecognized_chunks(TO, const uint8_t *bytes, size_t length, const uint8_t *known,
                                                             size_t known_count)
 {
-    struct go_reported reported = {{0, size}, 0};
-    reported.result.code = dcsctp_add_unrecognized_chunks(packet, room, &reported.result.size, bytes, length, known, known_count,
-                                                          &reported.end);
+    struct go_reported reported = {0, 0};
+    reported.code = go_added_chunks(packet, to, bytes, length, known, known_count, &reported.end);
     return reported;
 }
 
@@ -295,23 +327,32 @@ static inline bool go_adds_addresses(const uint8_t *bytes, size_t length, const 
     return dcsctp_adds_addresses(list.bytes, list.size, known, known_size);
 }
 
-static inline struct go_result go_add_new_addresses(TO, size_t start, const uint8_t *bytes, size_t length,
-                                                    const struct dcsctp_chunk *chunk, const uint8_t *known, size_t known_size)
+static inline uint32_t go_add_new_addresses(TO, const uint8_t *bytes, size_t length, const struct dcsctp_chunk *chunk,
+                                            const uint8_t *known, size_t known_size)
 {
     const struct go_list list = go_list(bytes, length, chunk);
-    struct go_result result = {0, size};
-    result.code = dcsctp_add_new_addresses(packet, room, &result.size, start, list.bytes, list.size, known, known_size);
-    return result;
+    go_begin(packet, to);
+    return dcsctp_add_new_addresses(packet, to->room, &to->size, to->start, list.bytes, list.size, known, known_size);
 }
 
-ADD(reply, (TO, struct dcsctp_header header, uint32_t answer), &header, answer)
-ADD(init_abort, (TO, struct dcsctp_header header, uint32_t tag, uint32_t fault), &header, tag, fault)
-ADD(shared_key,
-    (TO, const uint8_t *pair_key, size_t pair_key_size, const uint8_t *one, size_t one_size, const uint8_t *other, size_t other_size),
-    pair_key, pair_key_size, one, one_size, other, other_size)
-ADD(seal_cookie,
-    (TO, const uint8_t *key, size_t key_size, struct dcsctp_cookie cookie, const uint8_t *addresses, size_t count), key, key_size,
-    &cookie, addresses, count)
+/* Writes from the front of an output. */
+#define WRITES(name, parameters, ...)                                                                                  \
+    static inline struct go_result go_##name parameters                                                                \
+    {                                                                                                                  \
+        struct go_result result = {0, 0};                                                                              \
+        result.code = dcsctp_##name(output, room, &result.size, __VA_ARGS__);                                          \
+        return result;                                                                                                 \
+    }
+#define OUTPUT uint8_t *output, size_t room
+WRITES(reply, (OUTPUT, struct dcsctp_header header, uint32_t answer), &header, answer)
+WRITES(init_abort, (OUTPUT, struct dcsctp_header header, uint32_t tag, uint32_t fault), &header, tag, fault)
+WRITES(shared_key,
+       (OUTPUT, const uint8_t *pair_key, size_t pair_key_size, const uint8_t *one, size_t one_size, const uint8_t *other,
+        size_t other_size),
+       pair_key, pair_key_size, one, one_size, other, other_size)
+WRITES(seal_cookie,
+       (OUTPUT, const uint8_t *key, size_t key_size, struct dcsctp_cookie cookie, const uint8_t *addresses, size_t count), key,
+       key_size, &cookie, addresses, count)
 
 /* A dcsctp_cookie_state, and what of a cookie the call wrote. */
 struct go_cookie {

@@ -496,6 +496,30 @@ func TestBuilder(t *testing.T) {
 	equal(t, "value", buffer[24:44], []byte(sealed("0a000007 616263 00")))
 }
 
+func TestBuilderReset(t *testing.T) {
+	var b davgyuti.Builder
+	equal(t, "zero value", []interface{}{len(b.Bytes()), b.AddCookieAck(), b.Seal()},
+		[]interface{}{0, davgyuti.ErrBadPlace, davgyuti.ErrBadPlace})
+	buffer := bytes.Repeat([]byte{0xee}, 40)
+	equal(t, "reset", b.Reset(buffer, 5000, 5001, 0x01020304), nil)
+	equal(t, "header alone", b.Bytes(), ofHex("1388 1389 01020304 00000000"))
+	_, isThere := b.LastChunk()
+	equal(t, "chunk", isThere, false)
+	wanted := sealed("0b000004")
+	equal(t, "allocations", testing.AllocsPerRun(10, func() {
+		if b.Reset(buffer, 5000, 5001, 0x01020304) != nil || b.AddCookieAck() != nil || b.Seal() != nil {
+			t.Error("not written")
+		}
+	}), 0.0)
+	equal(t, "written", append(davgyuti.Packet(nil), buffer...), append(wanted, bytes.Repeat([]byte{0xee}, 24)...))
+	equal(t, "no room", b.Reset(make([]byte, 11), 1, 2, 3), davgyuti.ErrNoRoom)
+	equal(t, "unchanged", davgyuti.Packet(b.Bytes()), wanted)
+	equal(t, "reset", b.Reset(buffer, 5000, 5001, 0x01020304), nil)
+	b.RemoveLastChunk()
+	equal(t, "seal", b.Seal(), nil)
+	equal(t, "header alone", davgyuti.Packet(b.Bytes()), sealed(""))
+}
+
 func TestNames(t *testing.T) {
 	equal(t, "chunk", davgyuti.ChunkIForwardTSN.String(), "I-FORWARD-TSN")
 	equal(t, "chunk", davgyuti.ChunkType(99).String(), "chunk type 99 (0x63)")

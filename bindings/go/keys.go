@@ -25,7 +25,7 @@ func (t ChunkType) IsListed(list []byte) bool {
 // without padding: their Bytes.
 func SharedKey(pairKey, one, other []byte) []byte {
 	output := make([]byte, len(pairKey)+len(one)+len(other))
-	result := C.go_shared_key(bytesOf(output), C.size_t(len(output)), 0, bytesOf(pairKey), C.size_t(len(pairKey)),
+	result := C.go_shared_key(bytesOf(output), C.size_t(len(output)), bytesOf(pairKey), C.size_t(len(pairKey)),
 		bytesOf(one), C.size_t(len(one)), bytesOf(other), C.size_t(len(other)))
 	return output[:result.size]
 }
@@ -77,7 +77,7 @@ const cookieSize = 72
 // Seal returns the State Cookie, with an HMAC under a key that nobody else knows.
 func (cookie Cookie) Seal(key []byte) []byte {
 	output := make([]byte, cookieSize+len(cookie.Addresses))
-	result := C.go_seal_cookie(bytesOf(output), C.size_t(len(output)), 0, bytesOf(key), C.size_t(len(key)),
+	result := C.go_seal_cookie(bytesOf(output), C.size_t(len(output)), bytesOf(key), C.size_t(len(key)),
 		C.struct_dcsctp_cookie{
 			created:           C.uint64_t(cookie.Created),
 			lifespan:          C.uint64_t(cookie.Lifespan),

@@ -128,7 +128,7 @@ func (p Packet) OutOfTheBlue(isUnicast bool) Answer {
 // reflected, with the T bit. Seal it. ErrBadValue for another answer.
 func (h Header) Reply(answer Answer) (Packet, error) {
 	return unsealed(func(to *C.uint8_t, room C.size_t) C.struct_go_result {
-		return C.go_reply(to, room, 0, h.c(), C.uint32_t(answer))
+		return C.go_reply(to, room, h.c(), C.uint32_t(answer))
 	})
 }
 
@@ -198,7 +198,7 @@ func (f InitFault) Refusal(isAck, inCookieWait bool) Refusal {
 // own, with the T bit. Seal it. ErrBadValue for InitNoFault, and for a number that is no fault's.
 func (h Header) InitAbort(initiateTag uint32, fault InitFault) (Packet, error) {
 	return unsealed(func(to *C.uint8_t, room C.size_t) C.struct_go_result {
-		return C.go_init_abort(to, room, 0, h.c(), C.uint32_t(initiateTag), C.uint32_t(fault))
+		return C.go_init_abort(to, room, h.c(), C.uint32_t(initiateTag), C.uint32_t(fault))
 	})
 }
 

@@ -219,8 +219,7 @@ func (b *Builder) AddRegisteredChunk(chunkType ChunkType, it Registered) error {
 	if err != nil {
 		return err
 	}
-	to, room := b.to()
-	return b.added(C.go_add_registered_chunk(to, room, b.size, C.uint8_t(chunkType), c, bytesOf(bytes),
+	return errorOf(C.go_add_registered_chunk(bytesOf(b.buffer), &b.c, C.uint8_t(chunkType), c, bytesOf(bytes),
 		C.size_t(len(bytes))))
 }
 
@@ -230,8 +229,7 @@ func (b *Builder) AddRegisteredParameter(parameterType ParameterType, it Registe
 	if err != nil {
 		return err
 	}
-	to, room := b.to()
-	return b.extended(C.go_add_registered_parameter(to, room, b.size, b.start, C.uint16_t(parameterType), c, bytesOf(bytes),
+	return errorOf(C.go_add_registered_parameter(bytesOf(b.buffer), &b.c, C.uint16_t(parameterType), c, bytesOf(bytes),
 		C.size_t(len(bytes))))
 }
 
@@ -241,8 +239,7 @@ func (b *Builder) AddRegisteredCause(code CauseCode, it Registered) error {
 	if err != nil {
 		return err
 	}
-	to, room := b.to()
-	return b.extended(C.go_add_registered_cause(to, room, b.size, b.start, C.uint16_t(code), c, bytesOf(bytes),
+	return errorOf(C.go_add_registered_cause(bytesOf(b.buffer), &b.c, C.uint16_t(code), c, bytesOf(bytes),
 		C.size_t(len(bytes))))
 }
 

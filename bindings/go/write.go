@@ -28,92 +28,100 @@ import "unsafe"
 //	if err == nil {
 //		err = packet.Seal()
 //	}
+//
+// The header is written with what comes first after Begin: an Add function, Bytes, LastChunk or Seal.
 type Builder struct {
 	buffer []byte
-	size   C.size_t
-	start  C.size_t // of the last chunk; size where there is none
+	c      C.struct_go_builder
 }
 
 // Begin begins a packet with these ports and this tag; the length of the buffer is the room. Bytes of the buffer after the
 // packet stay. ErrNoRoom where the buffer has no 12 bytes.
 func Begin(buffer []byte, sourcePort, destinationPort uint16, verificationTag uint32) (*Builder, error) {
-	b := &Builder{buffer: buffer}
-	to, room := b.to()
-	result := C.go_begin(to, room, 0, C.uint16_t(sourcePort), C.uint16_t(destinationPort), C.uint32_t(verificationTag))
-	if result.code != C.DCSCTP_OK {
-		return nil, Code(result.code)
+	b := new(Builder)
+	if err := b.Reset(buffer, sourcePort, destinationPort, verificationTag); err != nil {
+		return nil, err
 	}
-	b.size, b.start = result.size, result.size
 	return b, nil
 }
 
+// Reset begins another packet, as Begin does, with a Builder that had one or is the zero value: one for many packets takes less time
+// than one for each. ErrNoRoom, and nothing is changed, where the buffer has no 12 bytes.
+func (b *Builder) Reset(buffer []byte, sourcePort, destinationPort uint16, verificationTag uint32) error {
+	if len(buffer) < FirstChunk {
+		return ErrNoRoom
+	}
+	b.buffer, b.c.begins = buffer, true
+	b.c.room, b.c.size, b.c.start = C.size_t(len(buffer)), FirstChunk, FirstChunk
+	b.c.source_port, b.c.destination_port = C.uint16_t(sourcePort), C.uint16_t(destinationPort)
+	b.c.tag = C.uint32_t(verificationTag)
+	return nil
+}
+
 // Bytes returns the packet, as far as it is written: a part of the buffer.
-func (b *Builder) Bytes() []byte { return b.buffer[:b.size] }
+func (b *Builder) Bytes() []byte {
+	if b.c.begins {
+		C.go_begin(bytesOf(b.buffer), &b.c)
+	}
+	return b.buffer[:b.c.size]
+}
 
 // LastChunk returns the last chunk, where it lies in the buffer: its Bytes are all that is sent of a chunk without a packet
 // around it. False where there is none.
-func (b *Builder) LastChunk() (Chunk, bool) { return Packet(b.Bytes()).ChunkAt(int(b.start)) }
+func (b *Builder) LastChunk() (Chunk, bool) { return Packet(b.Bytes()).ChunkAt(int(b.c.start)) }
 
 // Seal writes the CRC32c. Call it last. Whether there is a chunk isn't looked at: without one the packet is sealed, and
 // Packet.Check refuses it.
-func (b *Builder) Seal() error { return Packet(b.Bytes()).Seal() }
+func (b *Builder) Seal() error { return errorOf(C.go_seal(bytesOf(b.buffer), &b.c)) }
 
 // RemoveLastChunk takes the last chunk back, with its list; nothing if that was done, or there is none. After it there is
 // no chunk to add to, until one is added.
-func (b *Builder) RemoveLastChunk() { b.size = b.start }
+func (b *Builder) RemoveLastChunk() { b.c.size = b.c.start }
 
 // AddChunk adds a chunk of any type with these flags and this value.
 func (b *Builder) AddChunk(chunkType ChunkType, flags uint8, value []byte) error {
-	to, room := b.to()
 	value = b.apart(value)
-	return b.added(C.go_add_chunk(to, room, b.size, C.uint8_t(chunkType), C.uint8_t(flags), bytesOf(value),
+	return errorOf(C.go_add_chunk(bytesOf(b.buffer), &b.c, C.uint8_t(chunkType), C.uint8_t(flags), bytesOf(value),
 		C.size_t(len(value))))
 }
 
 // AddData adds DATA; its MID and FSN are ignored.
 func (b *Builder) AddData(data Data) error {
-	to, room := b.to()
 	payload := b.apart(data.Payload)
-	return b.added(C.go_add_data(to, room, b.size, data.c(), bytesOf(payload), C.size_t(len(payload))))
+	return errorOf(C.go_add_data(bytesOf(b.buffer), &b.c, data.c(), bytesOf(payload), C.size_t(len(payload))))
 }
 
 // AddIData adds I-DATA; its SSN is ignored, FSN at the beginning of a message, and PPID elsewhere.
 func (b *Builder) AddIData(data Data) error {
-	to, room := b.to()
 	payload := b.apart(data.Payload)
-	return b.added(C.go_add_i_data(to, room, b.size, data.c(), bytesOf(payload), C.size_t(len(payload))))
+	return errorOf(C.go_add_i_data(bytesOf(b.buffer), &b.c, data.c(), bytesOf(payload), C.size_t(len(payload))))
 }
 
 // AddSACK adds a SACK.
 func (b *Builder) AddSACK(cumulativeTSNAck, aRwnd uint32, blocks []GapAckBlock, duplicates []uint32) error {
-	to, room := b.to()
-	return b.added(C.go_add_sack(to, room, b.size, C.uint32_t(cumulativeTSNAck), C.uint32_t(aRwnd), blocksOf(blocks),
+	return errorOf(C.go_add_sack(bytesOf(b.buffer), &b.c, C.uint32_t(cumulativeTSNAck), C.uint32_t(aRwnd), blocksOf(blocks),
 		C.size_t(len(blocks)), (*C.uint32_t)(first(duplicates)), C.size_t(len(duplicates))))
 }
 
 // AddInit adds INIT with these numbers, and no parameter yet.
 func (b *Builder) AddInit(init Init) error {
-	to, room := b.to()
-	return b.added(C.go_add_init(to, room, b.size, init.c()))
+	return errorOf(C.go_add_init(bytesOf(b.buffer), &b.c, init.c()))
 }
 
 // AddInitAck adds INIT ACK with these numbers, and no parameter yet; its State Cookie has to be added.
 func (b *Builder) AddInitAck(init Init) error {
-	to, room := b.to()
-	return b.added(C.go_add_init_ack(to, room, b.size, init.c()))
+	return errorOf(C.go_add_init_ack(bytesOf(b.buffer), &b.c, init.c()))
 }
 
 // AddCookieEcho adds COOKIE ECHO with this cookie.
 func (b *Builder) AddCookieEcho(cookie []byte) error {
-	to, room := b.to()
 	cookie = b.apart(cookie)
-	return b.added(C.go_add_cookie_echo(to, room, b.size, bytesOf(cookie), C.size_t(len(cookie))))
+	return errorOf(C.go_add_cookie_echo(bytesOf(b.buffer), &b.c, bytesOf(cookie), C.size_t(len(cookie))))
 }
 
 // AddCookieAck adds COOKIE ACK.
 func (b *Builder) AddCookieAck() error {
-	to, room := b.to()
-	return b.added(C.go_add_cookie_ack(to, room, b.size))
+	return errorOf(C.go_add_cookie_ack(bytesOf(b.buffer), &b.c))
 }
 
 // AddHeartbeat adds HEARTBEAT with this heartbeat info.
@@ -123,48 +131,41 @@ func (b *Builder) AddHeartbeat(info []byte) error { return b.heartbeat(false, in
 func (b *Builder) AddHeartbeatAck(info []byte) error { return b.heartbeat(true, info) }
 
 func (b *Builder) heartbeat(isAck bool, info []byte) error {
-	to, room := b.to()
 	info = b.apart(info)
-	return b.added(C.go_add_heartbeat(to, room, b.size, C.bool(isAck), bytesOf(info), C.size_t(len(info))))
+	return errorOf(C.go_add_heartbeat(bytesOf(b.buffer), &b.c, C.bool(isAck), bytesOf(info), C.size_t(len(info))))
 }
 
 // AddAbort adds ABORT with the cause User-Initiated Abort; ErrBadValue where the reason isn't UTF-8. For other causes:
 // AddChunk of ChunkAbort, and AddCause.
 func (b *Builder) AddAbort(reason string, tagReflected bool) error {
-	to, room := b.to()
 	bytes := []byte(reason)
-	return b.added(C.go_add_abort(to, room, b.size, C.bool(tagReflected), bytesOf(bytes), C.size_t(len(bytes))))
+	return errorOf(C.go_add_abort(bytesOf(b.buffer), &b.c, C.bool(tagReflected), bytesOf(bytes), C.size_t(len(bytes))))
 }
 
 // AddShutdown adds SHUTDOWN.
 func (b *Builder) AddShutdown(cumulativeTSNAck uint32) error {
-	to, room := b.to()
-	return b.added(C.go_add_shutdown(to, room, b.size, C.uint32_t(cumulativeTSNAck)))
+	return errorOf(C.go_add_shutdown(bytesOf(b.buffer), &b.c, C.uint32_t(cumulativeTSNAck)))
 }
 
 // AddShutdownAck adds SHUTDOWN ACK.
 func (b *Builder) AddShutdownAck() error {
-	to, room := b.to()
-	return b.added(C.go_add_shutdown_ack(to, room, b.size))
+	return errorOf(C.go_add_shutdown_ack(bytesOf(b.buffer), &b.c))
 }
 
 // AddShutdownComplete adds SHUTDOWN COMPLETE.
 func (b *Builder) AddShutdownComplete(tagReflected bool) error {
-	to, room := b.to()
-	return b.added(C.go_add_shutdown_complete(to, room, b.size, C.bool(tagReflected)))
+	return errorOf(C.go_add_shutdown_complete(bytesOf(b.buffer), &b.c, C.bool(tagReflected)))
 }
 
 // AddForwardTSN adds FORWARD-TSN.
 func (b *Builder) AddForwardTSN(newCumulativeTSN uint32, streams []SkippedStream) error {
-	to, room := b.to()
-	return b.added(C.go_add_forward_tsn(to, room, b.size, C.uint32_t(newCumulativeTSN), streamsOf(streams),
+	return errorOf(C.go_add_forward_tsn(bytesOf(b.buffer), &b.c, C.uint32_t(newCumulativeTSN), streamsOf(streams),
 		C.size_t(len(streams))))
 }
 
 // AddIForwardTSN adds I-FORWARD-TSN.
 func (b *Builder) AddIForwardTSN(newCumulativeTSN uint32, streams []SkippedStream) error {
-	to, room := b.to()
-	return b.added(C.go_add_i_forward_tsn(to, room, b.size, C.uint32_t(newCumulativeTSN), streamsOf(streams),
+	return errorOf(C.go_add_i_forward_tsn(bytesOf(b.buffer), &b.c, C.uint32_t(newCumulativeTSN), streamsOf(streams),
 		C.size_t(len(streams))))
 }
 
@@ -179,15 +180,13 @@ func (b *Builder) AddCause(code CauseCode, value []byte) error {
 }
 
 func (b *Builder) item(itemType C.uint16_t, value []byte) error {
-	to, room := b.to()
 	value = b.apart(value)
-	return b.extended(C.go_add_parameter(to, room, b.size, b.start, itemType, bytesOf(value), C.size_t(len(value))))
+	return errorOf(C.go_add_parameter(bytesOf(b.buffer), &b.c, itemType, bytesOf(value), C.size_t(len(value))))
 }
 
 // AddNumber adds a parameter whose value is a number of four bytes: Zero Checksum Acceptable.
 func (b *Builder) AddNumber(parameterType ParameterType, number uint32) error {
-	to, room := b.to()
-	return b.extended(C.go_add_number(to, room, b.size, b.start, C.uint16_t(parameterType), C.uint32_t(number)))
+	return errorOf(C.go_add_number(bytesOf(b.buffer), &b.c, C.uint16_t(parameterType), C.uint32_t(number)))
 }
 
 // AddCauseNumber adds an error cause whose value is a number of four bytes: No User Data.
@@ -199,16 +198,14 @@ func (b *Builder) AddCauseNumber(code CauseCode, number uint32) error {
 // streams are written for an Outgoing or Incoming SSN Reset alone. ErrBadValue for another type, or a response with a result
 // above 6.
 func (b *Builder) AddReConfig(reConfig ReConfig, streams []uint16) error {
-	to, room := b.to()
 	value := reConfig.c()
-	return b.extended(C.go_add_re_config(to, room, b.size, b.start, &value, (*C.uint16_t)(first(streams)),
+	return errorOf(C.go_add_re_config(bytesOf(b.buffer), &b.c, &value, (*C.uint16_t)(first(streams)),
 		C.size_t(len(streams))))
 }
 
 // AddMissingParameters adds the cause Missing Mandatory Parameter with these types.
 func (b *Builder) AddMissingParameters(types []ParameterType) error {
-	to, room := b.to()
-	return b.extended(C.go_add_missing_parameters(to, room, b.size, b.start, (*C.uint16_t)(first(types)),
+	return errorOf(C.go_add_missing_parameters(bytesOf(b.buffer), &b.c, (*C.uint16_t)(first(types)),
 		C.size_t(len(types))))
 }
 
@@ -217,24 +214,20 @@ func (b *Builder) AddMissingParameters(types []ParameterType) error {
 // processing stops, and with it. All, or nothing. known are the types that your program knows. The first result is where your
 // program stops: the Offset of the parameter at which processing stops, or of the end of the INIT's value if it stops at none.
 func (b *Builder) AddUnrecognizedParameters(init Chunk, known []ParameterType) (int, error) {
-	to, room := b.to()
 	from, length, chunk := init.in(b.apart(init.packet())).inC()
-	reported := C.go_add_unrecognized_parameters(to, room, b.size, b.start, from, length, &chunk, (*C.uint16_t)(first(known)),
+	reported := C.go_add_unrecognized_parameters(bytesOf(b.buffer), &b.c, from, length, &chunk, (*C.uint16_t)(first(known)),
 		C.size_t(len(known)))
-	err := b.extended(reported.result)
-	return int(reported.end), err
+	return int(reported.end), errorOf(reported.code)
 }
 
 // AddUnrecognizedParametersError adds an ERROR with a cause Unrecognized Parameters (section 3.3.10.8) for each parameter of an
 // INIT ACK that came, or of another chunk but INIT, likewise; no ERROR if there is none. The packet is the one that answers: that
 // of an INIT ACK begins with COOKIE ECHO.
 func (b *Builder) AddUnrecognizedParametersError(came Chunk, known []ParameterType) (int, error) {
-	to, room := b.to()
 	from, length, chunk := came.in(b.apart(came.packet())).inC()
-	reported := C.go_add_unrecognized_parameters_error(to, room, b.size, from, length, &chunk, (*C.uint16_t)(first(known)),
+	reported := C.go_add_unrecognized_parameters_error(bytesOf(b.buffer), &b.c, from, length, &chunk, (*C.uint16_t)(first(known)),
 		C.size_t(len(known)))
-	err := b.reported(reported.result)
-	return int(reported.end), err
+	return int(reported.end), errorOf(reported.code)
 }
 
 // AddUnrecognizedChunks adds an ERROR with a cause Unrecognized Chunk Type (section 3.3.10.6) for each chunk of a packet that came
@@ -242,48 +235,19 @@ func (b *Builder) AddUnrecognizedParametersError(came Chunk, known []ParameterTy
 // with it; no ERROR if there is none. All, or nothing. known are the types that your program knows. The first result is where your
 // program stops: the Offset of the chunk at which processing stops, or the packet's length if it stops at none.
 func (b *Builder) AddUnrecognizedChunks(came Packet, known []ChunkType) (int, error) {
-	to, room := b.to()
 	came = b.apart(came)
-	reported := C.go_add_unrecognized_chunks(to, room, b.size, bytesOf(came), C.size_t(len(came)), (*C.uint8_t)(first(known)),
+	reported := C.go_add_unrecognized_chunks(bytesOf(b.buffer), &b.c, bytesOf(came), C.size_t(len(came)), (*C.uint8_t)(first(known)),
 		C.size_t(len(known)))
-	err := b.reported(reported.result)
-	return int(reported.end), err
+	return int(reported.end), errorOf(reported.code)
 }
 
 // AddNewAddresses adds to an ABORT, the last chunk, the cause Restart of an Association with New Addresses (section 3.3.10.11),
 // with the addresses that an INIT adds to those of an association, known, as they are in the INIT: see Chunk.AddsAddresses.
 func (b *Builder) AddNewAddresses(init Chunk, known []byte) error {
-	to, room := b.to()
 	known = b.apart(known)
 	from, length, chunk := init.in(b.apart(init.packet())).inC()
-	return b.extended(C.go_add_new_addresses(to, room, b.size, b.start, from, length, &chunk, bytesOf(known),
+	return errorOf(C.go_add_new_addresses(bytesOf(b.buffer), &b.c, from, length, &chunk, bytesOf(known),
 		C.size_t(len(known))))
-}
-
-func (b *Builder) to() (*C.uint8_t, C.size_t) { return bytesOf(b.buffer), C.size_t(len(b.buffer)) }
-
-// extended takes what a call returned.
-func (b *Builder) extended(result C.struct_go_result) error {
-	if result.code == C.DCSCTP_OK {
-		b.size = result.size
-	}
-	return errorOf(result.code)
-}
-
-// added does, for a call that added a chunk.
-func (b *Builder) added(result C.struct_go_result) error {
-	if result.code == C.DCSCTP_OK {
-		b.start = b.size
-	}
-	return b.extended(result)
-}
-
-// reported does, for a call that may have added an ERROR.
-func (b *Builder) reported(result C.struct_go_result) error {
-	if result.size == b.size {
-		return b.extended(result)
-	}
-	return b.added(result)
 }
 
 // apart returns what is to be written, and a copy where it lies in the buffer itself: C reads and writes apart.
