@@ -156,13 +156,16 @@ func add(builder *davgyuti.Builder, it *keptChunk) error {
 	}
 }
 
-var buffer = make([]byte, 1<<16)
+var (
+	buffer  = make([]byte, 1<<16)
+	builder davgyuti.Builder
+)
 
 func (kept *keptPacket) write() ([]byte, error) {
 	header := kept.header
-	builder, err := davgyuti.Begin(buffer, header.SourcePort, header.DestinationPort, header.VerificationTag)
+	err := builder.Reset(buffer, header.SourcePort, header.DestinationPort, header.VerificationTag)
 	for i := 0; err == nil && i < len(kept.chunks); i++ {
-		err = add(builder, &kept.chunks[i])
+		err = add(&builder, &kept.chunks[i])
 	}
 	if err == nil {
 		err = builder.Seal()
