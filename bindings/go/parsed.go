@@ -44,6 +44,9 @@ type row struct {
 	firstDuplicate, duplicateCount uint16
 }
 
+// list returns the bounds of the chunk's list, among those of all chunks.
+func (row *row) list() (from, to int) { return int(row.first), int(row.first) + int(row.count) }
+
 // Read reads a packet, and returns nil; or an *Error, as Check returns it, and then there are no chunks, and Header is zero.
 func (parsed *Parsed) Read(packet Packet, policy Policy) error {
 	parsed.Header, parsed.packet = Header{}, packet
@@ -162,25 +165,21 @@ func (parsed *Parsed) ForwardTSN(i int) (ForwardTSN, bool) {
 	return forwardTSNOf(row.chunkType, row.value(parsed.packet))
 }
 
-// list returns the items of a list that are a chunk's, if it is of these types.
-func list[T any](of []T, first, count uint16) []T {
-	from, to := int(first), int(first)+int(count)
-	return of[from:to:to]
-}
-
 // GapAckBlocks returns those of a chunk that is a SACK, and none of another.
 func (parsed *Parsed) GapAckBlocks(i int) []GapAckBlock {
 	row := &parsed.rows[i]
 	if row.chunkType != ChunkSACK {
 		return nil
 	}
-	return list(parsed.blocks, row.first, row.count)
+	from, to := row.list()
+	return parsed.blocks[from:to:to]
 }
 
 // DuplicateTSNs returns those of a chunk that is a SACK, and none of another.
 func (parsed *Parsed) DuplicateTSNs(i int) []uint32 {
 	row := &parsed.rows[i]
-	return list(parsed.duplicates, row.firstDuplicate, row.duplicateCount)
+	from, to := int(row.firstDuplicate), int(row.firstDuplicate)+int(row.duplicateCount)
+	return parsed.duplicates[from:to:to]
 }
 
 // SkippedStreams returns those of a chunk that is FORWARD-TSN or I-FORWARD-TSN, and none of another.
@@ -189,7 +188,8 @@ func (parsed *Parsed) SkippedStreams(i int) []SkippedStream {
 	if row.chunkType != ChunkForwardTSN && row.chunkType != ChunkIForwardTSN {
 		return nil
 	}
-	return list(parsed.streams, row.first, row.count)
+	from, to := row.list()
+	return parsed.streams[from:to:to]
 }
 
 // itemsOf returns the places of a chunk's error causes, or of its parameters.
@@ -202,7 +202,8 @@ func (parsed *Parsed) itemsOf(i int, areCauses bool) []place {
 	if row.chunkType.hasCauses() != areCauses {
 		return nil
 	}
-	return list(parsed.items, row.first, row.count)
+	from, to := row.list()
+	return parsed.items[from:to:to]
 }
 
 // ParameterCount returns how many parameters a chunk has: none for ABORT and ERROR, and types that have no list.
