@@ -302,17 +302,14 @@ func clock() time.Duration {
 	return time.Duration(used.Utime.Nano() + used.Stime.Nano())
 }
 
-// timed returns the nanoseconds of a packet. It goes over the packets once, twice, four times and so on before it looks at the clock,
-// which takes as long as a few packets.
+// timed returns the nanoseconds of a packet.
 func timed(packets [][]byte, it call, least time.Duration) float64 {
 	begin, done, took := clock(), 0, time.Duration(0)
-	for passes := 1; took < least; passes *= 2 {
-		for i := 0; i < passes; i++ {
-			if pass(packets, it.one) != it.sum {
-				check(fmt.Errorf("a sum changes"))
-			}
+	for took < least {
+		if pass(packets, it.one) != it.sum {
+			check(fmt.Errorf("a sum changes"))
 		}
-		done += passes * len(packets)
+		done += len(packets)
 		took = clock() - begin
 	}
 	return float64(took.Nanoseconds()) / float64(done)
