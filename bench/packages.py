@@ -53,7 +53,7 @@ READ = (
     ('C', 'by hand', 'davgyuti', 'davgyuti, rows'),
     ('Rust', 'plain loop', 'davgyuti'),
     ('Python', 'aiortc', 'davgyuti'),
-    ('Go', 'pion', 'davgyuti'),
+    ('Go', 'pion', 'davgyuti', 'davgyuti, 16 at once'),
     ('JavaScript', 'DataView', 'davgyuti'),
 )
 WRITTEN = (('Python', 'aiortc writes', 'davgyuti writes'), ('Go', 'pion writes', 'davgyuti writes'))

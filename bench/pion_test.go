@@ -38,9 +38,7 @@ func sumOfBits(bits ...bool) (sum uint64) {
 
 // ---- by davgyuti
 
-var parsed davgyuti.Parsed
-
-func sumOfItems(i int) (sum uint64) {
+func sumOfItems(parsed *davgyuti.Parsed, i int) (sum uint64) {
 	for k := 0; k < parsed.ParameterCount(i); k++ {
 		it := parsed.Parameter(i, k)
 		sum += uint64(it.Type) + sumOfValue(it.Value)
@@ -52,7 +50,7 @@ func sumOfItems(i int) (sum uint64) {
 	return sum
 }
 
-func sumOfChunk(i int) uint64 {
+func sumOfChunk(parsed *davgyuti.Parsed, i int) uint64 {
 	typ := parsed.Type(i)
 	sum := uint64(typ)
 	switch typ {
@@ -63,7 +61,7 @@ func sumOfChunk(i int) uint64 {
 	case davgyuti.ChunkInit, davgyuti.ChunkInitAck:
 		it, _ := parsed.Init(i)
 		sum += uint64(it.InitiateTag) + uint64(it.ARwnd) + uint64(it.OutboundStreams) + uint64(it.InboundStreams)
-		return sum + uint64(it.InitialTSN) + sumOfItems(i)
+		return sum + uint64(it.InitialTSN) + sumOfItems(parsed, i)
 	case davgyuti.ChunkSACK:
 		it, _ := parsed.SACK(i)
 		sum += uint64(it.CumulativeTSNAck) + uint64(it.ARwnd)
@@ -75,7 +73,7 @@ func sumOfChunk(i int) uint64 {
 		}
 		return sum
 	case davgyuti.ChunkHeartbeat, davgyuti.ChunkHeartbeatAck, davgyuti.ChunkAbort, davgyuti.ChunkError, davgyuti.ChunkReConfig:
-		return sum + sumOfItems(i)
+		return sum + sumOfItems(parsed, i)
 	case davgyuti.ChunkShutdown:
 		tsn, _ := parsed.Shutdown(i)
 		return sum + uint64(tsn)
@@ -91,15 +89,41 @@ func sumOfChunk(i int) uint64 {
 	}
 }
 
-func readByDavgyuti(raw []byte) uint64 {
-	if parsed.Read(raw, davgyuti.Policy{}) != nil {
-		return 0
-	}
-	sum := uint64(1)
+// sumOf is 0 of what is no packet: a packet has a chunk.
+func sumOf(parsed *davgyuti.Parsed) (sum uint64) {
 	for i := 0; i < parsed.Len(); i++ {
-		sum += sumOfChunk(i)
+		sum += sumOfChunk(parsed, i)
+	}
+	if parsed.Len() > 0 {
+		sum++
 	}
 	return sum
+}
+
+var parsed davgyuti.Parsed
+
+func readByDavgyuti(raw []byte) uint64 {
+	_ = parsed.Read(raw, davgyuti.Policy{})
+	return sumOf(&parsed)
+}
+
+// readBatches reads 16 packets at once.
+func readBatches(packets []davgyuti.Packet) call {
+	parsed := make([]davgyuti.Parsed, 16)
+	all := func() (sum uint64) {
+		for from := 0; from < len(packets); from += 16 {
+			batch := packets[from:]
+			if len(batch) > 16 {
+				batch = batch[:16]
+			}
+			davgyuti.ReadBatch(parsed, batch, davgyuti.Policy{})
+			for i := range batch {
+				sum += sumOf(&parsed[i])
+			}
+		}
+		return sum
+	}
+	return call{"davgyuti, 16 at once", all, all()}
 }
 
 // What a chunk is written from.
@@ -224,10 +248,10 @@ func readByPion(raw []byte) uint64 {
 
 // ---- the clock
 
-// A call over all packets: its name, what it does with one, and the sum of what that returns.
+// A call over all packets: its name, what it does, and the sum that it returns.
 type call struct {
 	name string
-	one  func(i int) uint64
+	all  func() uint64
 	sum  uint64
 }
 
@@ -249,16 +273,14 @@ func load(name string) (packets [][]byte) {
 	return packets
 }
 
-func pass(packets [][]byte, one func(i int) uint64) (sum uint64) {
-	for i := range packets {
-		sum += one(i)
-	}
-	return sum
-}
-
 func reader(name string, packets [][]byte, read func([]byte) uint64) call {
-	one := func(i int) uint64 { return read(packets[i]) }
-	return call{name, one, pass(packets, one)}
+	all := func() (sum uint64) {
+		for _, packet := range packets {
+			sum += read(packet)
+		}
+		return sum
+	}
+	return call{name, all, all()}
 }
 
 func writer(name string, packets [][]byte, write func(i int) ([]byte, error)) call {
@@ -271,16 +293,23 @@ func writer(name string, packets [][]byte, write func(i int) ([]byte, error)) ca
 		}
 		sum += uint64(len(raw))
 	}
-	one := func(i int) uint64 {
-		written, err := write(i)
-		check(err)
-		return uint64(len(written))
+	all := func() (sum uint64) {
+		for i := range packets {
+			written, err := write(i)
+			check(err)
+			sum += uint64(len(written))
+		}
+		return sum
 	}
-	return call{name, one, sum}
+	return call{name, all, sum}
 }
 
 func callsOver(packets [][]byte, isTimed bool) []call {
-	calls := []call{reader("davgyuti", packets, readByDavgyuti)}
+	batch := make([]davgyuti.Packet, len(packets))
+	for i, raw := range packets {
+		batch[i] = raw
+	}
+	calls := []call{reader("davgyuti", packets, readByDavgyuti), readBatches(batch)}
 	if !isTimed {
 		return calls
 	}
@@ -303,13 +332,13 @@ func clock() time.Duration {
 }
 
 // timed returns the nanoseconds of a packet.
-func timed(packets [][]byte, it call, least time.Duration) float64 {
+func timed(count int, it call, least time.Duration) float64 {
 	begin, done, took := clock(), 0, time.Duration(0)
 	for took < least {
-		if pass(packets, it.one) != it.sum {
+		if it.all() != it.sum {
 			check(fmt.Errorf("a sum changes"))
 		}
-		done += len(packets)
+		done += count
 		took = clock() - begin
 	}
 	return float64(took.Nanoseconds()) / float64(done)
@@ -329,7 +358,7 @@ func TestMain(*testing.M) {
 		best := make([]float64, len(calls))
 		for round := 0; round < rounds; round++ {
 			for i, it := range calls {
-				one := timed(packets, it, time.Duration(millis)*time.Millisecond)
+				one := timed(len(packets), it, time.Duration(millis)*time.Millisecond)
 				if round == 0 || one < best[i] {
 					best[i] = one
 				}

@@ -71,6 +71,23 @@ static inline struct go_result go_first_fault(const uint8_t *bytes, size_t lengt
     return result;
 }
 
+/* Some packets, with the words that their fields have to be. */
+enum { GO_BATCH = 16 };
+struct go_batch {
+    const uint8_t *bytes[GO_BATCH];
+    size_t lengths[GO_BATCH];
+    uint32_t words[GO_BATCH];
+};
+
+/* Which of the first ones are packets: a bit for each. */
+static inline uint32_t go_check_batch(struct go_batch batch, size_t count, struct go_policy asked)
+{
+    uint32_t accepted = 0;
+    for (size_t i = 0; i < count; i++)
+        accepted |= (uint32_t)(go_check(batch.bytes[i], batch.lengths[i], batch.words[i], asked) == DCSCTP_OK) << i;
+    return accepted;
+}
+
 #define WRITES_PACKET(name)                                                                                            \
     static inline struct go_result go_##name(const uint8_t *bytes, size_t length, uint32_t word,                       \
                                              struct go_policy asked, uint8_t *output, size_t room)                     \

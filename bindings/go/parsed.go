@@ -2,6 +2,9 @@
 
 package davgyuti
 
+// #include "calls.h"
+import "C"
+
 import "encoding/binary"
 
 // A Parsed is a packet that Read has checked in one call of C, and read with all its chunks and their lists. Keep one, and read packet
@@ -49,10 +52,41 @@ func (row *row) list() (from, to int) { return int(row.first), int(row.first) + 
 
 // Read reads a packet, and returns nil; or an *Error, as Check returns it, and then there are no chunks, and Header is zero.
 func (parsed *Parsed) Read(packet Packet, policy Policy) error {
+	fault := packet.firstFault(policy)
+	parsed.read(packet, fault == nil)
+	if fault != nil {
+		return fault
+	}
+	return nil
+}
+
+// ReadBatch reads packets as Read does, each into the Parsed of its index, with one call of C for each 16 of them: of a small packet
+// that takes half of the time, or less. A Parsed has no chunks where the packet is none; its Check says why. It panics where there are
+// fewer Parsed than packets.
+func ReadBatch(parsed []Parsed, packets []Packet, policy Policy) {
+	for len(packets) > 0 {
+		var batch C.struct_go_batch
+		count := len(packets)
+		if count > C.GO_BATCH {
+			count = C.GO_BATCH
+		}
+		for i, packet := range packets[:count] {
+			batch.bytes[i], batch.lengths[i], batch.words[i] = bytesOf(packet), C.size_t(len(packet)), policy.word(packet)
+		}
+		accepted := C.go_check_batch(batch, C.size_t(count), policy.c())
+		for i, packet := range packets[:count] {
+			parsed[i].read(packet, accepted>>i&1 != 0)
+		}
+		parsed, packets = parsed[count:], packets[count:]
+	}
+}
+
+// read reads a packet that C has accepted, or one that it hasn't.
+func (parsed *Parsed) read(packet Packet, isAccepted bool) {
 	parsed.Header, parsed.packet = Header{}, packet
 	parsed.rows = parsed.rows[:0] // (alone on a line it stores no pointer)
-	if fault := packet.firstFault(policy); fault != nil {
-		return fault
+	if !isAccepted {
+		return
 	}
 	header := (*[FirstChunk]byte)(packet)
 	parsed.Header = Header{shortAt(header[:], 0), shortAt(header[:], 2), numberAt(header[:], 4), numberAt(header[:], 8)}
@@ -66,7 +100,6 @@ func (parsed *Parsed) Read(packet Packet, policy Policy) error {
 			parsed.readLists(row)
 		}
 	}
-	return nil
 }
 
 // readLists reads the lists of a chunk.

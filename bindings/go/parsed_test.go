@@ -105,6 +105,19 @@ func TestParsed(t *testing.T) {
 			isRead(t, new(davgyuti.Parsed), packet, policy) // with too few rows, and places in lists, at first
 		}
 	}
+	for _, policy := range policies {
+		batch := make([]davgyuti.Parsed, len(packets)+1)
+		equal(t, "read before", batch[0].Read(packets[len(packets)-1], davgyuti.Policy{}), nil)
+		davgyuti.ReadBatch(batch, packets, policy)
+		for i, packet := range packets {
+			what, one := fmt.Sprintf("packet %d of a batch", i), davgyuti.Parsed{}
+			_ = one.Read(packet, policy)
+			equal(t, what, []interface{}{batch[i].Len(), batch[i].Header}, []interface{}{one.Len(), one.Header})
+			for k := 0; k < one.Len(); k++ {
+				equal(t, what, append(numbersAt(&batch[i], k), batch[i].Chunk(k)), append(numbersAt(&one, k), one.Chunk(k)))
+			}
+		}
+	}
 	random, accepted := rand.New(rand.NewSource(2)), 0
 	for round := 0; round < 3000; round++ {
 		packet := append(davgyuti.Packet(nil), packets[3+random.Intn(len(packets)-4)]...)
@@ -167,6 +180,27 @@ func TestParsedLarge(t *testing.T) {
 	}
 	equal(t, "parameters", []int{parsed.Len(), parsed.ParameterCount(0), parsed.CauseCount(0)}, []int{1, 16370, 0})
 	equal(t, "last", parsed.Parameter(0, 16369).Offset, 16+4*16369)
+}
+
+func TestReadBatch(t *testing.T) {
+	packets := make([]davgyuti.Packet, 40)
+	for i := range packets {
+		packets[i] = sealed(strings.Repeat("0b000004", 1+i))
+	}
+	packets[17] = nil
+	parsed := make([]davgyuti.Parsed, 40)
+	davgyuti.ReadBatch(parsed, packets, davgyuti.Policy{})
+	for i, wanted := range map[int]int{0: 1, 15: 16, 16: 17, 17: 0, 39: 40} {
+		equal(t, "chunks", parsed[i].Len(), wanted)
+	}
+	equal(t, "allocations", testing.AllocsPerRun(5, func() { davgyuti.ReadBatch(parsed, packets, davgyuti.Policy{}) }), 0.0)
+	davgyuti.ReadBatch(nil, nil, davgyuti.Policy{})
+	defer func() {
+		if recover() == nil {
+			t.Error("fewer Parsed than packets: no panic")
+		}
+	}()
+	davgyuti.ReadBatch(parsed[:39], packets, davgyuti.Policy{})
 }
 
 func TestParsedAllocates(t *testing.T) {
