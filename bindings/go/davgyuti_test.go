@@ -505,6 +505,8 @@ func TestBuilderReset(t *testing.T) {
 	equal(t, "header alone", b.Bytes(), ofHex("1388 1389 01020304 00000000"))
 	_, isThere := b.LastChunk()
 	equal(t, "chunk", isThere, false)
+	b.RemoveLastChunk()
+	equal(t, "none to remove", len(b.Bytes()), davgyuti.FirstChunk)
 	wanted := sealed("0b000004")
 	equal(t, "allocations", testing.AllocsPerRun(10, func() {
 		if b.Reset(buffer, 5000, 5001, 0x01020304) != nil || b.AddCookieAck() != nil || b.Seal() != nil {
