@@ -84,7 +84,7 @@ func ReadBatch(parsed []Parsed, packets []Packet, policy Policy) {
 // read reads a packet that C has accepted, or one that it hasn't.
 func (parsed *Parsed) read(packet Packet, isAccepted bool) {
 	parsed.Header, parsed.packet = Header{}, packet
-	parsed.rows = parsed.rows[:0] // (alone on a line it stores no pointer)
+	parsed.rows = parsed.rows[:0] // (by itself: the compiler then stores the length alone, and no pointer)
 	if !isAccepted {
 		return
 	}
@@ -138,7 +138,11 @@ func (parsed *Parsed) readBlocks(blocks []byte) {
 	if len(blocks) >= 400 {
 		before, count := len(to), len(to)+len(blocks)/4
 		if count > cap(to) {
-			to = append(make([]GapAckBlock, 0, count), to...)
+			room := 2 * cap(to) // (a packet can have more than a hundred such lists)
+			if room < count {
+				room = count
+			}
+			to = append(make([]GapAckBlock, 0, room), to...)
 		}
 		to = to[:count]
 		parsed.Chunk(len(parsed.rows) - 1).fillBlocks(to[before:])
