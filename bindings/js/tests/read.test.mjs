@@ -108,6 +108,18 @@ test('lists are those of their packet, whatever is called in between', () => {
   }
 });
 
+test('blocks are in order where each begins two past the end before it', () => {
+  for (const [isInOrder, ...pairs] of [
+    [true], [true, [2, 3]], [true, [2, 3], [5, 5]], [true, [2, 65533], [65535, 65535]],
+    [false, [1, 3]], [false, [0, 0]], [false, [3, 2]], [false, [2, 3], [4, 4]], [false, [2, 3], [3, 4]], [false, [5, 6], [2, 3]],
+  ]) {
+    const blocks = pairs.map(([start, end]) => ({ start, end })), sack = { cumulativeTsnAck: 1, aRwnd: 2, blocks };
+    const packet = new Builder({ sourcePort: 1, destinationPort: 2, verificationTag: 3 }).addSack(sack).finish();
+    assert.ok(compare(packet));
+    assert.equal(read(packet).chunks[0].sack.isInOrder, isInOrder, JSON.stringify(pairs));
+  }
+});
+
 test('each parameter of RE-CONFIG, and streams of both kinds', () => {
   const builder = new Builder({ sourcePort: 1, destinationPort: 2, verificationTag: 3 });
   const numbers = { requestNumber: 0x80000001, responseNumber: 0xfffffffe, lastTsn: 0x87654321, result: 6, newStreams: 0xfedc };
