@@ -39,7 +39,6 @@ crates/dcsctp_borrowed/specs/RawParameters.antt = HEARTBEAT ACK = || typ == 5
 crates/dcsctp_borrowed/src/raw_causes.rt = ERROR = error_chunk::CHUNK_TYPE =>
 crates/dcsctp_borrowed/proofs/ParametersAgain.antt = State Cookie = use Rattle.dcsctp_tlv.specs.StateCookie as cookie
 crates/dcsctp_borrowed/proofs/CausesAgain.antt = Protocol Violation = use Rattle.dcsctp_cause.specs.ProtocolViolation as violation
-crates/dcsctp_borrowed/proofs/Widths.antt = No User Data = use Rattle.dcsctp_cause.specs.NoUserData as no_user_data
 crates/dcsctp_buffer/specs/Item.antt = INIT ACK = with_parameter (InitAck i) p =
 crates/dcsctp_c/src/parameters.rt = HEARTBEAT = heartbeat_request_chunk::CHUNK_TYPE
 crates/dcsctp_c/specs/Parameter.antt = SSN/TSN Reset Request = number_of (SsnTsnResetRequest number) = Some number

@@ -1,6 +1,6 @@
 -- The sum of a SACK's blocks, gathered apart from what it is added to.
 use Rattle.std.proofs.Common.{◌≡◌, ◌≤◌, ◌<◌, ◌+◌, ◌-◌, ◌*◌, ◌%◌, ◌^◌, ℕ, List, [], ◌∷◌, length, refl, sym, ap, ◌∙◌, arith}
-use Rattle.std.proofs.Math.Nat.{mod-add-mod, mod-eq_of_lt}
+use Rattle.std.proofs.Math.Nat.{mod-add-mod}
 use Rattle.dcsctp_chunk.specs.declared.sack_chunk.GapAckBlock.{GapAckBlock}
 use Rattle.bench_probes.specs.Walk.{plus, with_blocks}
 
@@ -23,19 +23,6 @@ plus-plus n a b =
 pub nothing_added : (n : ℕ) (all : List GapAckBlock) → length all ≡ 0 → n ≡ with_blocks n all
 nothing_added n [] none = refl
 nothing_added n (b ∷ bs) none = absurd (omega (arith, none))
-
-pub nothing_gathered : (n : ℕ) (all : List GapAckBlock) → n < 2 ^ 64 → length all < 2 ^ 16
-    → IsGathered n 0 0 all all
-nothing_gathered n all small few =
-    let same : plus n (0 + 0) ≡ n = (let none : n + (0 + 0) ≡ n = omega arith in
-    ap (λ k. k % 2 ^ 64) none) ∙ mod-eq_of_lt small in
-    record {
-      ends = 0;
-      sum = ap (λ k. with_blocks k all) same;
-      both_is = omega arith;
-      starts_room = omega (arith, few);
-      ends_room = omega (arith, few);
-    }
 
 pub one_gathered : (n starts both : ℕ) (block : GapAckBlock) (left all : List GapAckBlock)
     → block.start < 2 ^ 16 → block.end < 2 ^ 16
@@ -62,8 +49,3 @@ one_gathered n starts both block left all start end h =
       starts_room = omega (arith, starts_room, start);
       ends_room = omega (arith, ends_room, end);
     }
-
--- less the starts, the sum of both numbers is that of the ends
-pub ends_of_both : (starts ends both : ℕ) → both ≡ (65536 * starts + ends) % 2 ^ 32
-    → ends < 2 ^ 32 → (both + (2 ^ 32 - starts % 65536 * 65536)) % 2 ^ 32 ≡ ends
-ends_of_both starts ends both both_is small = omega (arith, both_is, small)

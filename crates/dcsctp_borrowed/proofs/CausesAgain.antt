@@ -16,7 +16,6 @@ CauseAgain code value t = AreBytes value → tlv t ≡ typed_tlv code (cause_val
 
 missing_again : (value types : List ℕ) → missing.read value ≡ Ok types
     → CauseAgain 2 value (MissingMandatoryParameter types)
-unfolding missing.read
 missing_again value types e fits =
     let whole = passed (length value == 4 + 2 * number32 value) _ Length types e in
     let size : length value ≡ 4 + 2 * number32 value =
@@ -40,14 +39,12 @@ missing_again value types e fits =
 
 chunk_again : (value bytes : List ℕ) → chunk.read value ≡ Ok bytes
     → CauseAgain 6 value (UnrecognizedChunk bytes)
-unfolding chunk.read
 chunk_again value bytes e fits =
     let is : value ≡ bytes = of_ok _ bytes e in
     same_tlv 0 6 (length bytes) bytes value (chunk.format bytes).sized (sym is)
 
 no_user_data_again : (value : List ℕ) (tsn : ℕ) → no_user_data.read value ≡ Ok tsn
     → CauseAgain 9 value (NoUserData tsn)
-unfolding no_user_data.read
 no_user_data_again value tsn e fits =
     let whole = passed (length value == 4) _ Length tsn e in
     let size : length value ≡ 4 = eqb-true (length value) 4 whole.0 in
@@ -58,28 +55,24 @@ no_user_data_again value tsn e fits =
 
 cookie_again : (value : List ℕ) (t : Unit {0}) → cookie_received.read value ≡ Ok t
     → CauseAgain 10 value CookieReceivedWhileShuttingDown
-unfolding cookie_received.read
 cookie_again value t e fits =
     let whole = passed (length value == 0) _ Length t e in
     same_tlv 0 10 0 [] value refl (none value (eqb-true (length value) 0 whole.0))
 
 abort_again : (value text : List ℕ) → abort.read value ≡ Ok text
     → CauseAgain 12 value (UserInitiatedAbort text)
-unfolding abort.read
 abort_again value text e fits =
     same_tlv 0 12 (length text) text (text_or abort.unreadable value) (abort.format text).sized
     (sym (of_ok _ text e))
 
 violation_again : (value text : List ℕ) → violation.read value ≡ Ok text
     → CauseAgain 13 value (ProtocolViolation text)
-unfolding violation.read
 violation_again value text e fits =
     same_tlv 0 13 (length text) text (text_or violation.unreadable value)
     (violation.format text).sized (sym (of_ok _ text e))
 
 others : (code : ℕ) → IsUnnamed table code → (value : List ℕ) (u : unknown.Tree)
     → unknown.read code value ≡ Ok u → CauseAgain code value (Unknown u)
-unfolding unknown.read
 others code isnt value u e fits =
     let is : record { typ = code; value = value } ≡ u = of_ok _ u e in
     let twelve = ne_eqb code 12 isnt.1.1.1.1.0 in

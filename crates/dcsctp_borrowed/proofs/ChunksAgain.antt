@@ -76,7 +76,6 @@ error_is value cs m fits =
 
 others : (flags typ : ℕ) → IsUnnamed (table lenient flags) typ → (value : List ℕ) (u : unknown.Tree)
     → unknown.read typ flags value ≡ Ok u → ChunkAgain flags typ value (Unknown u)
-unfolding unknown.read
 others flags typ isnt value u e fits =
     let at : unknown.Tree = record { typ = typ; flags = flags; value = value } in
     let is : at ≡ u = of_ok _ u e in

@@ -152,9 +152,6 @@ written_none again list old = record { over = over_none again list; done = refl 
 
 module _ (again : Again) (list rest : List ℕ) (end : ℕ) (o : GoneOver again list rest end)
     (frame : BeginsWithFrame rest) where
-  tlvs : Item → Tlv
-  tlvs = item_again again
-
   pub here : (k : ℕ) × (first_items o.more rest ≡ front_item rest ∷ first_items k (frame_rest rest))
       × (length (frame_rest rest) ≤ k)
   here = next_in o.more rest frame o.enough

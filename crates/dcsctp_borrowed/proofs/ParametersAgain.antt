@@ -23,19 +23,16 @@ ParameterAgain typ value t = AreBytes value → tlv t ≡ typed_tlv typ (paramet
 -- ---- any bytes
 
 info_again : (value x : List ℕ) → info.read value ≡ Ok x → ParameterAgain 1 value (HeartbeatInfo x)
-unfolding info.read
 info_again value x e fits =
     same_tlv 0 1 (length x) x value (info.format x).sized (sym (of_ok _ x e))
 
 cookie_again : (value x : List ℕ) → cookie.read value ≡ Ok x
     → ParameterAgain 7 value (StateCookie x)
-unfolding cookie.read
 cookie_again value x e fits =
     same_tlv 0 7 (length x) x value (cookie.format x).sized (sym (of_ok _ x e))
 
 extensions_again : (value x : List ℕ) → extensions.read value ≡ Ok x
     → ParameterAgain 0x8008 value (SupportedExtensions x)
-unfolding extensions.read
 extensions_again value x e fits =
     same_tlv 128 8 (length x) x value (extensions.format x).sized (sym (of_ok _ x e))
 
@@ -50,7 +47,6 @@ whole_word value n size is fits =
 
 ssn_tsn_again : (value : List ℕ) (n : ℕ) → ssn_tsn.read value ≡ Ok n
     → ParameterAgain 15 value (SsnTsnResetRequest n)
-unfolding ssn_tsn.read
 ssn_tsn_again value n e fits =
     let whole = passed (length value == 4) _ Length n e in
     same_tlv 0 15 4 (to_be_bytes w32 n) value (ssn_tsn.format n).sized
@@ -58,7 +54,6 @@ ssn_tsn_again value n e fits =
 
 zero_checksum_again : (value : List ℕ) (n : ℕ) → zero_checksum.read value ≡ Ok n
     → ParameterAgain 0x8001 value (ZeroChecksumAcceptable n)
-unfolding zero_checksum.read
 zero_checksum_again value n e fits =
     let whole = passed (length value == 4) _ Length n e in
     same_tlv 128 1 4 (to_be_bytes w32 n) value (zero_checksum.format n).sized
@@ -66,7 +61,6 @@ zero_checksum_again value n e fits =
 
 forward_tsn_again : (value : List ℕ) (t : Unit {0}) → forward_tsn.read value ≡ Ok t
     → ParameterAgain 0xC000 value ForwardTsnSupported
-unfolding forward_tsn.read
 forward_tsn_again value t e fits =
     let whole = passed (length value == 0) _ Length t e in
     same_tlv 192 0 0 [] value refl (none value (eqb-true (length value) 0 whole.0))
@@ -75,7 +69,6 @@ forward_tsn_again value t e fits =
 add_streams_again : (typ : ℕ) (name value : List ℕ) (r : add_streams.Tree)
     → add_streams.read value ≡ Ok r → AreBytes value
     → (add_streams.format typ name r).tlv ≡ typed_tlv typ (without_reserved value)
-unfolding add_streams.read
 add_streams_again typ name value r e fits =
     let whole = passed (length value == 8) _ Length r e in
     let size : length value ≡ 8 = eqb-true (length value) 8 whole.0 in
@@ -98,7 +91,6 @@ add_streams_again typ name value r e fits =
 
 outgoing_again : (value : List ℕ) (r : outgoing.Tree) → outgoing.read value ≡ Ok r
     → ParameterAgain 13 value (OutgoingSsnResetRequest r)
-unfolding outgoing.read
 outgoing_again value r e fits =
     let n = outgoing.stream_count value in
     let whole = passed (length value == 12 + 2 * n) _ Length r e in
@@ -125,7 +117,6 @@ outgoing_again value r e fits =
 
 incoming_again : (value : List ℕ) (r : incoming.Tree) → incoming.read value ≡ Ok r
     → ParameterAgain 14 value (IncomingSsnResetRequest r)
-unfolding incoming.read
 incoming_again value r e fits =
     let n = incoming.stream_count value in
     let whole = passed (length value == 4 + 2 * n) _ Length r e in
@@ -206,7 +197,6 @@ own_response value n sender receiver r e size fits is =
 
 response_again : (value : List ℕ) (r : response.Tree) → response.read value ≡ Ok r
     → ParameterAgain 16 value (ReconfigurationResponse r)
-unfolding response.read
 response_again value r e fits = elim (chosen (length value == 8) _ _ (Ok r) e) [
   | inl h ↦ own_response value 2 None None r h.1 (eqb-true (length value) 8 h.0) fits refl
   | inr h ↦ (let whole = passed (length value == 16) _ Length r h.1 in
@@ -218,7 +208,6 @@ response_again value r e fits = elim (chosen (length value == 8) _ _ (Ok r) e) [
 
 others : (typ : ℕ) → IsUnnamed table typ → (value : List ℕ) (u : unknown.Tree)
     → unknown.read typ value ≡ Ok u → ParameterAgain typ value (Unknown u)
-unfolding unknown.read
 others typ isnt value u e fits =
     let at : unknown.Tree = record { typ = typ; value = value } in
     let is : at ≡ u = of_ok _ u e in

@@ -59,7 +59,6 @@ half_at n value size fits =
 
 pub shutdown_again : (value : List ℕ) (tsn : ℕ) → shutdown.read value ≡ Ok tsn → AreBytes value
     → (shutdown.format tsn).tlv ≡ solid_tlv 7 0 value
-unfolding shutdown.read
 shutdown_again value tsn e fits =
     let whole = passed (length value == 4) _ Length tsn e in
     let size : length value ≡ 4 = eqb-true (length value) 4 whole.0 in
@@ -70,7 +69,6 @@ shutdown_again value tsn e fits =
 
 pub cookie_echo_again : (value cookie : List ℕ) → cookie_echo.read value ≡ Ok cookie
     → (cookie_echo.format cookie).tlv ≡ solid_tlv 10 0 value
-unfolding cookie_echo.read
 cookie_echo_again value cookie e =
     let whole = not_refused (length value == 0) _ Length cookie e in
     same_tlv 10 0 (length cookie) cookie value (cookie_echo.format cookie).sized
@@ -78,14 +76,12 @@ cookie_echo_again value cookie e =
 
 pub cookie_ack_again : (value : List ℕ) (t : Unit {0}) → cookie_ack.read value ≡ Ok t
     → (cookie_ack.format t).tlv ≡ solid_tlv 11 0 value
-unfolding cookie_ack.read
 cookie_ack_again value t e =
     let whole = passed (length value == 0) _ Length t e in
     same_tlv 11 0 0 [] value refl (none value (eqb-true (length value) 0 whole.0))
 
 pub shutdown_ack_again : (value : List ℕ) (t : Unit {0}) → shutdown_ack.read value ≡ Ok t
     → (shutdown_ack.format t).tlv ≡ solid_tlv 8 0 value
-unfolding shutdown_ack.read
 shutdown_ack_again value t e =
     let whole = passed (length value == 0) _ Length t e in
     same_tlv 8 0 0 [] value refl (none value (eqb-true (length value) 0 whole.0))
@@ -93,7 +89,6 @@ shutdown_ack_again value t e =
 pub shutdown_complete_again : (flags : ℕ) (value : List ℕ) (reflected : Bool)
     → shutdown_complete.read flags value ≡ Ok reflected
     → (shutdown_complete.format reflected).tlv ≡ solid_tlv 14 (flags % 2) value
-unfolding shutdown_complete.read
 shutdown_complete_again flags value reflected e =
     let whole = passed (length value == 0) _ Length reflected e in
     let is : is_set flags 0 ≡ reflected = of_ok _ reflected whole.1 in
@@ -114,7 +109,6 @@ block_again bytes size fits =
 
 pub sack_again : (value : List ℕ) (s : sack.Tree) → sack.read value ≡ Ok s → AreBytes value
     → (sack.format s).tlv ≡ solid_tlv 3 0 value
-unfolding sack.read
 sack_again value s e fits =
     let n = sack.numbers_at value in
     let blocks = n.gap_ack_block_count in
@@ -169,7 +163,6 @@ sack_again value s e fits =
 pub data_again : (flags : ℕ) (value : List ℕ) (c : data_kind.Tree)
     → data_chunk.read flags value ≡ Ok c → AreBytes value
     → (data_chunk.format c).tlv ≡ solid_tlv 0 (flags % 16) value
-unfolding data_chunk.read
 data_again flags value c e fits =
     let n = data_chunk.numbers_at value in
     let whole = not_refused (nat_lt (length value) 12) _ Length c e in
@@ -203,7 +196,6 @@ one_of false n = refl
 pub idata_again : (flags : ℕ) (value : List ℕ) (c : data_kind.Tree)
     → idata_chunk.read flags value ≡ Ok c → AreBytes value
     → (idata_chunk.format c).tlv ≡ solid_tlv 64 (flags % 16) (value_again 64 value)
-unfolding idata_chunk.read
 idata_again flags value c e fits =
     let n = idata_chunk.numbers_at value in
     let b = is_set flags 1 in
@@ -245,7 +237,6 @@ idata_again flags value c e fits =
 
 pub forward_again : (value : List ℕ) (t : streams.Tree) → forward.read value ≡ Ok t
     → AreBytes value → (forward.format t).tlv ≡ solid_tlv 192 0 value
-unfolding forward.read
 forward_again value t e fits =
     let n = streams.stream_count 4 value in
     let whole = passed (length value == 4 + 4 * n) _ Length t e in
@@ -297,7 +288,6 @@ stream_by_mid (a ∷ b ∷ c ∷ d ∷ e ∷ f ∷ g ∷ h ∷ more) size fits =
 
 pub iforward_again : (value : List ℕ) (t : streams.Tree) → iforward.read value ≡ Ok t
     → AreBytes value → (iforward.format t).tlv ≡ solid_tlv 194 0 (value_again 194 value)
-unfolding iforward.read
 iforward_again value t e fits =
     let n = streams.stream_count 8 value in
     let whole = passed (length value == 4 + 8 * n) _ Length t e in

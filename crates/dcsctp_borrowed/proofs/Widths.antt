@@ -2,19 +2,12 @@
 use Rattle.std.{proofs.Common.{◌≡◌, ℕ, zero, suc, ◌+◌, ◌*◌, ◌<◌, ◌^◌, Bool, true, false, Option, Some, None, List, [], ◌∷◌, length, take, drop, Result, Ok, Err, refl, sym, subst, arith, inl, inr, ◌==◌, if◌then◌else◌, ltb-true}, specs.Prelude.{nat_lt, IfSome}, specs.Int.{w16, w32, from_be_bytes}, specs.List.{AllByRecursion, list_all}, specs.Str.{is_utf8, IsAscii}, proofs.lemmas.Str.{IsUtf8-from_is_utf8, IsUtf8-from_ascii}, proofs.lemmas.Str.Ascii.{IsAscii-from_all}, proofs.lemmas.List.Sums.{AllPass-from_list_all}}
 use Rattle.dcsctp_tlv.{specs.Fault.{Fault, Length}, specs.Fields.{fields}, specs.Frame.{Item, lenient}, specs.Level.{Row, Level, ItemsMean, MeansTrees}, specs.Number.{AreBytes, number16, number32}, specs.Table.{◌&◌}, specs.Typed.{item_type, typed_level}, proofs.FieldLaws.{fields-first}, proofs.KindLaws.{of_ok, of_map_ok, chosen, passed, not_refused}}
 use Rattle.dcsctp_tlv.specs.UnknownParameter as unnamed
-use Rattle.dcsctp_tlv.specs.HeartbeatInfo as info
-use Rattle.dcsctp_tlv.specs.StateCookie as cookie
-use Rattle.dcsctp_tlv.specs.SupportedExtensions as extensions
-use Rattle.dcsctp_tlv.specs.ZeroChecksumAcceptable as zero_checksum
 use Rattle.dcsctp_tlv.specs.OutgoingSsnResetRequest as outgoing
 use Rattle.dcsctp_tlv.specs.IncomingSsnResetRequest as incoming
-use Rattle.dcsctp_tlv.specs.SsnTsnResetRequest as ssn_tsn
 use Rattle.dcsctp_tlv.specs.AddStreamsRequest as add_streams
 use Rattle.dcsctp_tlv.specs.ReconfigurationResponse as response
 use Rattle.dcsctp_tlv.specs.Parameter as parameter
 use Rattle.dcsctp_cause.specs.MissingMandatoryParameter as missing
-use Rattle.dcsctp_cause.specs.UnrecognizedChunk as unrecognized
-use Rattle.dcsctp_cause.specs.NoUserData as no_user_data
 use Rattle.dcsctp_cause.specs.UserInitiatedAbort as abort_cause
 use Rattle.dcsctp_cause.specs.ProtocolViolation as violation
 use Rattle.dcsctp_cause.specs.Text.{text_or, IsText}
@@ -24,7 +17,6 @@ use Rattle.dcsctp_chunk.specs.DataChunk as data_chunk
 use Rattle.dcsctp_chunk.specs.IDataChunk as idata_chunk
 use Rattle.dcsctp_chunk.specs.Flags.{is_set}
 use Rattle.dcsctp_chunk.specs.Sack as sack
-use Rattle.dcsctp_chunk.specs.Shutdown as shutdown
 use Rattle.dcsctp_chunk.specs.CookieEcho as cookie_echo
 use Rattle.dcsctp_chunk.specs.SkippedStreams as streams
 use Rattle.dcsctp_chunk.specs.ForwardTsn as forward
@@ -141,7 +133,6 @@ text_fits fixed ascii value text e fits =
 
 outgoing_fits : (value : List ℕ) (r : outgoing.Tree) → outgoing.read value ≡ Ok r
     → AreBytes value → outgoing.IsInWidth r
-unfolding outgoing.read
 outgoing_fits value r e fits =
     let n = outgoing.stream_count value in
     let whole = passed (length value == 12 + 2 * n) _ Length r e in
@@ -154,7 +145,6 @@ outgoing_fits value r e fits =
 
 incoming_fits : (value : List ℕ) (r : incoming.Tree) → incoming.read value ≡ Ok r
     → AreBytes value → incoming.IsInWidth r
-unfolding incoming.read
 incoming_fits value r e fits =
     let n = incoming.stream_count value in
     let whole = passed (length value == 4 + 2 * n) _ Length r e in
@@ -163,7 +153,6 @@ incoming_fits value r e fits =
 
 add_streams_fits : (value : List ℕ) (r : add_streams.Tree) → add_streams.read value ≡ Ok r
     → AreBytes value → add_streams.IsInWidth r
-unfolding add_streams.read
 add_streams_fits value r e fits =
     let whole = passed (length value == 8) _ Length r e in
     subst add_streams.IsInWidth (of_ok _ r whole.1)
@@ -183,7 +172,6 @@ response_with_fits value sender receiver r e fits s t =
 
 response_fits : (value : List ℕ) (r : response.Tree) → response.read value ≡ Ok r
     → AreBytes value → response.IsInWidth r
-unfolding response.read
 response_fits value r e fits = elim (chosen (length value == 8) _ _ (Ok r) e) [
   | inl h ↦ response_with_fits value None None r h.1 fits tt tt
   | inr h ↦ (let whole = passed (length value == 16) _ Length r h.1 in
@@ -196,7 +184,6 @@ ParameterFits typ value t = AreBytes value → parameter.IsInWidth t
 
 parameter_fits : (typ : ℕ) → typ < 2 ^ 16 → (value : List ℕ) (t : parameter.ParameterTree)
     → (parameter.row typ).means value t → ParameterFits typ value t
-unfolding info.read cookie.read ssn_tsn.read zero_checksum.read extensions.read unnamed.read
 parameter_fits typ small =
     of_typed_as ParameterFits typ parameter.kinds parameter.trees parameter.Unknown
     (whole_fits & whole_fits & outgoing_fits & incoming_fits & word_fits & response_fits
@@ -212,7 +199,6 @@ parameters_fit = typed_list_fits parameter.row parameter.IsInWidth parameter_fit
 
 missing_fits : (value types : List ℕ) → missing.read value ≡ Ok types → AreBytes value
     → AllByRecursion (λ typ. typ < 2 ^ 16) types
-unfolding missing.read
 missing_fits value types e fits =
     let whole = passed (length value == 4 + 2 * number32 value) _ Length types e in
     subst (AllByRecursion (λ typ. typ < 2 ^ 16)) (of_ok _ types whole.1)
@@ -223,7 +209,6 @@ CauseFits code value t = AreBytes value → cause.IsInWidth t
 
 cause_fits : (code : ℕ) → code < 2 ^ 16 → (value : List ℕ) (t : cause.CauseTree)
     → (cause.row code).means value t → CauseFits code value t
-unfolding unrecognized.read no_user_data.read abort_cause.read violation.read unnamed.read
 cause_fits code small =
     of_typed_as CauseFits code cause.kinds cause.trees cause.Unknown
     (missing_fits & whole_fits & word_fits & (λ value t e fits. tt)
@@ -270,7 +255,6 @@ error_fits value cs m fits = subst (AllByRecursion cause.IsInWidth) (sym m.1.2)
 
 data_fits : (flags : ℕ) (value : List ℕ) (c : data_kind.Tree)
     → data_chunk.read flags value ≡ Ok c → AreBytes value → data_kind.IsInWidth c
-unfolding data_chunk.read
 data_fits flags value c e fits =
     let whole = not_refused (nat_lt (length value) 12) _ Length c e in
     subst data_kind.IsInWidth (of_ok _ c whole.1) (record {
@@ -289,7 +273,6 @@ either false m n p q = q
 
 idata_fits : (flags : ℕ) (value : List ℕ) (c : data_kind.Tree)
     → idata_chunk.read flags value ≡ Ok c → AreBytes value → data_kind.IsInWidth c
-unfolding idata_chunk.read
 idata_fits flags value c e fits =
     let whole = not_refused (nat_lt (length value) 16) _ Length c e in
     let none : 0 < 2 ^ 32 = omega arith in
@@ -306,7 +289,6 @@ idata_fits flags value c e fits =
 
 sack_fits : (value : List ℕ) (s : sack.Tree) → sack.read value ≡ Ok s → AreBytes value
     → sack.IsInWidth s
-unfolding sack.read
 sack_fits value s e fits =
     let n = sack.numbers_at value in
     let place : ℕ = 12 + 4 * n.gap_ack_block_count in
@@ -323,7 +305,6 @@ sack_fits value s e fits =
 
 cookie_echo_fits : (value x : List ℕ) → cookie_echo.read value ≡ Ok x → AreBytes value
     → AreBytes x
-unfolding cookie_echo.read
 cookie_echo_fits value x e fits =
     subst AreBytes (of_ok value x (not_refused (length value == 0) _ Length x e).1) fits
 
@@ -348,7 +329,6 @@ ChunkFits typ value t = AreBytes value → IsInWidth t
 
 pub chunk_fits : (typ flags : ℕ) → typ < 2 ^ 8 → flags < 2 ^ 8 → (value : List ℕ) (t : ChunkTree)
     → (chunk_row lenient typ flags).means value t → ChunkFits typ value t
-unfolding shutdown.read forward.read iforward.read unknown.read
 chunk_fits typ flags small few =
     of_chunk_as ChunkFits typ flags
     (of_listed ChunkFits 1 Init (init.row lenient) init_fits

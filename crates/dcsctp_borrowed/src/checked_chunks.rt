@@ -141,7 +141,6 @@ impl<'a> CheckedChunk<'a> {
     /// Returns the cookie of COOKIE ECHO, without a copy: what `cookie_echo::cookie` returns.
     /// `None` if and only if the chunk has another type.
     #[inline(always)]
-    #[tactic(auto, unfolding(dcsctp_chunk::specs::CookieEcho::read))]
     pub fn as_cookie(&self) -> Option<&'a [u8]>
         ensures read { option_map (λ bytes. bytes.now) result
             ≡ read_cookie self.now.typ self.now.value.now }

@@ -24,7 +24,6 @@ pub fn cookie<'a>(raw: &RawChunk<'a>) -> Option<&'a [u8]>
 
 /// Returns what a value of this type means as a cookie. Proves only the kind's reading.
 #[inline(always)]
-#[tactic(auto, unfolding(dcsctp_chunk::specs::CookieEcho::read))]
 fn cookie_in(typ: u8, value: &[u8]) -> Option<&[u8]>
     ensures { option_map (λ bytes. bytes.now) result ≡ read_cookie typ value.now }
 {

@@ -60,7 +60,6 @@ impl<'a> ForwardTsnRef<'a> {
     }
 
     /// Builds what the value of a FORWARD-TSN means; `None` if it means nothing.
-    #[tactic(auto, unfolding(dcsctp_chunk::specs::ForwardTsn::read))]
     #[inline(always)]
     fn of_forward(value: &'a [u8]) -> Option<ForwardTsnRef<'a>>
         ensures { result ≡ result_ok (forward_kind.read value.now) }
@@ -75,7 +74,6 @@ impl<'a> ForwardTsnRef<'a> {
     }
 
     /// Builds what a value means that is known to mean a FORWARD-TSN.
-    #[tactic(auto, unfolding(dcsctp_chunk::specs::ForwardTsn::read))]
     #[inline(always)]
     pub(crate) fn of_checked_forward(value: &'a [u8]) -> ForwardTsnRef<'a>
         requires { IsOk (forward_kind.read value.now) }
@@ -90,7 +88,6 @@ impl<'a> ForwardTsnRef<'a> {
     }
 
     /// Builds what the value of an I-FORWARD-TSN means; `None` if it means nothing.
-    #[tactic(auto, unfolding(dcsctp_chunk::specs::IForwardTsn::read))]
     #[inline(always)]
     fn of_iforward(value: &'a [u8]) -> Option<ForwardTsnRef<'a>>
         ensures { result ≡ result_ok (iforward_kind.read value.now) }
@@ -105,7 +102,6 @@ impl<'a> ForwardTsnRef<'a> {
     }
 
     /// Builds what a value means that is known to mean an I-FORWARD-TSN.
-    #[tactic(auto, unfolding(dcsctp_chunk::specs::IForwardTsn::read))]
     #[inline(always)]
     pub(crate) fn of_checked_iforward(value: &'a [u8]) -> ForwardTsnRef<'a>
         requires { IsOk (iforward_kind.read value.now) }

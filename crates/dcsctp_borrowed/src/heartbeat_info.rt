@@ -24,7 +24,6 @@ pub fn heartbeat_info<'a>(raw: &RawParameter<'a>) -> Option<&'a [u8]>
 
 /// Returns what a value of this type means as an info. Proves only the kind's reading.
 #[inline(always)]
-#[tactic(auto, unfolding(dcsctp_tlv::specs::HeartbeatInfo::read))]
 fn info_in(typ: u16, value: &[u8]) -> Option<&[u8]>
     ensures { option_map (λ bytes. bytes.now) result ≡ read_info typ value.now }
 {

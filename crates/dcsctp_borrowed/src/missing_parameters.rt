@@ -29,7 +29,6 @@ pub fn missing_parameters<'a>(raw: &RawParameter<'a>) -> Option<Numbers<'a>>
 
 /// Returns what a value of this code means as missing parameters. Proves only the kind's reading.
 #[inline(always)]
-#[tactic(auto, unfolding(dcsctp_cause::specs::MissingMandatoryParameter::read))]
 fn missing_in(code: u16, value: &[u8]) -> Option<Numbers>
     ensures { result ≡ read_missing code value.now }
 {

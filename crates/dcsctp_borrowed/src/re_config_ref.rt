@@ -105,7 +105,6 @@ impl<'a> ReConfigRef<'a> {
 }
 
 /// Builds what the value of an Outgoing SSN Reset Request means.
-#[tactic(auto, unfolding(dcsctp_tlv::specs::OutgoingSsnResetRequest::read))]
 fn outgoing_request(value: &[u8]) -> Option<ReConfigRef>
     ensures { option_map re_config_view result ≡ option_map parameter.OutgoingSsnResetRequest
         (result_ok (outgoing_kind.read value.now)) }
@@ -127,7 +126,6 @@ fn outgoing_request(value: &[u8]) -> Option<ReConfigRef>
 }
 
 /// Builds what the value of an Incoming SSN Reset Request means.
-#[tactic(auto, unfolding(dcsctp_tlv::specs::IncomingSsnResetRequest::read))]
 fn incoming_request(value: &[u8]) -> Option<ReConfigRef>
     ensures { option_map re_config_view result ≡ option_map parameter.IncomingSsnResetRequest
         (result_ok (incoming_kind.read value.now)) }

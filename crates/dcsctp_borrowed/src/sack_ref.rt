@@ -60,7 +60,6 @@ impl<'a> SackRef<'a> {
     }
 
     /// Builds what the value of a SACK means.
-    #[tactic(auto, unfolding(dcsctp_chunk::specs::Sack::read))]
     #[inline(always)]
     fn of_value(value: &'a [u8]) -> Option<SackRef<'a>>
         ensures { result ≡ result_ok (read value.now) }
@@ -75,7 +74,6 @@ impl<'a> SackRef<'a> {
     }
 
     /// Builds what a value means that is known to mean a SACK.
-    #[tactic(auto, unfolding(dcsctp_chunk::specs::Sack::read))]
     #[inline(always)]
     pub(crate) fn of_checked(value: &'a [u8]) -> SackRef<'a>
         requires { IsOk (read value.now) }

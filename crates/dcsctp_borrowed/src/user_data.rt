@@ -74,7 +74,6 @@ impl<'a> UserData<'a> {
 
     /// Builds what the value of a DATA chunk means under these flags.
     #[inline(always)]
-    #[tactic(auto, unfolding(dcsctp_chunk::specs::DataChunk::read))]
     fn of_data(flags: u8, value: &'a [u8]) -> Option<UserData<'a>>
         ensures read { option_map user_data_view result
             ≡ result_ok (data_kind.read flags value.now) }
@@ -88,7 +87,6 @@ impl<'a> UserData<'a> {
 
     /// Builds what a value means that is known to mean a DATA chunk.
     #[inline(always)]
-    #[tactic(auto, unfolding(dcsctp_chunk::specs::DataChunk::read))]
     pub(crate) fn of_checked_data(flags: u8, value: &'a [u8]) -> UserData<'a>
         requires { IsOk (data_kind.read flags value.now) }
         ensures read { Some (user_data_view result) ≡ result_ok (data_kind.read flags value.now) }
@@ -111,7 +109,6 @@ impl<'a> UserData<'a> {
 
     /// Builds what the value of an I-DATA chunk means under these flags.
     #[inline(always)]
-    #[tactic(auto, unfolding(dcsctp_chunk::specs::IDataChunk::read))]
     fn of_idata(flags: u8, value: &'a [u8]) -> Option<UserData<'a>>
         ensures read { option_map user_data_view result
             ≡ result_ok (idata_kind.read flags value.now) }
@@ -125,7 +122,6 @@ impl<'a> UserData<'a> {
 
     /// Builds what a value means that is known to mean an I-DATA chunk.
     #[inline(always)]
-    #[tactic(auto, unfolding(dcsctp_chunk::specs::IDataChunk::read))]
     pub(crate) fn of_checked_idata(flags: u8, value: &'a [u8]) -> UserData<'a>
         requires { IsOk (idata_kind.read flags value.now) }
         ensures read { Some (user_data_view result) ≡ result_ok (idata_kind.read flags value.now) }

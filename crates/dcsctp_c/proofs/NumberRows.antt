@@ -17,19 +17,15 @@ is_number true n m e = cc
 is_number false n m e = absurd (let no : Err Length ≡ Ok m = e in cc)
 
 shutdown : (value : List ℕ) (n : ℕ) → shutdown_kind.read value ≡ Ok n → read_number value ≡ Some n
-unfolding shutdown_kind.read
 shutdown value n e = is_number (length value == 4) (number32 value) n e
 
 reset : (value : List ℕ) (n : ℕ) → reset_kind.read value ≡ Ok n → read_number value ≡ Some n
-unfolding reset_kind.read
 reset value n e = is_number (length value == 4) (number32 value) n e
 
 method : (value : List ℕ) (n : ℕ) → method_kind.read value ≡ Ok n → read_number value ≡ Some n
-unfolding method_kind.read
 method value n e = is_number (length value == 4) (number32 value) n e
 
 no_data : (value : List ℕ) (n : ℕ) → cause_kind.read value ≡ Ok n → read_number value ≡ Some n
-unfolding cause_kind.read
 no_data value n e = is_number (length value == 4) (number32 value) n e
 
 -- ---- SHUTDOWN

@@ -381,14 +381,12 @@ payload_of tree = tree.user_data.payload
 
 data_payload : (flags : ℕ) (value : List ℕ) (tree : data_kind.Tree)
     → result_ok (data_chunk.read flags value) ≡ Some tree → IsEnd value tree.user_data.payload
-unfolding data_chunk.read
 data_payload flags value tree h =
     let found = read_else (nat_lt (length value) 12) _ _ tree h in
     (12, ltb-false (length value) 12 found.0, sym (ap payload_of found.1))
 
 idata_payload : (flags : ℕ) (value : List ℕ) (tree : data_kind.Tree)
     → result_ok (idata_chunk.read flags value) ≡ Some tree → IsEnd value tree.user_data.payload
-unfolding idata_chunk.read
 idata_payload flags value tree h =
     let found = read_else (nat_lt (length value) 16) _ _ tree h in
     (16, ltb-false (length value) 16 found.0, sym (ap payload_of found.1))

@@ -14,7 +14,7 @@ something : {T S : Type 0} (Holds : T → S → Type 0) (o : Option T) (s : S)
 something Holds (Some t) s h = (t, refl, h)
 something Holds None s h = absurd h
 
-nothing : {T S : Type 0} (Holds : T → S → Type 0) (o : Option T) → Reads Holds o None → o ≡ None
+pub nothing : {T S : Type 0} (Holds : T → S → Type 0) (o : Option T) → Reads Holds o None → o ≡ None
 nothing Holds (Some t) h = absurd h
 nothing Holds None h = refl
 

@@ -13,7 +13,6 @@ use Rattle.dcsctp_cause.{specs.Text.{text_or, IsText}, proofs.Texts.{text_or_utf
 
 missing_back : (types : List ℕ) → (missing.format types).IsInWidth
     → IsEncodable (missing.format types).tlv → missing.read (bytes_of_types types) ≡ Ok types
-unfolding missing.read
 missing_back types w fits =
     let value : List ℕ = bytes_of_types types in
     let size = length-bytes_of_types types in
@@ -24,7 +23,6 @@ missing_back types w fits =
     rw (count, whole, numbers16_back types (length types) refl w) refl
 
 pub missing_laws : FormatLaws missing.read missing.format
-unfolding missing.read
 missing_laws =
     format_laws missing.read missing.format bytes_of_types (λ types. refl)
     (λ types width form fits. missing_back types width fits) (λ value types e. tt)
@@ -39,17 +37,14 @@ missing_laws =
 -- ---- any bytes
 
 pub chunk_laws : FormatLaws chunk.read chunk.format
-unfolding chunk.read
 chunk_laws = any_laws chunk.format (λ x. refl) (λ x. tt)
 
 -- ---- one size
 
 pub no_user_data_laws : FormatLaws no_user_data.read no_user_data.format
-unfolding no_user_data.read
 no_user_data_laws = number_laws no_user_data.format (λ n. refl) (λ n width. width) (λ n. tt)
 
 pub cookie_received_laws : FormatLaws cookie_received.read cookie_received.format
-unfolding cookie_received.read
 cookie_received_laws = empty_laws cookie_received.format (λ t. refl) (λ t. tt)
 
 -- ---- texts: a value that isn't UTF-8 is read as another text, whose size may be another
@@ -72,9 +67,7 @@ text_laws fixed format same width formed =
     (λ value x utf8 e. ap length (sym (of_ok _ x e) ∙ text_or_utf8 fixed value utf8))
 
 pub abort_laws : TextLaws abort.read abort.format
-unfolding abort.read
 abort_laws = text_laws _ abort.format (λ x. refl) (λ x width. width) (λ x. tt)
 
 pub violation_laws : TextLaws violation.read violation.format
-unfolding violation.read
 violation_laws = text_laws _ violation.format (λ x. refl) (λ x width. width) (λ x. tt)

@@ -65,7 +65,6 @@ causes_account = typed_account facts
 -- a text is kept if it was read as its own
 text_kept : (i : Item) (t : CauseTree) → ((causes lenient).row i.first i.second).means i.value t
     → HasOwnText t → IsTextKept i
-unfolding abort.read violation.read
 text_kept i t m own (inl is) =
     let x = of_map_ok UserInitiatedAbort (abort.read i.value) t
     (subst (λ (code : ℕ). (row code).means i.value t) is m) in

@@ -3,7 +3,7 @@ use Rattle.std.specs.Prelude.{ℕ, List, [], ◌==◌, Result, Ok, Err, if◌the
 use Rattle.dcsctp_tlv.specs.Kind.{Fault, Length, Format, sized_tlv, Kind, plain_kind, Fixed}
 use Rattle.dcsctp_cause.specs.declared.cookie_received_while_shutting_down.CookieReceivedWhileShuttingDownErrorCause.{CookieReceivedWhileShuttingDownErrorCause}
 
-unfoldable pub read : List ℕ → Result (Unit {0}) Fault
+abbrev pub read : List ℕ → Result (Unit {0}) Fault
 read value = if length value == 0 then Ok tt else Err Length
 
 abbrev pub format : Unit {0} → Format

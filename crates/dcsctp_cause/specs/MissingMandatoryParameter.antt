@@ -7,7 +7,7 @@ use Rattle.std.specs.{Prelude.{ℕ, ◌+◌, ◌*◌, ◌<◌, ◌^◌, List, []
 use Rattle.dcsctp_tlv.specs.Kind.{Fault, Length, fields, number16, number32, numbers, joined, Format, sized_tlv, length-words, Kind, plain_kind, Varied}
 use Rattle.dcsctp_cause.specs.declared.missing_mandatory_parameter_error_cause.MissingMandatoryParameterErrorCause.{MissingMandatoryParameterErrorCause}
 
-unfoldable pub read : List ℕ → Result (List ℕ) Fault
+abbrev pub read : List ℕ → Result (List ℕ) Fault
 read value =
     if length value == 4 + 2 * number32 value
     then Ok (fields number16 2 (number32 value) (drop 4 value)) else

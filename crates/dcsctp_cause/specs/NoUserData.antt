@@ -4,7 +4,7 @@ use Rattle.std.specs.{Prelude.{ℕ, ◌<◌, ◌^◌, List, ◌++◌, ◌==◌, 
 use Rattle.dcsctp_tlv.specs.Kind.{Fault, Length, number32, Format, sized_tlv, Kind, plain_kind, Fixed}
 use Rattle.dcsctp_cause.specs.declared.no_user_data_error_cause.NoUserDataErrorCause.{NoUserDataErrorCause}
 
-unfoldable pub read : List ℕ → Result ℕ Fault
+abbrev pub read : List ℕ → Result ℕ Fault
 read value = if length value == 4 then Ok (number32 value) else Err Length
 
 abbrev pub format : ℕ → Format

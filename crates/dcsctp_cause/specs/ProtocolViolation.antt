@@ -8,7 +8,7 @@ use Rattle.dcsctp_cause.specs.{Text.{text_or, IsText}, declared.protocol_violati
 abbrev pub unreadable : List ℕ
 unreadable = codes "Failed to parse additional information"
 
-unfoldable pub read : List ℕ → Result (List ℕ) Fault
+abbrev pub read : List ℕ → Result (List ℕ) Fault
 read value = Ok (text_or unreadable value)
 
 abbrev pub format : List ℕ → Format

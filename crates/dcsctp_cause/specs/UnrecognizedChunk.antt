@@ -4,7 +4,7 @@ use Rattle.std.specs.Prelude.{ℕ, List, Result, Ok, length, codes}
 use Rattle.dcsctp_tlv.specs.Kind.{Fault, AreBytes, Format, sized_tlv, length-solid, Kind, plain_kind, Varied}
 use Rattle.dcsctp_cause.specs.declared.unrecognized_chunk_error_cause.UnrecognizedChunkErrorCause.{UnrecognizedChunkErrorCause}
 
-unfoldable pub read : List ℕ → Result (List ℕ) Fault
+abbrev pub read : List ℕ → Result (List ℕ) Fault
 read value = Ok value
 
 abbrev pub format : List ℕ → Format

@@ -25,7 +25,6 @@ pub const CAUSE_CODE: u16 = 10;
 #[derive(Debug, Drop)]
 pub struct CookieReceivedWhileShuttingDownErrorCause {}
 
-#[tactic(auto, unfolding(crate::specs::CookieReceivedWhileShuttingDown::read))]
 impl CookieReceivedWhileShuttingDownErrorCause {
     /// Reads the cause; no memory is taken.
     ///

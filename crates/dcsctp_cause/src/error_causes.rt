@@ -118,7 +118,6 @@ impl ErrorCause {
     }
 
     /// Checks the value as its code's kind does; any value of another code passes.
-    #[tactic(auto, unfolding(crate::specs::UnrecognizedChunk::read))]
     fn check_kind(code: u16, value: &[u8]) -> Result<(), ChunkParseError>
         ensures { ChecksKind cause.kinds 0 code value.now result }
     {
@@ -126,7 +125,6 @@ impl ErrorCause {
     }
 
     /// Builds the cause that the value means.
-    #[tactic(auto, unfolding(crate::specs::UnrecognizedChunk::read, dcsctp_tlv::specs::UnknownParameter::read))]
     fn build(alloc: Global, code: u16, value: &[u8]) -> Result<Self, AllocError>
         requires { HasMeaning (cause.row code) value.now }
         ensures meant { IfOk result (λ c. (cause.row code).means value.now (view c)) }
@@ -137,7 +135,6 @@ impl ErrorCause {
     }
 }
 
-#[tactic(auto, unfolding(crate::specs::UnrecognizedChunk::read, dcsctp_tlv::specs::UnknownParameter::read))]
 impl ReadableTlv for ErrorCause {
     ghost Tree = { CauseTree };
 

@@ -41,7 +41,6 @@ pub struct MissingMandatoryParameterErrorCause {
     pub missing_parameters: Vec<u16>,
 }
 
-#[tactic(auto, unfolding(crate::specs::MissingMandatoryParameter::read))]
 impl MissingMandatoryParameterErrorCause {
     /// Builds the cause with these types.
     pub fn new(missing_parameters: Vec<u16>) -> MissingMandatoryParameterErrorCause

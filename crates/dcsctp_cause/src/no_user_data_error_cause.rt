@@ -33,7 +33,6 @@ pub struct NoUserDataErrorCause {
     pub tsn: Tsn,
 }
 
-#[tactic(auto, unfolding(crate::specs::NoUserData::read))]
 impl NoUserDataErrorCause {
     /// Reads the cause; no memory is taken.
     ///

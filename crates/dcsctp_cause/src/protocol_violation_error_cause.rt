@@ -36,7 +36,6 @@ pub struct ProtocolViolationErrorCause {
     pub information: String,
 }
 
-#[tactic(auto, unfolding(crate::specs::ProtocolViolation::read))]
 impl ProtocolViolationErrorCause {
     /// Reads the cause, and copies the text; where the value isn't UTF-8, the text says so.
     ///

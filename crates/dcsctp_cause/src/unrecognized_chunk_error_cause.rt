@@ -34,7 +34,6 @@ pub struct UnrecognizedChunkErrorCause {
     pub chunk: Vec<u8>,
 }
 
-#[tactic(auto, unfolding(crate::specs::UnrecognizedChunk::read))]
 impl UnrecognizedChunkErrorCause {
     /// Reads the cause, and copies the chunk.
     ///

@@ -36,7 +36,6 @@ pub struct UserInitiatedAbortErrorCause {
     pub reason: String,
 }
 
-#[tactic(auto, unfolding(crate::specs::UserInitiatedAbort::read))]
 impl UserInitiatedAbortErrorCause {
     /// Reads the cause, and copies the text; where the value isn't UTF-8, the text says so.
     ///

@@ -80,7 +80,6 @@ ssn_fields =
     ssn_stream_law (λ n. omega arith) (λ bytes. refl)
 
 pub forward_tsn_laws : FormatLaws by_ssn.read by_ssn.format
-unfolding by_ssn.read
 forward_tsn_laws = fields_laws 4 4 by_ssn.stream_at with _ _ _ ssn_fields
 
 mid_fields : FieldsAfter 4 8 by_mid.stream_at with by_mid.format by_mid.stream_bytes
@@ -90,5 +89,4 @@ mid_fields =
     mid_stream_law (λ n. omega arith) (λ bytes. refl)
 
 pub iforward_tsn_laws : FormatLaws by_mid.read by_mid.format
-unfolding by_mid.read
 iforward_tsn_laws = fields_laws 4 8 by_mid.stream_at with _ _ _ mid_fields

@@ -14,19 +14,15 @@ use Rattle.dcsctp_chunk.specs.Unknown as unknown
 -- ---- one size
 
 pub shutdown_laws : FormatLaws shutdown.read shutdown.format
-unfolding shutdown.read
 shutdown_laws = number_laws shutdown.format (λ n. refl) (λ n width. width) (λ n. tt)
 
 pub shutdown_ack_laws : FormatLaws shutdown_ack.read shutdown_ack.format
-unfolding shutdown_ack.read
 shutdown_ack_laws = empty_laws shutdown_ack.format (λ u. refl) (λ u. tt)
 
 pub cookie_ack_laws : FormatLaws cookie_ack.read cookie_ack.format
-unfolding cookie_ack.read
 cookie_ack_laws = empty_laws cookie_ack.format (λ u. refl) (λ u. tt)
 
 pub shutdown_complete_laws : TypedLaws (λ first. shutdown_complete.read) shutdown_complete.format
-unfolding shutdown_complete.read
 shutdown_complete_laws =
     sized_laws 0 _ shutdown_complete.format (λ reflected. []) (λ reflected. refl)
     (λ reflected. refl) (λ reflected width. one_again reflected) (λ reflected. tt)
@@ -34,7 +30,6 @@ shutdown_complete_laws =
 -- ---- any bytes
 
 pub cookie_echo_laws : FormatLaws cookie_echo.read cookie_echo.format
-unfolding cookie_echo.read
 cookie_echo_laws =
     format_laws cookie_echo.read cookie_echo.format (λ cookie. cookie) (λ cookie. refl)
     (λ cookie width form fits. elim (eqb_tells (length cookie) 0) [
@@ -52,7 +47,6 @@ cookie_echo_laws =
 
 -- which types aren't named is said where the table is
 pub unknown_laws : TypedLaws unknown.read unknown.format
-unfolding unknown.read
 unknown_laws =
     typed_laws unknown.read unknown.format (λ u. u.value) (λ u. refl)
     (λ u width form fits. refl) (λ first flags value u is. tt) (λ first flags value. tt)
@@ -69,7 +63,6 @@ kept_data_is c form =
 -- what is written of a tree is read as what it keeps
 data_back : (c : Tree) → IsInWidth c
     → data_chunk.read (flags_of c) (data_chunk.bytes c) ≡ Ok (data_chunk.kept c)
-unfolding data_chunk.read
 data_back c width =
     let d = c.user_data in
     let flags = four_again d.ending d.beginning d.unordered c.immediate_ack in
@@ -86,7 +79,6 @@ data_back c width =
     ) refl
 
 pub data_laws : TypedLaws (λ first. data_chunk.read) data_chunk.format
-unfolding data_chunk.read
 data_laws =
     typed_laws (λ first. data_chunk.read) data_chunk.format data_chunk.bytes (λ c. refl)
     (λ c width form fits. data_back c width ∙ ap (λ (t : Tree). Ok t) (kept_data_is c form))
@@ -164,7 +156,6 @@ kept_idata_is c form =
 -- what is written of a tree is read as what it keeps
 idata_back : (c : Tree) → IsInWidth c
     → idata_chunk.read (flags_of c) (idata_chunk.bytes c) ≡ Ok (idata_chunk.kept c)
-unfolding idata_chunk.read
 idata_back c width =
     let d = c.user_data in
     let flags = four_again d.ending d.beginning d.unordered c.immediate_ack in
@@ -185,7 +176,6 @@ idata_back c width =
     ) refl
 
 pub idata_laws : TypedLaws (λ first. idata_chunk.read) idata_chunk.format
-unfolding idata_chunk.read
 idata_laws =
     typed_laws (λ first. idata_chunk.read) idata_chunk.format idata_chunk.bytes (λ c. refl)
     (λ c width form fits. idata_back c width ∙ ap (λ (t : Tree). Ok t) (kept_idata_is c form))

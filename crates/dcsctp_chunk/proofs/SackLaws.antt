@@ -15,7 +15,6 @@ block_law = record {
 }
 
 back : (s : Tree) → IsInWidth s → IsEncodable (sack.format s).tlv → sack.read (sack.bytes s) ≡ Ok s
-unfolding sack.read
 back s width fits =
     let value = sack.bytes s in
     let n = length s.blocks in
@@ -45,7 +44,6 @@ back s width fits =
 
 as_long : (value : List ℕ) (s : Tree) → sack.read value ≡ Ok s
     → length (sack.bytes s) ≡ length value
-unfolding sack.read
 as_long value s is =
     let n = (numbers_at value).gap_ack_block_count in
     let m = (numbers_at value).duplicate_tsn_count in
@@ -60,7 +58,6 @@ as_long value s is =
     omega (arith, length-lists s, blocks, duplicates, size)
 
 pub sack_laws : FormatLaws sack.read sack.format
-unfolding sack.read
 sack_laws =
     format_laws sack.read sack.format sack.bytes (λ s. refl)
     (λ s width formed fits. back s width fits) (λ value s is. tt)

@@ -4,7 +4,7 @@ use Rattle.std.specs.{Prelude.{◌≢◌, ℕ, List, [], ◌++◌, ◌==◌, Res
 use Rattle.dcsctp_tlv.specs.Kind.{Fault, Length, AreBytes, Format, flagged_tlv, length-solid, Kind, plain_kind, Varied}
 use Rattle.dcsctp_chunk.specs.declared.cookie_echo_chunk.CookieEchoChunk.{CookieEchoChunk}
 
-unfoldable pub read : List ℕ → Result (List ℕ) Fault
+abbrev pub read : List ℕ → Result (List ℕ) Fault
 read value = if length value == 0 then Err Length else Ok value
 
 abbrev pub format : List ℕ → Format

@@ -17,7 +17,7 @@ pub length-stream : (s : SkippedStreamTree) → length (stream_bytes s) ≡ 4
 length-stream (BySsn stream ssn) = refl
 length-stream (ByMid stream is_unordered mid) = refl
 
-unfoldable pub read : List ℕ → Result Tree Fault
+abbrev pub read : List ℕ → Result Tree Fault
 read value = read_of stream_at 4 value
 
 -- the text before the TSN

@@ -20,7 +20,7 @@ number_bytes n =
     to_be_bytes w32 n.tsn.0 ++ (to_be_bytes w16 n.stream_id.0 ++ (to_be_bytes w16 0
     ++ (to_be_bytes w32 n.mid.0 ++ to_be_bytes w32 n.ppid_or_fsn)))
 
-unfoldable pub read : ℕ → List ℕ → Result Tree Fault
+abbrev pub read : ℕ → List ℕ → Result Tree Fault
 read flags value =
     let n = numbers_at value in
     if nat_lt (length value) 16 then Err Length else

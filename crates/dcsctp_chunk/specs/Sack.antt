@@ -37,7 +37,7 @@ number_bytes n =
 abbrev pub size_of_value : SackNumbers → ℕ
 size_of_value n = 12 + 4 * n.gap_ack_block_count + 4 * n.duplicate_tsn_count
 
-unfoldable pub read : List ℕ → Result Tree Fault
+abbrev pub read : List ℕ → Result Tree Fault
 read value =
     let n = numbers_at value in
     if length value == size_of_value n then Ok (record {

@@ -4,7 +4,7 @@ use Rattle.std.specs.{Prelude.{ℕ, ◌<◌, ◌^◌, List, ◌++◌, ◌==◌, 
 use Rattle.dcsctp_tlv.specs.Kind.{Fault, Length, number32, Format, flagged_tlv, Kind, plain_kind, Fixed}
 use Rattle.dcsctp_chunk.specs.declared.shutdown_chunk.ShutdownChunk.{ShutdownChunk}
 
-unfoldable pub read : List ℕ → Result ℕ Fault
+abbrev pub read : List ℕ → Result ℕ Fault
 read value = if length value == 4 then Ok (number32 value) else Err Length
 
 -- the text has no comma, unlike the others

@@ -4,7 +4,7 @@ use Rattle.std.specs.Prelude.{ℕ, Bool, List, [], ◌∷◌, ◌++◌, ◌==◌
 use Rattle.dcsctp_tlv.specs.Kind.{Fault, Length, Format, flagged_tlv, Kind, plain_kind, Fixed}
 use Rattle.dcsctp_chunk.specs.{Flags.{is_set, flag_byte}, declared.shutdown_complete_chunk.ShutdownCompleteChunk.{ShutdownCompleteChunk}}
 
-unfoldable pub read : ℕ → List ℕ → Result Bool Fault
+abbrev pub read : ℕ → List ℕ → Result Bool Fault
 read flags value = if length value == 0 then Ok (is_set flags 0) else Err Length
 
 abbrev pub format : Bool → Format

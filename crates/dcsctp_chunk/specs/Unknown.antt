@@ -9,7 +9,7 @@ pub record Tree : Type 0 where
   pub flags : ℕ
   pub value : List ℕ
 
-unfoldable pub read : ℕ → ℕ → List ℕ → Result Tree Fault
+abbrev pub read : ℕ → ℕ → List ℕ → Result Tree Fault
 read typ flags value = Ok (record { typ = typ; flags = flags; value = value })
 
 -- a table adds which types its rows of this kind can have

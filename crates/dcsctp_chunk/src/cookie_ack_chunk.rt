@@ -25,7 +25,6 @@ pub const CHUNK_TYPE: u8 = 11;
 #[derive(Debug, Drop)]
 pub struct CookieAckChunk;
 
-#[tactic(auto, unfolding(crate::specs::CookieAck::read))]
 impl CookieAckChunk {
     /// Reads the chunk; flags are ignored, and no memory is taken.
     ///

@@ -35,7 +35,6 @@ pub struct CookieEchoChunk {
     pub cookie: Vec<u8>,
 }
 
-#[tactic(auto, unfolding(crate::specs::CookieEcho::read))]
 impl CookieEchoChunk {
     /// Builds the chunk with an empty cookie. Does not allocate.
     pub fn new(alloc: Global) -> CookieEchoChunk

@@ -109,7 +109,6 @@ pub struct DataChunk {
     pub immediate_ack: bool,
 }
 
-#[tactic(auto, unfolding(crate::specs::DataChunk::read))]
 impl DataChunk {
     /// Reads the chunk, and copies its payload; flags but the four lowest are ignored.
     ///
@@ -221,7 +220,8 @@ impl fmt::Display for DataChunk {
         let length = content.payload.len();
         write!(
             f,
-            "DATA, type={order}::{part}, tsn={tsn}, sid={stream}, ssn={ssn}, ppid={ppid}, length={length}"
+            "DATA, type={order}::{part}, tsn={tsn}, sid={stream}, ssn={ssn}, ppid={ppid}, \
+             length={length}"
         )
     }
 }

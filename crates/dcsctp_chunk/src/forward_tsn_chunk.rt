@@ -119,7 +119,6 @@ pub struct ForwardTsnChunk {
     pub skipped_streams: Vec<SkippedStream>,
 }
 
-#[tactic(auto, unfolding(crate::specs::ForwardTsn::read))]
 impl ForwardTsnChunk {
     /// Reads the chunk, and copies its skipped streams, each as `SkippedStream::ForwardTsn`; flags
     /// are ignored.

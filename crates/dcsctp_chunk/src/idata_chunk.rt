@@ -140,7 +140,6 @@ fn ppid_or_fsn(content: &Data) -> u32
     }
 }
 
-#[tactic(auto, unfolding(crate::specs::IDataChunk::read))]
 impl IDataChunk {
     /// Reads the chunk, and copies its payload; flags but the four lowest and the reserved bytes
     /// are ignored.
@@ -255,7 +254,8 @@ impl fmt::Display for IDataChunk {
         let length = content.payload.len();
         write!(
             f,
-            "I-DATA, type={order}::{part}, tsn={tsn}, mid={stream}, ssn={mid}, ppid={ppid}, length={length}"
+            "I-DATA, type={order}::{part}, tsn={tsn}, mid={stream}, ssn={mid}, ppid={ppid}, \
+             length={length}"
         )
     }
 }

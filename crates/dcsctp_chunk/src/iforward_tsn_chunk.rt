@@ -92,7 +92,6 @@ pub struct IForwardTsnChunk {
     pub skipped_streams: Vec<SkippedStream>,
 }
 
-#[tactic(auto, unfolding(crate::specs::IForwardTsn::read))]
 impl IForwardTsnChunk {
     /// Reads the chunk, and copies its skipped streams, each as `SkippedStream::IForwardTsn`;
     /// flags are ignored.

@@ -43,7 +43,6 @@ macro_rules! plain_kinds {
 ///
 /// `InvalidLength` if and only if the value has a size that its kind doesn't allow. Returns `Ok`
 /// for types without a kind, and for kinds with a list of parameters or error causes.
-#[tactic(auto, unfolding(crate::specs::DataChunk::read, crate::specs::IDataChunk::read, crate::specs::ShutdownComplete::read))]
 pub fn plain_check(raw: RawChunk) -> Result<(), ChunkParseError>
     ensures answer { ChecksKind plain_kinds raw.entry.flags raw.entry.typ raw.entry.value.now
         result }

@@ -198,7 +198,6 @@ pub struct SackChunk {
     pub duplicate_tsns: Vec<Tsn>,
 }
 
-#[tactic(auto, unfolding(crate::specs::Sack::read))]
 impl SackChunk {
     /// Reads the chunk, and copies its blocks and its duplicate TSNs; flags are ignored.
     ///

@@ -25,7 +25,6 @@ pub const CHUNK_TYPE: u8 = 8;
 #[derive(Debug, Drop)]
 pub struct ShutdownAckChunk;
 
-#[tactic(auto, unfolding(crate::specs::ShutdownAck::read))]
 impl ShutdownAckChunk {
     /// Reads the chunk; flags are ignored, and no memory is taken.
     ///

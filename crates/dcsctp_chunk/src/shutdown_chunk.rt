@@ -33,7 +33,6 @@ pub struct ShutdownChunk {
     pub cumulative_tsn_ack: Tsn,
 }
 
-#[tactic(auto, unfolding(crate::specs::Shutdown::read))]
 impl ShutdownChunk {
     /// Reads the chunk; flags are ignored, and no memory is taken.
     ///

@@ -31,7 +31,6 @@ pub struct ShutdownCompleteChunk {
     pub tag_reflected: bool,
 }
 
-#[tactic(auto, unfolding(crate::specs::ShutdownComplete::read))]
 impl ShutdownCompleteChunk {
     /// Reads the chunk; flags but the T bit are ignored, and no memory is taken.
     ///

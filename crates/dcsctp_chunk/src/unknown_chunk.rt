@@ -34,7 +34,6 @@ pub struct UnknownChunk {
     pub value: Vec<u8>,
 }
 
-#[tactic(auto, unfolding(crate::specs::Unknown::read))]
 impl UnknownChunk {
     /// Keeps a chunk of any type, and copies its value; `OutOfMemory` is its only error.
     pub fn try_from(alloc: Global, raw: RawChunk) -> Result<Self, ChunkParseError>

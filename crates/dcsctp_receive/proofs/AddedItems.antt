@@ -1,10 +1,10 @@
 -- Items that are added to a chunk one after the other: after each, the chunk still ends the packet,
 -- and what is left has room.
-use Rattle.std.proofs.{Common.{◌≡◌, ℕ, ◌+◌, ◌-◌, ◌<◌, ◌≤◌, ◌^◌, lit<, List, [], ◌∷◌, ◌++◌, length, take, drop, refl, sym, ap, subst, ◌∙◌, arith, append_assoc, drop_at, drop-drop, length-append, length-take, take-take}, lemmas.List.{take-append-le}, Math.Seq.{take-append-add}, lemmas.Nat.{from_be_bytes-to_be_bytes_2}}
+use Rattle.std.proofs.{Common.{◌≡◌, ℕ, ◌+◌, ◌-◌, ◌<◌, ◌≤◌, ◌^◌, List, [], ◌∷◌, ◌++◌, length, take, drop, refl, sym, ap, subst, ◌∙◌, arith, append_assoc, drop_at, drop-drop, length-append, length-take, take-take}, lemmas.List.{take-append-le}, Math.Seq.{take-append-add}, lemmas.Nat.{from_be_bytes-to_be_bytes_2}}
 use Rattle.std.specs.Int.{w16, to_be_bytes}
 use Rattle.dcsctp_tlv.specs.{Frame.{round_up_to_4, frame_length}, Image.{put, image_of}, Number.{number16}}
 use Rattle.dcsctp_wire.specs.{Canonical.{padded_chunk}, Chunk.{ChunkTree}, Packet.{Meaning}}
-use Rattle.dcsctp_buffer.specs.{Buffer.{HasRoom, IsAdded, HoldsPacket, with_chunk}, Item.{HasItemRoom, IsItemAdded, extended, extended_length, padded_item}}
+use Rattle.dcsctp_buffer.specs.{Buffer.{IsAdded, HoldsPacket, with_chunk}, Item.{HasItemRoom, IsItemAdded, extended, extended_length, padded_item}}
 use Rattle.dcsctp_receive.specs.Unrecognized.{added_size, HasRoomForAll, AreAdded, extended_by, empty_error, HasSomeRoom, IsErrorAdded, with_error}
 
 pub first_has_room : (buffer : List ℕ) (size start : ℕ) (value : List ℕ) (values : List (List ℕ))
@@ -30,25 +30,25 @@ field_kept : (old bytes : List ℕ) (start k n : ℕ) → n < 2 ^ 16 → start +
 field_kept old bytes start k n small room =
     let front : List ℕ = take (start + 2) old in
     let field : List ℕ = to_be_bytes w16 n in
-    let behind : List ℕ = drop (start + 2 + 2) old in
+    let rest : List ℕ = drop (start + 2 + 2) old in
     let middle : List ℕ = put old (start + 2) field in
     let front_len : length front ≡ start + 2 =
     omega (arith, length-take (start + 2) old, room) in
     let tail : List ℕ = bytes ++ drop (start + (4 + k) + length bytes) middle in
     let place : start + (4 + k) ≡ length front + (2 + k) = omega (arith, front_len) in
-    let kept : take (start + (4 + k)) middle ≡ front ++ (field ++ take k behind) =
+    let kept : take (start + (4 + k)) middle ≡ front ++ (field ++ take k rest) =
     ap (λ (m : ℕ). take m middle) place
-    ∙ take-append-add front (field ++ behind) (2 + k)
-    ∙ ap (λ (xs : List ℕ). front ++ xs) (take-append-add field behind k) in
-    let whole : put middle (start + (4 + k)) bytes ≡ front ++ (field ++ (take k behind ++ tail)) =
+    ∙ take-append-add front (field ++ rest) (2 + k)
+    ∙ ap (λ (xs : List ℕ). front ++ xs) (take-append-add field rest k) in
+    let whole : put middle (start + (4 + k)) bytes ≡ front ++ (field ++ (take k rest ++ tail)) =
     ap (λ (xs : List ℕ). xs ++ tail) kept
-    ∙ append_assoc front (field ++ take k behind) tail
-    ∙ ap (λ (xs : List ℕ). front ++ xs) (append_assoc field (take k behind) tail) in
+    ∙ append_assoc front (field ++ take k rest) tail
+    ∙ ap (λ (xs : List ℕ). front ++ xs) (append_assoc field (take k rest) tail) in
     let from : drop 2 (drop start (put middle (start + (4 + k)) bytes))
-    ≡ field ++ (take k behind ++ tail) =
+    ≡ field ++ (take k rest ++ tail) =
     drop-drop 2 start (put middle (start + (4 + k)) bytes)
     ∙ ap (drop (start + 2)) whole
-    ∙ drop_at front (field ++ (take k behind ++ tail)) (start + 2) front_len in
+    ∙ drop_at front (field ++ (take k rest ++ tail)) (start + 2) front_len in
     ap (λ (xs : List ℕ). number16 xs) from ∙ from_be_bytes-to_be_bytes_2 n small
 
 pub others_have_room : (old new : List ℕ) (size end start typ : ℕ) (value : List ℕ)
@@ -153,19 +153,6 @@ holds_error code (value ∷ values) old new size end m is h =
     (added.held m h)
 
 -- ---- an ERROR without a cause
-
-pub error_has_room : (room size : ℕ) (values : List (List ℕ)) → HasSomeRoom room size values
-    → HasRoom room size empty_error
-error_has_room room size values r =
-    let within : size + 4 ≤ room = omega (arith, r.within) in
-    let whole : size + 4 ≤ 65532 = omega (arith, r.whole) in
-    record {
-      header = r.begun.header;
-      words = r.begun.words;
-      encodable = (tt, lit< tt);
-      within = within;
-      whole = whole;
-    }
 
 bare : padded_chunk empty_error ≡ 9 ∷ 0 ∷ 0 ∷ 4 ∷ []
 unfolding image_of

@@ -1,7 +1,7 @@
 -- A set of bits is built bit by bit.
 use Rattle.std.proofs.Common.{◌≡◌, ◌<◌, ◌≤◌, ◌+◌, ◌*◌, ◌%◌, ◌^◌, ◌==◌, ℕ, Bool, true, false, sym, ap, ◌∙◌, arith, inl, inr}
 use Rattle.std.proofs.lemmas.Bool.{cases_lt, eq-eqb}
-use Rattle.std.proofs.lemmas.Nat.Bits.{bit_at-zero, bit_at_set_same, bit_at_set_other}
+use Rattle.std.proofs.lemmas.Nat.Bits.{bit_at_set_same, bit_at_set_other}
 use Rattle.std.specs.{Prelude.{bit_or}, Int.{w32}}
 use Rattle.dcsctp_chunk.specs.Flags.{is_set}
 
@@ -9,10 +9,6 @@ use Rattle.dcsctp_chunk.specs.Flags.{is_set}
 abbrev pub Marks : (ℕ → Bool) → ℕ → ℕ → Type 0
 Marks test bits n =
     ((k : ℕ) → k < n → is_set bits k ≡ test k) × ((k : ℕ) → n ≤ k → is_set bits k ≡ false)
-
-pub marks-none : (test : ℕ → Bool) → Marks test 0 0
-marks-none test =
-    ((λ k below. absurd (omega (arith, below))), (λ k above. ap (λ (b : ℕ). b == 1) (bit_at-zero k)))
 
 pub marks-set : (test : ℕ → Bool) (bits n : ℕ) → n < 32 → test n ≡ true → Marks test bits n
     → Marks test (bit_or bits (1 * 2 ^ n % 2 ^ 32)) (n + 1)
@@ -41,11 +37,3 @@ marks-unset test bits n isnt marks = (
   ]),
   (λ k above. marks.1 k (omega (arith, above))),
 )
-
-pub marks-all : (test : ℕ → Bool) (bits n : ℕ) → ((k : ℕ) → n ≤ k → test k ≡ false)
-    → Marks test bits n → (k : ℕ) → is_set bits k ≡ test k
-marks-all test bits n none marks k =
-    elim (cases_lt k n) [
-      | inl lower ↦ marks.0 k lower
-      | inr upper ↦ marks.1 k upper ∙ sym (none k upper)
-    ]

@@ -39,7 +39,6 @@ isolated_apart (suc n) end p long =
 blocks_of : (value : List ℕ) (s : Tree) → read value ≡ Ok s
     → (12 + 4 * (numbers_at value).gap_ack_block_count ≤ length value)
     × (fields block_at 4 (numbers_at value).gap_ack_block_count (drop 12 value) ≡ s.blocks)
-unfolding read
 blocks_of value s is =
     let n = (numbers_at value).gap_ack_block_count in
     let m = (numbers_at value).duplicate_tsn_count in

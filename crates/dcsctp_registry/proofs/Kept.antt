@@ -12,7 +12,6 @@ use Rattle.dcsctp_registry.specs.{RegisteredParameter.{read as read_parameter, r
 of_unnamed : {T : Type 0} (tree : UnnamedTree → T) (typ : ℕ) (value : List ℕ) (t : T)
     → (plain (λ v. map_ok tree (unnamed_at typ v))).means value t
     → t ≡ tree (record { typ = typ; value = value })
-unfolding unnamed_at
 of_unnamed tree typ value t m = let x = of_map_ok tree (unnamed_at typ value) t m in
     let e = x.1.0 in let f = x.1.1 in cc
 
@@ -20,7 +19,6 @@ of_unnamed tree typ value t m = let x = of_map_ok tree (unnamed_at typ value) t 
 of_unknown : (typ flags : ℕ) (value : List ℕ) (t : ChunkTree)
     → (plain (λ v. map_ok Unknown (unknown_at typ flags v))).means value t
     → t ≡ Unknown (record { typ = typ; flags = flags; value = value })
-unfolding unknown_at
 of_unknown typ flags value t m = let x = of_map_ok Unknown (unknown_at typ flags value) t m in
     let e = x.1.0 in let f = x.1.1 in cc
 

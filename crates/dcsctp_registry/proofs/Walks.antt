@@ -1,6 +1,6 @@
 -- A walk over bytes that are items, or aren't: what is known of what is left.
 use Rattle.std.proofs.Common.{◌≡◌, ◌≢◌, ◌≤◌, ◌&&◌, ℕ, zero, suc, Bool, true, false, List, [], ◌∷◌, ◌++◌, length, refl, ◌∙◌, arith, Some}
-use Rattle.dcsctp_tlv.{specs.Number.{AreBytes}, specs.Frame.{lenient, BeginsWithFrame, frame_value, frame_rest}, specs.Level.{MeansSome, front_row}, specs.UnknownParameter.{Tree, read}, proofs.Lists.{Progress, begin, step, finish}, proofs.Checks.{frame_shrinks}}
+use Rattle.dcsctp_tlv.{specs.Number.{AreBytes}, specs.Frame.{lenient, BeginsWithFrame, frame_value, frame_rest}, specs.Level.{MeansSome, front_row}, specs.UnknownParameter.{Tree}, proofs.Lists.{Progress, begin, step, finish}, proofs.Checks.{frame_shrinks}}
 use Rattle.dcsctp_borrowed.proofs.Fronts.{front}
 use Rattle.dcsctp_registry.specs.RawItems.{raw_items, has_frame, are_items_of, items}
 
@@ -100,7 +100,6 @@ start bytes fits = record {
 -- any value means a tree
 has_tree : (rest : List ℕ) → (t : Tree) × (front_row (raw_items lenient) rest).means
     (frame_value rest) t
-unfolding read
 has_tree rest = (record { typ = _; value = frame_value rest }, refl)
 
 pub next : (bytes rest : List ℕ) → Walked bytes rest → rest ≢ [] → BeginsWithFrame rest

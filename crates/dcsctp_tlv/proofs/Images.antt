@@ -1,5 +1,5 @@
 -- Images: how long they are, and what an output is after they were written.
-use Rattle.std.{proofs.Common.{◌≡◌, ℕ, suc, zero, ◌+◌, ◌-◌, ◌^◌, ◌<◌, ◌≤◌, List, [], ◌∷◌, ◌++◌, length, get_or, take, drop, refl, sym, ap, subst, ◌∙◌, append_assoc, arith, inl, inr, Option, Some, None, replicate, unwrap_or, map, take-append-drop, length-append, take_all, drop_at}, specs.List.{AllByRecursion}, proofs.lemmas.List.{length-replicate, length-map, take_more, get_or_read, map-append}, proofs.lemmas.Bool.{cases_lt}}
+use Rattle.std.{proofs.Common.{◌≡◌, ℕ, suc, zero, ◌+◌, ◌-◌, ◌<◌, ◌≤◌, List, [], ◌∷◌, ◌++◌, length, get_or, take, drop, refl, sym, ap, subst, ◌∙◌, append_assoc, arith, inl, inr, Option, Some, None, replicate, unwrap_or, map, take-append-drop, length-append, drop_at}, specs.List.{AllByRecursion}, proofs.lemmas.List.{length-replicate, length-map, take_more, get_or_read, map-append}, proofs.lemmas.Bool.{cases_lt}}
 use Rattle.dcsctp_tlv.specs.{Frame.{round_up_to_4, header}, Image.{solid, holes, written, zeroed, gap, Tlv, size_of, image_of, list_image, list_size, IsListEncodable}}
 
 -- ---- writing
@@ -187,13 +187,6 @@ all_more P ts i t lt e here before k d below = elim (cases_lt k i) [
   | inr le ↦ (let same : i ≡ k = omega arith in
       subst P (get_or_read ts i t lt e d ∙ ap (λ (j : ℕ). get_or ts j d) same) here)
 ]
-
-pub all_done : {T : Type 0} {tlv : T → Tlv} {placed : T → Type 0} {ts : List T} {i total : ℕ}
-    → length ts ≤ i → total ≡ list_size tlv (take i ts) → total < 2 ^ 16
-    → ((k : ℕ) (d : T) → k < i → placed (get_or ts k d)) → IsListEncodable tlv placed ts
-all_done {T} {tlv} {placed} {ts} {i} {total} le so_far small each =
-    let whole : total ≡ list_size tlv ts = so_far ∙ ap (list_size tlv) (take_all i ts le) in
-    record { each = λ k d lt. each k d (omega arith); total = omega (arith, whole) }
 
 -- ---- lists of the code's values, seen by view
 

@@ -16,27 +16,22 @@ use Rattle.dcsctp_tlv.specs.ReconfigurationResponse as response
 -- ---- any bytes
 
 pub info_laws : FormatLaws info.read info.format
-unfolding info.read
 info_laws = any_laws info.format (λ x. refl) (λ x. tt)
 
 pub cookie_laws : FormatLaws cookie.read cookie.format
-unfolding cookie.read
 cookie_laws = any_laws cookie.format (λ x. refl) (λ x. tt)
 
 pub extensions_laws : FormatLaws extensions.read extensions.format
-unfolding extensions.read
 extensions_laws = any_laws extensions.format (λ x. refl) (λ x. tt)
 
 -- ---- one size
 
 pub ssn_tsn_laws : FormatLaws ssn_tsn.read ssn_tsn.format
-unfolding ssn_tsn.read
 ssn_tsn_laws = number_laws ssn_tsn.format (λ n. refl) (λ n width. width) (λ n. tt)
 
 -- both requests for more streams, each of its type and name
 pub add_streams_laws : (typ : ℕ) (name : List ℕ)
     → FormatLaws add_streams.read (add_streams.format typ name)
-unfolding add_streams.read
 add_streams_laws typ name =
     sized_laws 8 _ (add_streams.format typ name) add_streams.value_of (λ r. refl) (λ r. refl)
     (λ r width. rw (
@@ -46,11 +41,9 @@ add_streams_laws typ name =
     (λ r. tt)
 
 pub zero_checksum_laws : FormatLaws zero_checksum.read zero_checksum.format
-unfolding zero_checksum.read
 zero_checksum_laws = number_laws zero_checksum.format (λ n. refl) (λ n width. width) (λ n. tt)
 
 pub forward_tsn_laws : FormatLaws forward_tsn.read forward_tsn.format
-unfolding forward_tsn.read
 forward_tsn_laws = empty_laws forward_tsn.format (λ t. refl) (λ t. tt)
 
 -- ---- any type
@@ -61,7 +54,6 @@ type_back typ = omega arith
 
 pub unknown_keeps : (typ : ℕ) (value : List ℕ) (u : unknown.Tree) → unknown.read typ value ≡ Ok u
     → size_of (unknown.format u).tlv ≡ 4 + length value
-unfolding unknown.read
 unknown_keeps typ value u e =
     let kept : unknown.Tree = record { typ = typ; value = value } in
     ap (λ (v : unknown.Tree). 4 + length v.value) (sym (of_ok kept u e))
@@ -70,7 +62,6 @@ unknown_keeps typ value u e =
 pub unknown_forms : {T : Type 0} (IsFormed : T → Type 0) (typ : ℕ) (tree : unknown.Tree → T)
     → ((value : List ℕ) → IsFormed (tree (record { typ = typ; value = value })))
     → FormsRow IsFormed (plain (λ value. map_ok tree (unknown.read typ value)))
-unfolding unknown.read
 unknown_forms IsFormed typ tree law value t e =
     let u = of_map_ok tree (unknown.read typ value) t e in
     let kept : unknown.Tree = record { typ = typ; value = value } in
@@ -107,7 +98,6 @@ outgoing_fields = record {
 }
 
 pub outgoing_laws : FormatLaws outgoing.read outgoing.format
-unfolding outgoing.read
 outgoing_laws = fields_laws 12 2 number16 outgoing_with _ _ _ outgoing_fields
 
 abbrev incoming_with : List ℕ → List ℕ → incoming.Tree
@@ -130,7 +120,6 @@ incoming_fields = record {
 }
 
 pub incoming_laws : FormatLaws incoming.read incoming.format
-unfolding incoming.read
 incoming_laws = fields_laws 4 2 number16 incoming_with _ _ _ incoming_fields
 
 -- ---- a response
@@ -152,7 +141,6 @@ response_back : (n : ℕ) (x : ReconfigurationResponseResult) (s r : Option ℕ)
     → (response.format (response_of n x s r)).IsWellFormed
     → response.read (numbers w32 (n ∷ result_number x ∷ []) ++ numbers w32 (next_tsns s r))
     ≡ Ok (response_of n x s r)
-unfolding response.read
 response_back n x None None w both =
     rw (
       from_be_bytes-to_be_bytes_4 (result_number x) (result_fits x),
@@ -187,7 +175,6 @@ with_tsns value s r t e =
     )
 
 response_read : (value : List ℕ) (t : response.Tree) → response.read value ≡ Ok t → IsRead value t
-unfolding response.read
 response_read value t e = elim (chosen (length value == 8) _ _ (Ok t) e) [
   | inl p ↦ inl (eqb-true (length value) 8 p.0, with_tsns value None None t p.1)
   | inr p ↦ (let q = passed (length value == 16) _ Length t p.1 in
@@ -200,7 +187,6 @@ result_unpadded n =
     (either (n == 4) _ _ tt (either (n == 5) _ _ tt (either (n == 6) _ _ tt tt))))))
 
 response_unpadded : (value : List ℕ) → NotPadding (response.read value)
-unfolding response.read
 response_unpadded value =
     let known = λ (s r : Option ℕ). mapped
     (λ result. response_of (number32 value) result s r) (result_of (number32 (drop 4 value)))

@@ -24,7 +24,6 @@ module _ {T : Type 0} {kinds : List Kind} {trees : TreesOf kinds T} {of : T → 
 
     unknown_sound : (typ : ℕ) → IsUnnamed table typ
         → Sound IsKept of typ (plain (λ value. map_ok tree (unknown.read typ value)))
-    unfolding unknown.read
     unknown_sound typ unnamed = record {
       forms = unknown_forms (λ t. (format_of (of t)).IsWellFormed) typ tree
           (λ value. facts.formed (record { typ = typ; value = value }) unnamed);
@@ -85,7 +84,6 @@ module _ {T : Type 0} {kinds : List Kind} {trees : TreesOf kinds T} {of : T → 
     pub typed_tested : (typ : ℕ) (value : List ℕ) (r : Result (Unit {0}) ChunkParseError)
         → ChecksKind kinds 0 typ value r
         → Answers checking (λ (u : Unit {0}). u) (Counted (λ t. tt) (Unplaced (RowAnswer (typed_row table tree typ) value))) r
-    unfolding unknown.read
     typed_tested typ value r p = finds_tested (typed_row table tree typ) value r
         (table_finds (λ t. 1) kinds trees lenient 0 typ
         (plain (λ v. map_ok tree (unknown.read typ v))) value r facts.fixed
@@ -101,7 +99,6 @@ MeansUnknown table tree u typ =
 pub unknown_means : {T : Type 0} (table : List (Named T)) (tree : unknown.Tree → T)
     (u : unknown.Tree) → IsUnnamed table u.typ
     → MeansUnknown table tree u (from_be_bytes w16 (u.typ / 256 ∷ u.typ % 256 ∷ []))
-unfolding unknown.read
 unknown_means table tree u h = subst (MeansUnknown table tree u) (sym (type_back u.typ))
     (of_others (λ row. row.means (zeroed (solid u.value)) (tree u)) table u.typ _ h
     (rw (zeroed-solid u.value) refl))

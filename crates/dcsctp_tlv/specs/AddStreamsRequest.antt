@@ -15,7 +15,7 @@ numbers_at value = record {
   nbr_new_streams = number16 (drop 4 value);
 }
 
-unfoldable pub read : List ℕ → Result Tree Fault
+abbrev pub read : List ℕ → Result Tree Fault
 read value =
     if length value == 8 then Ok (record {
       request = (numbers_at value).request_seq_nbr;

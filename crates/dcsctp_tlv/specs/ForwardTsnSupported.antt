@@ -2,7 +2,7 @@
 use Rattle.std.specs.Prelude.{ℕ, List, [], ◌==◌, Result, Ok, Err, if◌then◌else◌, length, codes, refl}
 use Rattle.dcsctp_tlv.specs.{Kind.{Fault, Length, Format, sized_tlv, Kind, plain_kind, Fixed}, declared.parameter.forward_tsn_supported_parameter.ForwardTsnSupportedParameter.{ForwardTsnSupportedParameter}}
 
-unfoldable pub read : List ℕ → Result (Unit {0}) Fault
+abbrev pub read : List ℕ → Result (Unit {0}) Fault
 read value = if length value == 0 then Ok tt else Err Length
 
 abbrev pub format : Unit {0} → Format

@@ -2,7 +2,7 @@
 use Rattle.std.specs.{Prelude.{ℕ, List, ◌++◌, Result, Ok, length, codes}, Fmt.{decimal}}
 use Rattle.dcsctp_tlv.specs.{Kind.{Fault, AreBytes, Format, sized_tlv, length-solid, Kind, plain_kind, Varied}, declared.parameter.heartbeat_info_parameter.HeartbeatInfoParameter.{HeartbeatInfoParameter}}
 
-unfoldable pub read : List ℕ → Result (List ℕ) Fault
+abbrev pub read : List ℕ → Result (List ℕ) Fault
 read value = Ok value
 
 abbrev pub format : List ℕ → Format

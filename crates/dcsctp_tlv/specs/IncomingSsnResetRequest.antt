@@ -12,7 +12,7 @@ abbrev pub stream_count : List ℕ → ℕ
 stream_count value = (length value - 4) / 2
 
 -- the value has at least 4 bytes, and after them an even number
-unfoldable pub read : List ℕ → Result Tree Fault
+abbrev pub read : List ℕ → Result Tree Fault
 read value =
     if length value == 4 + 2 * stream_count value then Ok (record {
       request = number32 value;

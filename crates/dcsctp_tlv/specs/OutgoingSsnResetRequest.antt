@@ -23,7 +23,7 @@ numbers_at value = record {
 }
 
 -- the value has at least 12 bytes, and after them an even number
-unfoldable pub read : List ℕ → Result Tree Fault
+abbrev pub read : List ℕ → Result Tree Fault
 read value =
     if length value == 12 + 2 * stream_count value then Ok (record {
       request = (numbers_at value).request_seq_nbr;

@@ -49,7 +49,7 @@ response_with value sender receiver =
     }) (result_of (numbers_at value).result)
 
 -- the length comes before the result
-unfoldable pub read : List ℕ → Result Tree Fault
+abbrev pub read : List ℕ → Result Tree Fault
 read value =
     if length value == 8 then response_with value None None else
     if length value == 16 then

@@ -3,7 +3,7 @@
 use Rattle.std.specs.{Prelude.{ℕ, ◌<◌, ◌^◌, List, ◌++◌, ◌==◌, Result, Ok, Err, if◌then◌else◌, length, codes, refl}, Fmt.{decimal}, Int.{w32, to_be_bytes}}
 use Rattle.dcsctp_tlv.specs.{Kind.{Fault, Length, number32, Format, sized_tlv, Kind, plain_kind, Fixed}, declared.parameter.ssn_tsn_reset_request_parameter.SsnTsnResetRequestParameter.{SsnTsnResetRequestParameter}}
 
-unfoldable pub read : List ℕ → Result ℕ Fault
+abbrev pub read : List ℕ → Result ℕ Fault
 read value = if length value == 4 then Ok (number32 value) else Err Length
 
 abbrev pub format : ℕ → Format

@@ -3,7 +3,7 @@
 use Rattle.std.specs.{Prelude.{ℕ, List, ◌++◌, Result, Ok, length, map, codes}, Fmt.{decimal}}
 use Rattle.dcsctp_tlv.specs.{Kind.{Fault, AreBytes, joined, Format, sized_tlv, length-solid, Kind, plain_kind, Varied}, declared.parameter.supported_extensions_parameter.SupportedExtensionsParameter.{SupportedExtensionsParameter}}
 
-unfoldable pub read : List ℕ → Result (List ℕ) Fault
+abbrev pub read : List ℕ → Result (List ℕ) Fault
 read value = Ok value
 
 abbrev pub format : List ℕ → Format

@@ -7,7 +7,7 @@ pub record Tree : Type 0 where
   pub typ : ℕ
   pub value : List ℕ
 
-unfoldable pub read : ℕ → List ℕ → Result Tree Fault
+abbrev pub read : ℕ → List ℕ → Result Tree Fault
 read typ value = Ok (record { typ = typ; value = value })
 
 pub record IsInWidth (u : Tree) : Type 0 where

@@ -175,7 +175,6 @@ impl Parameter {
     }
 
     /// Checks the value as its type's kind does; any value of another type passes.
-    #[tactic(auto, unfolding(crate::specs::HeartbeatInfo::read, crate::specs::StateCookie::read, crate::specs::SupportedExtensions::read))]
     fn check_kind(typ: u16, value: &[u8]) -> Result<(), ChunkParseError>
         ensures { ChecksKind parameter.kinds 0 typ value.now result }
     {
@@ -183,7 +182,6 @@ impl Parameter {
     }
 
     /// Builds the parameter that the value means.
-    #[tactic(auto, unfolding(crate::specs::HeartbeatInfo::read, crate::specs::StateCookie::read, crate::specs::SupportedExtensions::read, crate::specs::UnknownParameter::read))]
     fn build(alloc: Global, typ: u16, value: &[u8]) -> Result<Self, AllocError>
         requires { HasMeaning (parameter.row typ) value.now }
         ensures meant { IfOk result (λ p. (parameter.row typ).means value.now (view p)) }
@@ -194,7 +192,6 @@ impl Parameter {
     }
 }
 
-#[tactic(auto, unfolding(crate::specs::HeartbeatInfo::read, crate::specs::StateCookie::read, crate::specs::SupportedExtensions::read, crate::specs::UnknownParameter::read))]
 impl ReadableTlv for Parameter {
     ghost Tree = { ParameterTree };
 

@@ -3,8 +3,6 @@ use Rattle.std.{proofs.Common.{◌≡◌, ℕ, ◌+◌, ◌-◌, ◌*◌, ◌≤
 use Rattle.dcsctp_tlv.{specs.Count.{total}, specs.Fault.{Fault}, specs.Frame.{Item, lenient, round_up_to_4}, specs.Image.{size_of, list_size}, specs.Level.{MeansTrees, map_ok}, specs.Table.{IsOneOf}, specs.Typed.{item_type}, proofs.Bounds.{padded_by, list_fits, Bounds, list_bound}, proofs.KindLaws.{of_map_ok, of_ok}}
 use Rattle.dcsctp_cause.specs.Cause as cause
 use Rattle.dcsctp_cause.{specs.Cause.{CauseTree, causes}, specs.Text.{text_or}, proofs.CauseLaws.{causes_account}}
-use Rattle.dcsctp_cause.specs.UserInitiatedAbort as user_abort
-use Rattle.dcsctp_cause.specs.ProtocolViolation as violation
 use Rattle.dcsctp_wire.{specs.Canonical.{padded_size}, specs.Chunk.{ChunkTree, Abort, Error, chunks, chunk_row, HoldsCauses, tlv as chunk_tlv}, specs.Packet.{PacketTree, MeansPacket, body}, proofs.ChunkRows.{chunks_account}}
 
 -- ---- causes: a text that isn't UTF-8 has at least one byte, and is replaced by at most 38
@@ -29,7 +27,6 @@ broken_text tree fixed value t size few broken m =
 
 broken_cause : (code : ℕ) (value : List ℕ) (t : CauseTree) → is_utf8 value ≡ false
     → cause.HoldsText code → (cause.row code).means value t → cause_size t ≤ 42
-unfolding user_abort.read violation.read
 broken_cause code value t broken (inl is) m =
     broken_text cause.UserInitiatedAbort (codes "Failed to parse abort reason") value t (λ x. refl)
     (omega arith) broken (subst (λ (c : ℕ). (cause.row c).means value t) is m)

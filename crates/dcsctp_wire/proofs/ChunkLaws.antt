@@ -1,7 +1,7 @@
 -- Each kind of chunk reads back.
 use Rattle.std.proofs.Common.{Bool, refl}
 use Rattle.dcsctp_tlv.{specs.Image.{zeroed}, specs.Table.{IsUnnamed}, proofs.KindLaws.{IsGood}, proofs.Tables.{of_others}, proofs.ReadsBack.{ReadsBack, zeroed-solid}, proofs.Satisfies.{back_of}}
-use Rattle.dcsctp_chunk.specs.Unknown.{Tree as UnknownTree, read as unknown_at}
+use Rattle.dcsctp_chunk.specs.Unknown.{Tree as UnknownTree}
 use Rattle.dcsctp_wire.{specs.Chunk.{ChunkTree, Unknown, table, chunks, chunk_row, entry, format, tlv as chunk_tlv}, proofs.ChunkRows.{satisfies_of}, proofs.ListRows.{KeepsAt}}
 
 -- a chunk that can be written and read again
@@ -10,7 +10,6 @@ IsGoodChunk t = IsGood (format t)
 
 unknown_means : (strict : Bool) (u : UnknownTree) → IsUnnamed (table strict u.flags) u.typ
     → (chunk_row strict u.typ u.flags).means (zeroed (chunk_tlv (Unknown u)).value) (Unknown u)
-unfolding unknown_at
 unknown_means strict u h =
     of_others (λ row. row.means (zeroed (chunk_tlv (Unknown u)).value) (Unknown u))
     (table strict u.flags) u.typ _ h (rw (zeroed-solid u.value) refl)

@@ -52,7 +52,6 @@ others typ flags = plain (λ value. map_ok Unknown (unknown_at typ flags value))
 
 unknown_sound : (typ flags : ℕ) → IsUnnamed (table lenient flags) typ
     → Sound KeepsCauses entry typ (others typ flags)
-unfolding unknown_at
 unknown_sound typ flags unnamed = record {
   forms = λ value t e. subst IsChunkWellFormed
       (of_ok (Unknown (record { typ = typ; flags = flags; value = value })) t e) unnamed;
@@ -86,7 +85,6 @@ pub plain_finds : (strict : Bool) (typ flags : ℕ) (value : List ℕ)
     (r : Result (Unit {0}) ChunkParseError) → IsUnnamed (list_rows strict flags) typ
     → ChecksKind plain_kinds flags typ value r
     → Finds chunk_parts (chunk_row strict typ flags) value r
-unfolding unknown_at
 plain_finds strict typ flags value r unnamed p =
     of_others (λ row. Finds chunk_parts row value r) (list_rows strict flags) typ _ unnamed
     (table_finds chunk_parts plain_kinds plain_trees lenient flags typ (others typ flags) value r

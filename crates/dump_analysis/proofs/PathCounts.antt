@@ -1,65 +1,11 @@
 -- Paths whose ways and counts are as they were, but that one has a packet more.
-use Rattle.std.proofs.Common.{◌≡◌, ◌<◌, ◌≤◌, ℕ, List, length, slice_index_or, slice_set, inl, inr, refl, sym, ap, subst, ◌∙◌, arith, get_or-set_same, get_or-set_other, length-set}
-use Rattle.std.proofs.lemmas.Bool.{cases_eq}
-use Rattle.std.proofs.lemmas.List.{get_or_default, length_push}
+use Rattle.std.proofs.Common.{◌≡◌, ◌<◌, ◌≤◌, ℕ, List, length, slice_index_or, inl, inr, sym, ap, subst, ◌∙◌, arith}
+use Rattle.std.proofs.lemmas.List.{length_push}
 use Rattle.dump_capture.specs.Number.{one_more}
 use Rattle.dump_analysis.specs.Counts.{Packet, CountsPacket}
 use Rattle.dump_analysis.specs.Paths.{CountAlike, CountsAt, CountsOnce, FindsPlace}
 use Rattle.dump_analysis.specs.declared.counts.Counts.{Counts}
 use Rattle.dump_analysis.specs.declared.path.{Path.{Path}, Way.{Way}}
-
-pub alike_same : (xs : List Path) → CountAlike xs xs
-alike_same xs = (refl, λ _ _ _. refl, λ _ _ _. refl)
-
-pub alike_then : (xs ys zs : List Path) → CountAlike xs ys → CountAlike ys zs → CountAlike xs zs
-alike_then xs ys zs a b = (
-  b.0 ∙ a.0,
-  λ k d within. b.1 k d (omega (arith, a.0, within)) ∙ a.1 k d within,
-  λ k d within. b.2 k d (omega (arith, a.0, within)) ∙ a.2 k d within,
-)
-
--- the element at each place after a write
-module _ (xs : List Path) (i : ℕ) (y d : Path) (within : i < length xs) where
-  there : (k : ℕ) (e : Path) → k ≡ i → slice_index_or (slice_set xs i y) k e ≡ y
-  there k e same =
-      ap (λ (n : ℕ). slice_index_or (slice_set xs i y) n e) same ∙ get_or-set_same xs i y e within
-
-  was : (k : ℕ) (e : Path) → k ≡ i → slice_index_or xs i d ≡ slice_index_or xs k e
-  was k e same =
-      get_or_default xs i d e within ∙ ap (λ (n : ℕ). slice_index_or xs n e) (sym same)
-
-  ways : y.way ≡ (slice_index_or xs i d).way → (k : ℕ) (e : Path) → k < length xs
-      → (slice_index_or (slice_set xs i y) k e).way ≡ (slice_index_or xs k e).way
-  ways way k e _ = elim (cases_eq k i) [
-    | inl same ↦ ap (λ (p : Path). p.way) (there k e same) ∙ way
-        ∙ ap (λ (p : Path). p.way) (was k e same)
-    | inr apart ↦ ap (λ (p : Path). p.way) (get_or-set_other xs i k y e apart)
-  ]
-
-  pub set_alike : y.way ≡ (slice_index_or xs i d).way → y.counts ≡ (slice_index_or xs i d).counts
-      → CountAlike xs (slice_set xs i y)
-  set_alike way counts = (
-    length-set xs i y,
-    ways way,
-    λ k e _. elim (cases_eq k i) [
-      | inl same ↦ ap (λ (p : Path). p.counts) (there k e same) ∙ counts
-          ∙ ap (λ (p : Path). p.counts) (was k e same)
-      | inr apart ↦ ap (λ (p : Path). p.counts) (get_or-set_other xs i k y e apart)
-    ],
-  )
-
-  pub set_counted : (p : Packet) → y.way ≡ (slice_index_or xs i d).way
-      → CountsPacket (slice_index_or xs i d).counts p y.counts → CountsAt p i xs (slice_set xs i y)
-  set_counted p way counts = (
-    within,
-    length-set xs i y,
-    ways way,
-    λ k e _ apart. ap (λ (p : Path). p.counts) (get_or-set_other xs i k y e apart),
-    λ e. subst (λ (c : Counts). CountsPacket c p (slice_index_or (slice_set xs i y) i e).counts)
-        (ap (λ (p : Path). p.counts) (was i e refl))
-        (subst (λ (c : Counts). CountsPacket (slice_index_or xs i d).counts p c)
-        (sym (ap (λ (p : Path). p.counts) (there i e refl))) counts),
-  )
 
 pub counted_then : (p : Packet) (place : ℕ) (xs ys zs : List Path) → CountsAt p place xs ys
     → CountAlike ys zs → CountsAt p place xs zs

@@ -14,9 +14,6 @@ Hands-trans handed old mid new first second before after =
     λ xs h. subst (λ (l : List Event). handed new l) (append_assoc xs first second)
     (after (xs ++ first) (before xs h))
 
-pub some_none : {S : Type 0} (handed : S → List Event → Type 0) (s : S) → HandsSome handed s s
-some_none handed s = record { events = []; hands = Hands-none handed s }
-
 pub some_then_some : {S : Type 0} (handed : S → List Event → Type 0) (old mid new : S)
     → HandsSome handed old mid → HandsSome handed mid new → HandsSome handed old new
 some_then_some handed old mid new before after = record {

@@ -1,10 +1,9 @@
 -- A packet that was put together is read as one.
-use Rattle.std.proofs.Common.{◌≡◌, ◌+◌, ◌-◌, ◌<◌, ◌^◌, ◌==◌, ℕ, true, false, nat_lt, List, [], ◌∷◌, ◌++◌, length, take, drop, Ok, refl, ap, sym, ◌∙◌, append_assoc, arith}
+use Rattle.std.proofs.Common.{◌≡◌, ◌+◌, ◌-◌, ◌<◌, ◌^◌, ◌==◌, ℕ, true, false, nat_lt, List, [], ◌∷◌, ◌++◌, length, drop, Ok, refl, ap, ◌∙◌, append_assoc, arith}
 use Rattle.std.specs.Int.{w16, to_be_bytes}
 use Rattle.std.proofs.lemmas.Bool.Decides.{nat_tests}
-use Rattle.std.proofs.lemmas.List.{length-append, take_at, drop_at, drop-drop}
 use Rattle.std.proofs.lemmas.Nat.{from_be_bytes-to_be_bytes_2}
-use Rattle.dump_capture.specs.Frame.{ip, ipv4, ipv6, may_carry_sctp, on_link, in_frame, past_header}
+use Rattle.dump_capture.specs.Frame.{ip, ipv4, may_carry_sctp, on_link, in_frame, past_header}
 use Rattle.dump_capture.specs.Number.{number16}
 use Rattle.dump_capture.specs.Reassembly.{ip_header, carried_by}
 use Rattle.dump_capture.specs.declared.frame.Addresses.TheVariants.{V4, V6}

@@ -3,7 +3,7 @@ use Rattle.std.proofs.Common.{◌≡◌, ◌+◌, ◌==◌, ◌&&◌, not, Bool,
 use Rattle.std.proofs.lemmas.List.Folds.{list_all-append}
 use Rattle.std.specs.List.{list_all}
 use Rattle.std.specs.Io.KnownBytes.{Keeps, Consumes, IsAtEnd, prepend_known}
-use Rattle.std.proofs.KnownBytes.{Consumes-nil, Consumes-whole, Keeps-refl, prepend_known-end}
+use Rattle.std.proofs.KnownBytes.{Consumes-whole, Keeps-refl, prepend_known-end}
 use Rattle.dump_io.proofs.Streams.{Consumes-all_dropped, Consumes-front_dropped}
 use Rattle.dump_capture.specs.Decoding.{IsLine, fed}
 use Rattle.dump_capture.proofs.TextLines.{BeginsWithLine}
@@ -33,9 +33,6 @@ IsLine-take n bytes is = first _ _
 -- what was dropped is a beginning of the line
 abbrev pub Dropped : Option (List ℕ) → Option (List ℕ) → Type 0
 Dropped before now = (dropped : List ℕ) × IsLine dropped × Consumes before now dropped
-
-pub Dropped-none : (before : Option (List ℕ)) → Dropped before before
-Dropped-none before = ([], refl, Consumes-nil before)
 
 -- all that was held is a part of the line, and more was read
 pub Dropped-more : (before remaining after : Option (List ℕ)) (old none new : List ℕ)

@@ -290,17 +290,6 @@ module _ {S P : Type 0} (Item : S → List ℕ → List Event → S → Type 0)
           hands = Hands-trans handed old now new first.events last.events first.hands last.hands;
         }
 
-    pub HandsFront-taken : (s t : S) (before left : Option (List ℕ)) (old now : P)
-        → Takes Item handed s t before left old now → HandsFront Item handed s before old now
-    HandsFront-taken s t before left old now first = record {
-      bytes = first.bytes ++ [];
-      events = first.events;
-      after = t;
-      front = starts_after before left first.bytes [] first.consumes (starts_nil left);
-      items = subst (λ l. Items Item s l first.events t) (sym (append-nil first.bytes)) first.items;
-      hands = first.hands;
-    }
-
     HandsFront-after : (s t : S) (before left : Option (List ℕ)) (old now new : P)
         → Takes Item handed s t before left old now → HandsFront Item handed t left now new
         → HandsFront Item handed s before old new

@@ -36,7 +36,6 @@ pub struct AddIncomingStreamsRequestParameter {
     pub nbr_new_streams: u16,
 }
 
-#[tactic(auto, unfolding(crate::specs::AddStreamsRequest::read))]
 impl AddIncomingStreamsRequestParameter {
     /// Reads the parameter; no memory is taken, and the reserved bytes are ignored.
     ///

@@ -25,7 +25,6 @@ pub const PARAMETER_TYPE: u16 = 0xC000;
 #[derive(Debug, Drop)]
 pub struct ForwardTsnSupportedParameter;
 
-#[tactic(auto, unfolding(crate::specs::ForwardTsnSupported::read))]
 impl ForwardTsnSupportedParameter {
     /// Reads the parameter; no memory is taken.
     ///

@@ -33,7 +33,6 @@ pub struct HeartbeatInfoParameter {
     pub info: Vec<u8>,
 }
 
-#[tactic(auto, unfolding(crate::specs::HeartbeatInfo::read))]
 impl HeartbeatInfoParameter {
     /// Reads the parameter, and copies the info.
     ///

@@ -39,7 +39,6 @@ pub struct IncomingSsnResetRequestParameter {
     pub streams: Vec<StreamId>,
 }
 
-#[tactic(auto, unfolding(crate::specs::IncomingSsnResetRequest::read))]
 impl IncomingSsnResetRequestParameter {
     /// Reads the parameter, and copies its stream ids.
     ///

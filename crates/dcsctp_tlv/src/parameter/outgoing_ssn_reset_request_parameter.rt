@@ -104,7 +104,6 @@ pub struct OutgoingSsnResetRequestParameter {
     pub streams: Vec<StreamId>,
 }
 
-#[tactic(auto, unfolding(crate::specs::OutgoingSsnResetRequest::read))]
 impl OutgoingSsnResetRequestParameter {
     /// Reads the parameter, and copies its stream ids.
     ///
@@ -198,7 +197,8 @@ impl fmt::Display for OutgoingSsnResetRequestParameter {
         let tsn = self.sender_last_assigned_tsn;
         write!(
             f,
-            "Incoming SSN Reset Request, req_seq_nbr={request}, resp_seq_nbr={response}, slatsn={tsn}"
+            "Incoming SSN Reset Request, req_seq_nbr={request}, resp_seq_nbr={response}, \
+             slatsn={tsn}"
         )
     }
 }

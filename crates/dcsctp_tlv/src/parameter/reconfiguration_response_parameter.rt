@@ -151,7 +151,6 @@ pub struct ReconfigurationResponseParameter {
     pub receiver_next_tsn: Option<Tsn>,
 }
 
-#[tactic(auto, unfolding(crate::specs::ReconfigurationResponse::read))]
 impl ReconfigurationResponseParameter {
     /// Reads the parameter; no memory is taken.
     ///

@@ -31,7 +31,6 @@ pub struct SsnTsnResetRequestParameter {
     pub request_seq_nbr: u32,
 }
 
-#[tactic(auto, unfolding(crate::specs::SsnTsnResetRequest::read))]
 impl SsnTsnResetRequestParameter {
     /// Reads the parameter; no memory is taken.
     ///

@@ -33,7 +33,6 @@ pub struct StateCookieParameter {
     pub cookie: Vec<u8>,
 }
 
-#[tactic(auto, unfolding(crate::specs::StateCookie::read))]
 impl StateCookieParameter {
     /// Reads the parameter, and copies the cookie.
     ///

@@ -34,7 +34,6 @@ pub struct SupportedExtensionsParameter {
     pub chunk_types: Vec<u8>,
 }
 
-#[tactic(auto, unfolding(crate::specs::SupportedExtensions::read))]
 impl SupportedExtensionsParameter {
     /// Reads the parameter, and copies the list.
     ///

@@ -33,7 +33,6 @@ pub struct UnknownParameter {
     pub value: Vec<u8>,
 }
 
-#[tactic(auto, unfolding(crate::specs::UnknownParameter::read))]
 impl UnknownParameter {
     /// Builds the parameter or cause of this type that holds these bytes. Does not allocate.
     pub fn new(typ: u16, value: Vec<u8>) -> UnknownParameter

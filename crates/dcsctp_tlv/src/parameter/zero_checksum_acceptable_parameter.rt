@@ -32,7 +32,6 @@ pub struct ZeroChecksumAcceptableParameter {
     pub method: ZeroChecksumAlternateErrorDetectionMethod,
 }
 
-#[tactic(auto, unfolding(crate::specs::ZeroChecksumAcceptable::read))]
 impl ZeroChecksumAcceptableParameter {
     /// Reads the parameter; no memory is taken, and every method is accepted.
     ///

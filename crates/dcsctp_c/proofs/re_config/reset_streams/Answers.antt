@@ -14,3 +14,11 @@ pub returns-in-OutgoingSsnResetRequest-clause-means
     : goal.returns-in-OutgoingSsnResetRequest-clause-means
 returns-in-OutgoingSsnResetRequest-clause-means c tree m =
     ap (option_and_then reset_streams) (c.re_config_ref.ensures.means tree m) ∙ resets tree
+
+pub returns-in_err-streams-clause-means : goal.returns-in_err-streams-clause-means
+returns-in_err-streams-clause-means c tree m =
+    ap (option_and_then reset_streams) (c.re_config_ref.ensures.means tree m) ∙ resets tree
+
+pub returns-in_default-clause-means : goal.returns-in_default-clause-means
+returns-in_default-clause-means c tree m =
+    ap (option_and_then reset_streams) (c.re_config_ref.ensures.means tree m) ∙ resets tree

@@ -9,31 +9,6 @@ counted : (g : given.Over) (size : ℕ) (xs : List g.row.F-Value.Denot) → size
     → size * length xs ≡ g.F.Field.SIZE * length (map g.F.Field.view xs)
 counted g size xs e = rw (e, length-map xs g.F.Field.view) refl
 
-pub overflow_mul-value_size : goal.overflow_mul-value_size
-overflow_mul-value_size g c = record {
-  fits =
-      omega (arith, counted g c.SIZE.result c.args.list.now c.SIZE.ensures, c.requires.encodable);
-}
-
-pub overflow_add-value_size : goal.overflow_add-value_size
-overflow_add-value_size g c = record {
-  fits =
-      omega (arith, counted g c.SIZE.result c.args.list.now c.SIZE.ensures, c.requires.encodable);
-}
-
-pub put_header-requires-clause-encodable : goal.put_header-requires-clause-encodable
-put_header-requires-clause-encodable g c =
-    omega (arith, counted g c.SIZE.result c.args.list.now c.SIZE.ensures, c.requires.encodable)
-
-pub put_fields-requires-clause-room : goal.put_fields-requires-clause-room
-put_fields-requires-clause-room g c =
-    omega (arith, c.put_header.auto.output, c.requires.room)
-
-pub put_fields-requires-2-clause-room : goal.put_fields-requires-2-clause-room
-put_fields-requires-2-clause-room g c =
-    let fields = counted g g.F.Field.SIZE c.args.list.now refl in
-    omega (arith, fields, c.put_header.auto.output, c.put_fields.auto.output, c.requires.room)
-
 pub returns : goal.returns
 returns g c =
     let ns = c.args.leading.now in

@@ -1,10 +1,6 @@
-use Rattle.std.proofs.Common.{arith, refl, ap, ◌∙◌, take_all}
-use Rattle.dcsctp_tlv.{specs.Format.{tlv_by}, specs.Image.{list_size}, proofs.Images.{room_for, not_total, total_more, all_more, all_done}}
+use Rattle.std.proofs.Common.{arith}
+use Rattle.dcsctp_tlv.{specs.Format.{tlv_by}, proofs.Images.{room_for, not_total, total_more, all_more}}
 use Rattle.dcsctp_tlv.proofs.list.encoded_list_size.Goals as goal
-
-pub loop-item-init : goal.loop-item-init
-loop-item-init g c =
-    record { total = refl; small = omega arith; each = λ k d lt. absurd (omega arith) }
 
 pub returns-in_default : goal.returns-in_default
 returns-in_default g c = λ h.
@@ -25,11 +21,3 @@ loop-item-preserved g c = record {
       c.item-item.result c.loop-item-test.true c.item-item.is c.in-Some.ensures.0.0
       c.loop-item.invariant.each;
 }
-
-pub returns : goal.returns
-returns g c = (
-  all_done c.loop-item-test.false c.loop-item.invariant.total c.loop-item.invariant.small
-      c.loop-item.invariant.each,
-  c.loop-item.invariant.total ∙ ap (list_size (tlv_by g.T.SerializableTlv.format))
-      (take_all c.loop-item.item-index c.args.list.now c.loop-item-test.false),
-)

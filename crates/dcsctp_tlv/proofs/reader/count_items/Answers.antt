@@ -9,14 +9,6 @@ frame_parts-requires c =
     (is_cons c.loop-rest.rest.now c.is_empty.result c.is_empty.ensures c.loop-rest-test.true)
     left.1.0).frame
 
-pub overflow_add-count : goal.overflow_add-count
-overflow_add-count c =
-    let left = c.loop-rest.invariant.each c.requires.0 c.requires.1.0 c.requires.1.1 in
-    let frame = (first_item c.requires.0 c.loop-rest.rest.now left.0 c.loop-rest.invariant.fits
-    (is_cons c.loop-rest.rest.now c.is_empty.result c.is_empty.ensures c.loop-rest-test.true)
-    left.1.0).frame in
-    omega (arith, frame.header)
-
 pub loop-rest-smaller : goal.loop-rest-smaller
 loop-rest-smaller c =
     let left = c.loop-rest.invariant.each c.requires.0 c.requires.1.0 c.requires.1.1 in

@@ -4,7 +4,6 @@ use Rattle.dcsctp_chunk.specs.Sack.{numbers_at, size_of_value, read}
 use Rattle.dcsctp_borrowed.proofs.sack_ref.SackRef.of_checked.Goals as goal
 
 pub returns : goal.returns
-unfolding read
 returns c =
     let value = c.args.value.now in
     let n = numbers_at value in

@@ -3,7 +3,6 @@ use Rattle.dcsctp_chunk.specs.Sack.{numbers_at, size_of_value, read}
 use Rattle.dcsctp_borrowed.proofs.sack_ref.SackRef.of_value.Goals as goal
 
 pub of_checked-requires : goal.of_checked-requires
-unfolding read
 of_checked-requires c =
     let value = c.args.value.now in
     let size = c.if-value-value_size.false ∙ c.value_size.ensures ∙ ap size_of_value c.read.ensures in

@@ -1,11 +1,9 @@
 use Rattle.std.proofs.{Common.{length, refl, nat_lt}, lemmas.List.{take_rest}}
 use Rattle.dcsctp_tlv.{specs.Fault.{Length}, proofs.Readings.{ok_not_refused}}
-use Rattle.dcsctp_chunk.specs.IDataChunk.{read}
 use Rattle.dcsctp_borrowed.proofs.StreamKeys.{key_unordered, key_stream}
 use Rattle.dcsctp_borrowed.proofs.user_data.UserData.of_checked_idata.Goals as goal
 
 pub returns-clause-read : goal.returns-clause-read
-unfolding read
 returns-clause-read c =
     let value = c.args.value.now in
     let last = c.ppid_and_fsn.ensures in

@@ -3,11 +3,6 @@ use Rattle.std.proofs.{Common.{◌≡◌, take, refl, arith}, lemmas.Grind.{comm
 use Rattle.dcsctp_chunk.proofs.Runs.{cleaned_from_cover, cleaned_if_apart}
 use Rattle.dcsctp_chunk.proofs.chunk_validators.clean.clean_blocks.Goals as goal
 
-pub returns-then-are_apart-clause-cleaned : goal.returns-then-are_apart-clause-cleaned
-returns-then-are_apart-clause-cleaned c =
-    let said = rw c.deref.ensures.value at c.if-are_apart.ensures in
-    (cleaned_if_apart c.args.blocks.now.items said.ends (said.apart.0 refl)).0
-
 pub returns-then-are_apart-clause-laws : goal.returns-then-are_apart-clause-laws
 returns-then-are_apart-clause-laws c =
     let said = rw c.deref.ensures.value at c.if-are_apart.ensures in

@@ -1,10 +1,9 @@
 use Rattle.std.proofs.{Common.{◌≡◌, ◌+◌, ◌*◌, refl, length, drop, ap, ◌∙◌, sym, ◌==◌, map-id, drop-drop}, lemmas.List.{take_rest}}
 use Rattle.dcsctp_tlv.{specs.Fault.{Length}, proofs.Readings.{ok_passed}, specs.Fields.{fields}, specs.Number.{number32}}
-use Rattle.dcsctp_chunk.specs.Sack.{block_at, numbers_at, size_of_value, duplicate_numbers, read}
+use Rattle.dcsctp_chunk.specs.Sack.{block_at, numbers_at, size_of_value, duplicate_numbers}
 use Rattle.dcsctp_chunk.proofs.sack_chunk.SackChunk.build.Goals as goal
 
 pub returns-clause-meant : goal.returns-clause-meant
-unfolding read
 returns-clause-meant c =
     let value = c.args.value.now in
     let v = numbers_at value in

@@ -15,10 +15,6 @@ list_build-requires c =
       ap (λ (n : Counts). n.items) found.2,
     )
 
-pub returns-in_err-chunks-clause-memory : goal.returns-in_err-chunks-clause-memory
-returns-in_err-chunks-clause-memory c = λ lacks. (let found = c.in_ok-counts.ensures.found in
-    (found.0, found.1))
-
 pub returns-clause-answer : goal.returns-clause-answer
 returns-clause-answer c =
     let bytes = c.args.bytes.now in
