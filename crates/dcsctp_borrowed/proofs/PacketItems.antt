@@ -7,8 +7,8 @@ use Rattle.dcsctp_wire.specs.{Chunk.{chunks}, Packet.{PacketTree, Answer, body},
 use Rattle.dcsctp_borrowed.specs.{Part.{Part, Item, AreItems, none, next, after, after_item}, Grammar.{whole, items_of_frames}}
 use Rattle.dcsctp_borrowed.proofs.FrameItems.{frame_items, bytes_after}
 
-behind_header : (bytes : List ℕ) → after 12 (whole bytes) ≡ whole (body bytes)
-behind_header bytes =
+past_header : (bytes : List ℕ) → after 12 (whole bytes) ≡ whole (body bytes)
+past_header bytes =
     ap (λ (n : ℕ). record { bytes = body bytes; size = n }) (sym (length-drop 12 bytes))
 
 pub packet_items : (bytes : List ℕ) (word : ℕ) (policy : ChecksumPolicy) (p : PacketTree) → AreBytes bytes
@@ -18,7 +18,7 @@ pub packet_items : (bytes : List ℕ) (word : ℕ) (policy : ChecksumPolicy) (p 
 packet_items bytes word policy p fits answer =
     let c = answer.1.chunks in (
       c.items,
-      subst (λ q. AreItems q (items_of_frames c.items)) (sym (behind_header bytes))
+      subst (λ q. AreItems q (items_of_frames c.items)) (sym (past_header bytes))
           (frame_items _ c.items (body bytes) (bytes_after 12 bytes fits) c.are),
       c.mean,
     )

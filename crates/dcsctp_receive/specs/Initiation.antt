@@ -31,7 +31,8 @@ numbers_fault n =
 abbrev pub cookie_fault : Item → Option InitFault
 cookie_fault c =
     if c.first == 2 then
-    (if list_any (is_numbered 7) (items_of (after 16 c.value)) then None else Some NoStateCookie) else
+    (if list_any (is_numbered 7) (items_of (after 16 c.value)) then None
+    else Some NoStateCookie) else
     None
 
 abbrev pub first_fault : Option InitFault → Option InitFault → Option InitFault

@@ -28,7 +28,8 @@ short_numbers_of value =
 -- a number of four bytes, and after it a list of items
 abbrev pub numbered_items : List ℕ → Option (ℕ × List ℕ)
 numbered_items value =
-    if nat_le 4 (length value) then option_map (λ list. (number32 value, list)) (items (drop 4 value))
+    if nat_le 4 (length value)
+    then option_map (λ list. (number32 value, list)) (items (drop 4 value))
     else None
 
 -- a number of four bytes, and after it an address parameter

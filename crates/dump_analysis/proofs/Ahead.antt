@@ -29,13 +29,13 @@ are_within zero ahead p few = absurd (omega (arith, few))
 are_within (suc n) ahead p few =
     let left = ahead - round_up_to_4 (length_field p) in
     let others = chunks_within n left (after_item p) in
-    let behind : List Item = if goes_on ahead p then others else [] in
+    let later : List Item = if goes_on ahead p then others else [] in
     let all = chunks_within (suc n) ahead p in
     elim (cases_Bool (has_header p)) [
       | inr lacks ↦ AreWithin.none ahead p all lacks
-          (cond-false (has_header p) (front_chunk p ∷ behind) [] lacks)
+          (cond-false (has_header p) (front_chunk p ∷ later) [] lacks)
       | inl has ↦
-          let front_is = cond-true (has_header p) (front_chunk p ∷ behind) [] has in
+          let front_is = cond-true (has_header p) (front_chunk p ∷ later) [] has in
           elim (cases_Bool (goes_on ahead p)) [
             | inl goes ↦ AreWithin.next ahead p all others goes
                 (are_within n left (after_item p) (omega (arith, few, fewer p (begins ahead p goes))))
@@ -54,8 +54,8 @@ are_seen None packet = are_items (chunk_part packet)
 are_seen (Some fault) packet =
     let chunks = chunks_ahead (fault - 12) (chunk_part packet) in (
       (λ before. cond-true (nat_lt fault 12) [] chunks (lt-ltb fault 12 before)),
-      (λ behind. subst (AreWithin (fault - 12) (chunk_part packet))
-          (sym (cond-false (nat_lt fault 12) [] chunks (le-ltb fault 12 behind)))
+      (λ later. subst (AreWithin (fault - 12) (chunk_part packet))
+          (sym (cond-false (nat_lt fault 12) [] chunks (le-ltb fault 12 later)))
           (are_ahead (fault - 12) (chunk_part packet))),
     )
 
@@ -157,6 +157,6 @@ one_seen (Some fault) packet chunks are =
     elim (cases_lt fault 12) [
       | inl before ↦ are.0 before
           ∙ sym (cond-true (nat_lt fault 12) [] all (lt-ltb fault 12 before))
-      | inr behind ↦ one_within (fault - 12) p chunks all (are.1 behind) (are_ahead (fault - 12) p)
-          ∙ sym (cond-false (nat_lt fault 12) [] all (le-ltb fault 12 behind))
+      | inr later ↦ one_within (fault - 12) p chunks all (are.1 later) (are_ahead (fault - 12) p)
+          ∙ sym (cond-false (nat_lt fault 12) [] all (le-ltb fault 12 later))
     ]

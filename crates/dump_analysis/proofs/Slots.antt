@@ -42,7 +42,7 @@ module _ {K V : Type 0} where
   past (x ∷ []) y ys = shorter x y ys
   past (x ∷ z ∷ xs) y ys = shorter x z (xs ++ y ∷ ys) ∙ past (z ∷ xs) y ys
 
-  -- of two lists, one behind the other
+  -- of two lists, one after the other
   pub last_of : (xs ys : List (K × V)) → last_entry (xs ++ ys) ≡ option_or (last_entry ys) (last_entry xs)
   last_of xs [] = ap last_entry (append-nil xs)
   last_of xs (y ∷ ys) =

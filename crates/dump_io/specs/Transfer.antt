@@ -13,7 +13,7 @@ AppendsBeginning old new bytes =
     (written : List ℕ) × StartsWith bytes written × Appends old new written
 
 -- a read after the first `end` bytes of the memory added these many bytes
-abbrev pub AddsBehind : ℕ → ℕ → List ℕ → Option (List ℕ) → List ℕ → Option (List ℕ) → Type 0
-AddsBehind end n old before new after =
+abbrev pub AddsAfter : ℕ → ℕ → List ℕ → Option (List ℕ) → List ℕ → Option (List ℕ) → Type 0
+AddsAfter end n old before new after =
     (more : List ℕ) × (length more ≡ n) × (take (end + n) new ≡ take end old ++ more)
     × Consumes before after more

@@ -2,7 +2,7 @@
 ghost use Rattle.std.specs.Prelude.{◌≡◌, ◌+◌, ◌-◌, ◌||◌, ◌≤◌, ◌<◌, [], is_err, take, drop, length, vec_len, IfOk, OnErr};
 ghost use Rattle.std.specs.Io.KnownBytes.{Keeps, IsAtEnd};
 ghost use Rattle.dump_io.specs.Watched.{device_of, has_failed};
-ghost use Rattle.dump_io.specs.Transfer.{AddsBehind};
+ghost use Rattle.dump_io.specs.Transfer.{AddsAfter};
 
 use crate::watched::Watched;
 use std::alloc::{AllocError, Global};
@@ -86,7 +86,7 @@ impl Window {
         ensures failed { has_failed input.new ≡ (has_failed input.old || is_err result) }
     {
         self.make_room();
-        match read_behind(input, self.bytes.as_mut_slice(), self.end) {
+        match read_after(input, self.bytes.as_mut_slice(), self.end) {
             Ok(count) => {
                 self.end += count;
                 Ok(count)
@@ -119,10 +119,10 @@ fn move_to_front(bytes: &mut [u8], start: usize, end: usize)
 }
 
 /// Reads once, after the first `end` bytes.
-fn read_behind<R: Read>(input: &mut Watched<R>, bytes: &mut [u8], end: usize) -> io::Result<usize>
+fn read_after<R: Read>(input: &mut Watched<R>, bytes: &mut [u8], end: usize) -> io::Result<usize>
     requires { end < length bytes.old }
     ensures bound { IfOk result (λ n. end + n ≤ length bytes.new) }
-    ensures read { IfOk result (λ n. AddsBehind end n bytes.old (R.remaining (device_of input.old))
+    ensures read { IfOk result (λ n. AddsAfter end n bytes.old (R.remaining (device_of input.old))
         bytes.new (R.remaining (device_of input.new))) }
     ensures end { IfOk result (λ n. n ≡ 0 → IsAtEnd (R.remaining (device_of input.new))) }
     ensures err { OnErr result (take end bytes.new ≡ take end bytes.old) }

@@ -63,7 +63,8 @@ impl FaultKind {
             }
             FaultKind::Checksum => "The checksum field is the CRC32c of the packet.",
             FaultKind::Length => {
-                "A length counts 4 bytes of header and what its kind holds, and ends within the packet."
+                "A length counts 4 bytes of header and what its kind holds, and ends within the \
+                 packet."
             }
             FaultKind::Padding => {
                 "An item is followed by padding up to a multiple of 4 bytes, all of them zero."

@@ -47,7 +47,7 @@ before_feed held rest line more same is = by_size (cases_lt (length line) (lengt
 
 -- ---- what a dropped item was
 
--- the item goes on behind these bytes
+-- the item goes on after these bytes
 abbrev Begun : Extent → List ℕ → Type 0
 Begun (extent.Bytes n) held = length held < n
 Begun extent.Line held = IsLine held

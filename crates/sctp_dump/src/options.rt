@@ -165,7 +165,8 @@ impl Options {
         }
         if self.keep != Options::DEFAULT.keep && !self.tracks_associations() {
             return Some(
-                "--keep needs --associations, --messages, --channels, --check, --auth-key or --label",
+                "--keep needs --associations, --messages, --channels, --check, --auth-key or \
+                 --label",
             );
         }
         if self.summary && self.output == OutputForm::Brief {

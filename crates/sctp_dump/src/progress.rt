@@ -37,8 +37,8 @@ impl<'h> Progress<'h> {
         }
         self.bytes = self.bytes.saturating_add(frame.len() as u64);
         if self.bytes >= STEP {
-            self.bytes = 0;
-            self.steps = self.steps.saturating_add(1);
+            self.steps = self.steps.saturating_add(self.bytes / STEP);
+            self.bytes %= STEP;
             self.is_shown = true;
             let mebibytes = self.steps.saturating_mul(16);
             // There is no other place to say that standard error doesn't take it.

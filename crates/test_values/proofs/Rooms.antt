@@ -10,13 +10,13 @@ pub with_second : (b mid after : BuilderState) (t u : ChunkTree) (more : ℕ) (a
     → IsTrue added ↔ (IsChunkEncodable u × (more ≤ room mid)) → more + 0 ≡ padded_size (u ∷ [])
     → (IsTrue added → Holds after (t ∷ u ∷ []))
     → IsTrue added ↔ HasRoom b.limit (meaning_with b (t ∷ u ∷ []))
-with_second b mid after t u more added before behind held fits size holds =
+with_second b mid after t u more added before later held fits size holds =
     let one = ap length held.bytes ∙ length-canonical (meaning_with mid (t ∷ [])) in (
       λ yes. (
           let h = holds yes in
           let two = ap length h.bytes ∙ length-canonical (meaning_with after (t ∷ u ∷ [])) in
           let within = h.within in
-          record { each = h.each; whole = omega (arith, two, within, before, behind) }),
+          record { each = h.each; whole = omega (arith, two, within, before, later) }),
       λ h. (
           let whole = h.whole in
           fits.1 (h.each.1.0, omega (arith, one, size, before, whole))),

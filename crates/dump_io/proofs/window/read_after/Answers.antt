@@ -1,6 +1,6 @@
 use Rattle.std.proofs.Common.{◌-◌, length, take, arith, sym, length-take-le}
 use Rattle.dump_io.proofs.Devices.{take-put_mid_more}
-use Rattle.dump_io.proofs.window.read_behind.Goals as goal
+use Rattle.dump_io.proofs.window.read_after.Goals as goal
 
 pub returns-in-Ok-clause-read : goal.returns-in-Ok-clause-read
 returns-in-Ok-clause-read g c = (
