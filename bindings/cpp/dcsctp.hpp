@@ -507,7 +507,7 @@ enum class rule : std::uint32_t {
     init_alone = DCSCTP_RULE_INIT_ALONE,
     /// INIT has a verification tag other than 0 (RFC 9260 section 8.5.1)
     init_tag = DCSCTP_RULE_INIT_TAG,
-    /// the verification tag is 0 without INIT alone (RFC 9260 section 8.5.1)
+    /// the verification tag is 0 with a chunk other than INIT (RFC 9260 section 8.5.1)
     tag_zero = DCSCTP_RULE_TAG_ZERO,
     /// the Initiate Tag is 0 (RFC 9260 sections 3.3.2 and 3.3.3)
     initiate_tag_zero = DCSCTP_RULE_INITIATE_TAG_ZERO,

@@ -223,7 +223,7 @@ const (
 	RuleInitAlone Rules = C.DCSCTP_RULE_INIT_ALONE
 	// RuleInitTag: INIT has a verification tag other than 0 (RFC 9260 section 8.5.1).
 	RuleInitTag Rules = C.DCSCTP_RULE_INIT_TAG
-	// RuleTagZero: the verification tag is 0 without INIT alone (RFC 9260 section 8.5.1).
+	// RuleTagZero: the verification tag is 0 with a chunk other than INIT (RFC 9260 section 8.5.1).
 	RuleTagZero Rules = C.DCSCTP_RULE_TAG_ZERO
 	// RuleInitiateTagZero: the Initiate Tag is 0 (RFC 9260 sections 3.3.2 and 3.3.3).
 	RuleInitiateTagZero Rules = C.DCSCTP_RULE_INITIATE_TAG_ZERO

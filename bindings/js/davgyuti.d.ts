@@ -775,7 +775,7 @@ export const Rule: {
   readonly INIT_ALONE: 0x2;
   /** INIT has a verification tag other than 0 (RFC 9260 section 8.5.1). */
   readonly INIT_TAG: 0x4;
-  /** The verification tag is 0 without INIT alone (RFC 9260 section 8.5.1). */
+  /** The verification tag is 0 with a chunk other than INIT (RFC 9260 section 8.5.1). */
   readonly TAG_ZERO: 0x8;
   /** The Initiate Tag is 0 (RFC 9260 sections 3.3.2 and 3.3.3). */
   readonly INITIATE_TAG_ZERO: 0x10;

@@ -312,7 +312,7 @@ const RULE_TEXTS = new Map([
   [Rule.PORT_ZERO, 'a port is 0'],
   [Rule.INIT_ALONE, "INIT, INIT ACK or SHUTDOWN COMPLETE isn't alone"],
   [Rule.INIT_TAG, 'INIT has a verification tag other than 0'],
-  [Rule.TAG_ZERO, 'the verification tag is 0 without INIT alone'],
+  [Rule.TAG_ZERO, 'the verification tag is 0 with a chunk other than INIT'],
   [Rule.INITIATE_TAG_ZERO, 'the Initiate Tag is 0'],
   [Rule.NO_STREAMS, 'the number of outbound or inbound streams is 0'],
   [Rule.SMALL_WINDOW, 'INIT or INIT ACK advertises a window below 1,500 bytes'],

@@ -26,7 +26,7 @@ pub enum Rule {
     InitAlone = 0x2,
     /// INIT has a verification tag other than 0 (RFC 9260 section 8.5.1).
     InitTag = 0x4,
-    /// The verification tag is 0 without INIT alone (RFC 9260 section 8.5.1).
+    /// The verification tag is 0 with a chunk other than INIT (RFC 9260 section 8.5.1).
     TagZero = 0x8,
     /// The Initiate Tag is 0 (RFC 9260 sections 3.3.2 and 3.3.3).
     InitiateTagZero = 0x10,
@@ -133,7 +133,7 @@ impl Rule {
             Self::PortZero => "a port is 0",
             Self::InitAlone => "INIT, INIT ACK or SHUTDOWN COMPLETE isn't alone",
             Self::InitTag => "INIT has a verification tag other than 0",
-            Self::TagZero => "the verification tag is 0 without INIT alone",
+            Self::TagZero => "the verification tag is 0 with a chunk other than INIT",
             Self::InitiateTagZero => "the Initiate Tag is 0",
             Self::NoStreams => "the number of outbound or inbound streams is 0",
             Self::SmallWindow => "INIT or INIT ACK advertises a window below 1,500 bytes",

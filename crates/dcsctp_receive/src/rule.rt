@@ -132,7 +132,7 @@ impl Rule {
             Rule::PortZero => "a port is 0",
             Rule::InitAlone => "INIT, INIT ACK or SHUTDOWN COMPLETE isn't alone",
             Rule::InitTag => "INIT has a verification tag other than 0",
-            Rule::TagZero => "the verification tag is 0 without INIT alone",
+            Rule::TagZero => "the verification tag is 0 with a chunk other than INIT",
             Rule::InitiateTagZero => "the Initiate Tag is 0",
             Rule::NoStreams => "the number of outbound or inbound streams is 0",
             Rule::SmallWindow => "INIT or INIT ACK advertises a window below 1,500 bytes",

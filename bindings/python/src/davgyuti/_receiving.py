@@ -78,7 +78,7 @@ class Rule(v.Documented):
     PORT_ZERO = 0x1, "A port is 0 (RFC 9260 section 3.1)."
     INIT_ALONE = 0x2, "INIT, INIT ACK or SHUTDOWN COMPLETE isn't alone (RFC 9260 section 6.10)."
     INIT_TAG = 0x4, "INIT has a verification tag other than 0 (RFC 9260 section 8.5.1)."
-    TAG_ZERO = 0x8, "The verification tag is 0 without INIT alone (RFC 9260 section 8.5.1)."
+    TAG_ZERO = 0x8, "The verification tag is 0 with a chunk other than INIT (RFC 9260 section 8.5.1)."
     INITIATE_TAG_ZERO = 0x10, "The Initiate Tag is 0 (RFC 9260 sections 3.3.2 and 3.3.3)."
     NO_STREAMS = 0x20, "The number of outbound or inbound streams is 0 (RFC 9260 sections 3.3.2 and 3.3.3)."
     SMALL_WINDOW = 0x40, "INIT or INIT ACK advertises a window below 1,500 bytes (RFC 9260 section 6)."
