@@ -51,6 +51,7 @@ TIMED = ('data1200', 'data_small', 'data_bundle', 'sack20', 'init', 'hostile_ack
 # The rows of both tables: a language, the call that the others are compared with, and those.
 READ = (
     ('C', 'by hand', 'davgyuti', 'davgyuti, rows'),
+    ('C with LTO', 'by hand', 'davgyuti'),
     ('Rust', 'plain loop', 'davgyuti'),
     ('Python', 'aiortc', 'davgyuti'),
     ('Go', 'pion', 'davgyuti', 'davgyuti, 16 at once'),
@@ -170,6 +171,18 @@ def c_program():
     return [program], {}, 'gcc ' + run(gcc, '-dumpfullversion').strip()
 
 
+def lto_program():
+    """The same program and the library's LLVM module, which clang makes one of: by clang 22, or the toolchain's."""
+    gcc, clang = needed('gcc'), shutil.which('clang-22')
+    if clang is None:
+        clang = os.path.join(os.path.dirname(run(needed('rt'), 'doc').strip()), 'toolchain', 'bin', 'clang')
+    program, dist = os.path.join(OUT, 'hand_lto'), os.path.join(ROOT, 'dist')
+    run(clang, '--target=x86_64-linux-gnu', '--no-default-config', '-Wno-override-module', '-O2', '-march=x86-64-v2', '-flto',
+        '-fuse-ld=lld', '-B' + os.path.dirname(clang), '-isystem', run(gcc, '-print-file-name=include').strip(), '-I' + dist,
+        '-o', program, os.path.join(BENCH, 'hand.c'), os.path.join(dist, 'dcsctp.ll'), os.path.join(dist, 'heap.ll'))
+    return [program], {}, 'clang ' + run(clang, '-dumpversion').strip()
+
+
 CARGO = """[package]
 name = "plain"
 version = "0.0.0"
@@ -238,7 +251,8 @@ def javascript_program():
 
 
 BUILDERS = {
-    'C': c_program, 'Rust': rust_program, 'Python': python_program, 'Go': go_program, 'JavaScript': javascript_program,
+    'C': c_program, 'C with LTO': lto_program, 'Rust': rust_program, 'Python': python_program, 'Go': go_program,
+    'JavaScript': javascript_program,
 }
 
 

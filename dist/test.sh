@@ -211,6 +211,18 @@ bare_metal() {
         all_of ./show_none
 }
 
+# A program and the library as one module of LLVM, by the command of docs/C.md. (The toolchain's clang has no headers of its own.)
+one_module() {
+    local command it
+    command=$(sed -n 's/^    \(clang-22 .*\) answer.c \(.*\) -o answer$/\1 \2/p' "$root/docs/C.md" | sed "s|dist|$dist|g")
+    for it in answer show; do
+        ${command/clang-22/$clang_22} --target=x86_64-linux-gnu --no-default-config -B"$(dirname "$clang_22")" \
+            -isystem "$(gcc -print-file-name=include)" "$examples/c/$it.c" -o "${it}_module" || return
+    done
+    grep -m 1 '^1388' "$examples/packets.txt" | ./answer_module | diff - <(sed -n 's/^  answer //p;T;q' "$examples/expected.txt") &&
+        all_of ./show_module
+}
+
 # A system that there is no text for.
 riscv64() {
     "$clang_22" --target=riscv64-linux-gnu --no-default-config -Wno-override-module -O3 -c "$dist/dcsctp.ll" "$dist/heap.ll" &&
@@ -746,6 +758,7 @@ texts() {
         {dcsctp,sctp_dump,sctp_show}-x86_64-elf.s dcsctp-x86_64-none.s
     with aarch64-linux-gnu-gcc 'BTI and PAC are kept' keeps_marks aarch64-linux-gnu- -mbranch-protection=standard 'BTI, PAC' \
         {dcsctp,sctp_dump,sctp_show}-aarch64-elf.s
+    with "$clang_22 gcc" 'one module, by clang 22' one_module
     with "$clang_22 riscv64-linux-gnu-gcc qemu-riscv64" 'riscv64 under qemu, of the module' riscv64
     with "x86_64-w64-mingw32-gcc ${wine:-wine64}" 'Windows, under Wine' windows
     with clang 'macOS: the texts are assembled' apple

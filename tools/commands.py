@@ -21,12 +21,13 @@ import tempfile
 
 ROOT = os.path.dirname(os.path.dirname(os.path.abspath(__file__)))
 PAGES = ['README.md', 'docs/INSTALL.md', 'docs/C.md', 'docs/DUMP.md', 'dist/README.md']
-COMMAND = re.compile(r'(\$ )?((?:cc|echo|export|python|pip|cmake|(?:\./)?sctp_dump|xxd|tools/build\.sh|tcpdump|cargo|npm|\(cd) .*)')
+COMMAND = re.compile(r'(\$ )?((?:cc|clang-22|echo|export|python|pip|cmake|(?:\./)?sctp_dump|xxd|tools/build\.sh|tcpdump|cargo|npm|\(cd) .*)')
 
 # What can't run here, and why.
 LEFT_OUT = [
     (r'tools/build\.sh', 'it proves the library, and tests/c/test.sh tries what it builds'),
     (r'tcpdump', 'it needs a network'),
+    (r'clang-22', 'dist/test.sh tries it'),
     (r'sctp_dump \[', 'it is a pattern'),
     (r'crates/NAME', 'it is a pattern'),
     (r'cargo add|npm install|VERSION', 'dist/test.sh tries the package'),
