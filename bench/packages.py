@@ -54,7 +54,7 @@ READ = (
     ('C with LTO', 'by hand', 'davgyuti'),
     ('Rust', 'plain loop', 'davgyuti'),
     ('Python', 'aiortc', 'davgyuti'),
-    ('Go', 'pion', 'davgyuti', 'davgyuti, 16 at once'),
+    ('Go', 'pion', 'davgyuti'),
     ('JavaScript', 'DataView', 'davgyuti'),
 )
 WRITTEN = (('Python', 'aiortc writes', 'davgyuti writes'), ('Go', 'pion writes', 'davgyuti writes'))

@@ -107,25 +107,6 @@ func readByDavgyuti(raw []byte) uint64 {
 	return sumOf(&parsed)
 }
 
-// readBatches reads 16 packets at once.
-func readBatches(packets []davgyuti.Packet) call {
-	parsed := make([]davgyuti.Parsed, 16)
-	all := func() (sum uint64) {
-		for from := 0; from < len(packets); from += 16 {
-			batch := packets[from:]
-			if len(batch) > 16 {
-				batch = batch[:16]
-			}
-			davgyuti.ReadBatch(parsed, batch, davgyuti.Policy{})
-			for i := range batch {
-				sum += sumOf(&parsed[i])
-			}
-		}
-		return sum
-	}
-	return call{"davgyuti, 16 at once", all, all()}
-}
-
 // What a chunk is written from.
 type keptChunk struct {
 	typ        davgyuti.ChunkType
@@ -305,11 +286,7 @@ func writer(name string, packets [][]byte, write func(i int) ([]byte, error)) ca
 }
 
 func callsOver(packets [][]byte, isTimed bool) []call {
-	batch := make([]davgyuti.Packet, len(packets))
-	for i, raw := range packets {
-		batch[i] = raw
-	}
-	calls := []call{reader("davgyuti", packets, readByDavgyuti), readBatches(batch)}
+	calls := []call{reader("davgyuti", packets, readByDavgyuti)}
 	if !isTimed {
 		return calls
 	}

@@ -778,7 +778,7 @@ enum dcsctp_rule {
     DCSCTP_RULE_PORT_ZERO = 0x1,            /* a port is 0 (RFC 9260 section 3.1) */
     DCSCTP_RULE_INIT_ALONE = 0x2,           /* INIT, INIT ACK or SHUTDOWN COMPLETE isn't alone (RFC 9260 section 6.10) */
     DCSCTP_RULE_INIT_TAG = 0x4,             /* INIT has a verification tag other than 0 (RFC 9260 section 8.5.1) */
-    DCSCTP_RULE_TAG_ZERO = 0x8,             /* the verification tag is 0 without INIT alone (RFC 9260 section 8.5.1) */
+    DCSCTP_RULE_TAG_ZERO = 0x8,             /* the verification tag is 0 with a chunk other than INIT (RFC 9260 section 8.5.1) */
     DCSCTP_RULE_INITIATE_TAG_ZERO = 0x10,   /* the Initiate Tag is 0 (RFC 9260 sections 3.3.2 and 3.3.3) */
     DCSCTP_RULE_NO_STREAMS = 0x20,          /* the number of outbound or inbound streams is 0 (RFC 9260 sections 3.3.2 and 3.3.3) */
     DCSCTP_RULE_SMALL_WINDOW = 0x40,        /* INIT or INIT ACK advertises a window below 1,500 bytes (RFC 9260 section 6) */
@@ -951,7 +951,7 @@ static inline const char *dcsctp_rule_text(uint32_t rule)
     case DCSCTP_RULE_PORT_ZERO: return "a port is 0";
     case DCSCTP_RULE_INIT_ALONE: return "INIT, INIT ACK or SHUTDOWN COMPLETE isn't alone";
     case DCSCTP_RULE_INIT_TAG: return "INIT has a verification tag other than 0";
-    case DCSCTP_RULE_TAG_ZERO: return "the verification tag is 0 without INIT alone";
+    case DCSCTP_RULE_TAG_ZERO: return "the verification tag is 0 with a chunk other than INIT";
     case DCSCTP_RULE_INITIATE_TAG_ZERO: return "the Initiate Tag is 0";
     case DCSCTP_RULE_NO_STREAMS: return "the number of outbound or inbound streams is 0";
     case DCSCTP_RULE_SMALL_WINDOW: return "INIT or INIT ACK advertises a window below 1,500 bytes";

@@ -18,6 +18,9 @@ ROOT = os.path.dirname(os.path.dirname(os.path.abspath(__file__)))
 TEXTS = ("x86_64-elf", "x86_64-none", "x86_64-macho", "x86_64-coff", "aarch64-elf", "aarch64-macho")
 FILE = f"{ROOT}/dist/stack.txt"
 PAGES = ("docs/C.md", "SECURITY.md")
+# What bindings/go calls on the stack of a goroutine, where it has 4 KB: the most that those calls may take. (They may call memmove and
+# memset, and nothing else outside.)
+DIRECT, DIRECT_MOST = "bindings/go/calls.h", 1024
 HEAD = """# The most bytes of stack that a call takes, by dist/stack.py, but for those of libc: the name, and in the text of each system.
 """
 # A function, and no place in one.
@@ -73,12 +76,25 @@ def most(found, name, way=()):
     return own + max([most(found, it, (*way, name)) for it in calls if it in found and it != name] or [0])
 
 
+def outside(found, name):
+    """What is called that isn't in the text, but for places in a function."""
+    called = {it for it in found[name][1] if it != name and not it.startswith(".L")}
+    return set().union(*(outside(found, it) if it in found else {it} for it in called))
+
+
 def depths(file):
     """The most bytes by export."""
     with open(f"{ROOT}/dist/dcsctp-{file}.s", encoding="utf-8") as opened:
         text = opened.read().replace("@PLT", "")
     found = functions(text, file.startswith("aarch64"))
-    return {it.lstrip("_"): most(found, it) for it in re.findall(r'\.globl\t"?(_?dcsctp_\w+)"?', text)}
+    by_name = {it.lstrip("_"): most(found, it) for it in re.findall(r'\.globl\t"?(_?dcsctp_\w+)"?', text)}
+    with open(f"{ROOT}/{DIRECT}", encoding="utf-8") as opened:
+        direct = re.findall(r"\*(\w+)[,;]", re.search(r"struct go_functions \{(.*?)\}", opened.read(), re.S)[1])
+    for name in ("begin", *direct) if file.endswith("-elf") else ():
+        calls = outside(found, f"dcsctp_{name}") - {"memmove", "memset"}
+        if by_name[f"dcsctp_{name}"] > DIRECT_MOST or calls:
+            fail(f"{DIRECT} may not call dcsctp_{name} directly: {by_name[f'dcsctp_{name}']} bytes, {calls}")
+    return by_name
 
 
 def written(by_text):

@@ -621,7 +621,7 @@ C
 
 go_package() {
     (cd "$bindings/go" && export GOPROXY=off GOFLAGS=-mod=mod && go vet ./... && go build -gcflags=-d=checkptr ./... &&
-        go test ./... && go build -o "$work/show_go" ./cmd/show) && all_of ./show_go
+        go test ./... && go test -tags davgyuti_cgo ./... && go build -o "$work/show_go" ./cmd/show) && all_of ./show_go
 }
 
 # The module as a release has it, by each command of its README.md that gets it: the program there runs, and the tests do.
@@ -674,7 +674,7 @@ node_package() {
 
 go_arm64() {
     (cd "$bindings/go" && export GOPROXY=off GOFLAGS=-mod=mod GOARCH=arm64 CGO_ENABLED=1 CC=aarch64-linux-gnu-gcc &&
-        go test -ldflags '-extldflags -static' -exec qemu-aarch64 .)
+        go test -ldflags '-extldflags -static' -exec qemu-aarch64 . ./internal/direct)
 }
 
 python_package() {

@@ -41,19 +41,12 @@ static inline bool go_allows_zero(const uint8_t *bytes, size_t length)
 
 /* Writes the policy for a packet. (One that it returned gcc would copy in one piece, right after it wrote the parts, which the
    processor has to wait for.) */
-static inline void go_policy(const uint8_t *bytes, size_t length, struct go_policy asked, struct dcsctp_policy *policy)
+static inline void go_policy(const uint8_t *bytes, size_t length, const struct go_policy *asked, struct dcsctp_policy *policy)
 {
     memset(policy, 0, sizeof *policy);
-    policy->any_checksum = asked.any_checksum;
-    policy->zero_checksum = asked.zero_checksum || (asked.allowed_zero_checksum && go_allows_zero(bytes, length));
-    policy->strict_padding = asked.strict_padding;
-}
-
-static inline uint32_t go_check(const uint8_t *bytes, size_t length, uint32_t word, struct go_policy asked)
-{
-    struct dcsctp_policy policy;
-    go_policy(bytes, length, asked, &policy);
-    return dcsctp_check(bytes, length, word, &policy);
+    policy->any_checksum = asked->any_checksum;
+    policy->zero_checksum = asked->zero_checksum || (asked->allowed_zero_checksum && go_allows_zero(bytes, length));
+    policy->strict_padding = asked->strict_padding;
 }
 
 /* A code, and the offset or the size that the call wrote. */
@@ -62,29 +55,39 @@ struct go_result {
     size_t size;
 };
 
-static inline struct go_result go_first_fault(const uint8_t *bytes, size_t length, uint32_t word, struct go_policy asked)
+/* A packet, the word that its field has to be, and the policy. */
+struct go_packet {
+    const uint8_t *bytes;
+    size_t length;
+    uint32_t word;
+    struct go_policy policy;
+};
+
+static inline uint32_t go_first_fault_at(const struct go_packet *packet, size_t *offset)
 {
     struct dcsctp_policy policy;
-    go_policy(bytes, length, asked, &policy);
+    go_policy(packet->bytes, packet->length, &packet->policy, &policy);
+    return dcsctp_first_fault(packet->bytes, packet->length, packet->word, &policy, offset);
+}
+
+static inline struct go_result go_first_fault(struct go_packet packet)
+{
     struct go_result result = {0, 0};
-    result.code = dcsctp_first_fault(bytes, length, word, &policy, &result.size);
+    result.code = go_first_fault_at(&packet, &result.size);
     return result;
 }
 
-/* Some packets, with the words that their fields have to be. */
+/* Some packets; and which of the first ones are packets: a bit for each. */
 enum { GO_BATCH = 16 };
 struct go_batch {
-    const uint8_t *bytes[GO_BATCH];
-    size_t lengths[GO_BATCH];
-    uint32_t words[GO_BATCH];
+    struct go_packet packets[GO_BATCH];
 };
 
-/* Which of the first ones are packets: a bit for each. */
-static inline uint32_t go_check_batch(struct go_batch batch, size_t count, struct go_policy asked)
+static inline uint32_t go_check_batch(struct go_batch batch, size_t count)
 {
     uint32_t accepted = 0;
     for (size_t i = 0; i < count; i++)
-        accepted |= (uint32_t)(go_check(batch.bytes[i], batch.lengths[i], batch.words[i], asked) == DCSCTP_OK) << i;
+        accepted |= (uint32_t)(go_first_fault(batch.packets[i]).code == DCSCTP_OK) << i;
     return accepted;
 }
 
@@ -93,7 +96,7 @@ static inline uint32_t go_check_batch(struct go_batch batch, size_t count, struc
                                              struct go_policy asked, uint8_t *output, size_t room)                     \
     {                                                                                                                  \
         struct dcsctp_policy policy;                                                                                   \
-        go_policy(bytes, length, asked, &policy);                                                                      \
+        go_policy(bytes, length, &asked, &policy);                                                                     \
         struct go_result result = {0, 0};                                                                              \
         result.code = dcsctp_##name(bytes, length, word, &policy, output, room, &result.size);                         \
         return result;                                                                                                 \
@@ -228,16 +231,37 @@ static inline uint32_t go_seal(TO)
 #define ADD(name, parameters, ...)                                                                                     \
     static inline uint32_t go_##name parameters ADDS(dcsctp_##name(packet, to->room, &to->size, __VA_ARGS__))
 #define ADD_ALONE(name) static inline uint32_t go_##name(TO) ADDS(dcsctp_##name(packet, to->room, &to->size))
+/* What is written most takes the place of what it is written from, or by cgo that itself. */
+#define ADD_AT(name, type, ...)                                                                                        \
+    static inline uint32_t go_##name##_at(TO, const struct type *it)                                                   \
+        ADDS(dcsctp_##name(packet, to->room, &to->size, __VA_ARGS__))                                                  \
+    static inline uint32_t go_##name(TO, struct type it) { return go_##name##_at(packet, to, &it); }
 
-ADD(add_chunk, (TO, uint8_t type, uint8_t flags, const uint8_t *value, size_t count), type, flags, value, count)
-ADD(add_data, (TO, struct dcsctp_data data, const uint8_t *payload, size_t count), &data, payload, count)
-ADD(add_i_data, (TO, struct dcsctp_data data, const uint8_t *payload, size_t count), &data, payload, count)
-ADD(add_sack,
-    (TO, uint32_t tsn, uint32_t a_rwnd, const struct dcsctp_gap_ack_block *blocks, size_t block_count,
-     const uint32_t *duplicates, size_t duplicate_count),
-    tsn, a_rwnd, blocks, block_count, duplicates, duplicate_count)
-ADD(add_init, (TO, struct dcsctp_init init), &init)
-ADD(add_init_ack, (TO, struct dcsctp_init init), &init)
+struct go_item {
+    const uint8_t *value;
+    size_t count;
+    uint16_t type;
+    uint8_t flags;
+};
+struct go_user_data {
+    const uint8_t *payload;
+    size_t count;
+    struct dcsctp_data data;
+};
+struct go_lists {
+    const struct dcsctp_gap_ack_block *blocks;
+    size_t block_count;
+    const uint32_t *duplicates;
+    size_t duplicate_count;
+    uint32_t tsn, a_rwnd;
+};
+
+ADD_AT(add_chunk, go_item, (uint8_t)it->type, it->flags, it->value, it->count)
+ADD_AT(add_data, go_user_data, &it->data, it->payload, it->count)
+ADD_AT(add_i_data, go_user_data, &it->data, it->payload, it->count)
+ADD_AT(add_sack, go_lists, it->tsn, it->a_rwnd, it->blocks, it->block_count, it->duplicates, it->duplicate_count)
+ADD_AT(add_init, dcsctp_init, it)
+ADD_AT(add_init_ack, dcsctp_init, it)
 ADD(add_cookie_echo, (TO, const uint8_t *cookie, size_t count), cookie, count)
 ADD_ALONE(add_cookie_ack)
 ADD(add_heartbeat, (TO, bool is_ack, const uint8_t *info, size_t count), is_ack, info, count)
@@ -247,7 +271,12 @@ ADD_ALONE(add_shutdown_ack)
 ADD(add_shutdown_complete, (TO, bool tag_reflected), tag_reflected)
 ADD(add_forward_tsn, (TO, uint32_t tsn, const struct dcsctp_skipped_stream *streams, size_t count), tsn, streams, count)
 ADD(add_i_forward_tsn, (TO, uint32_t tsn, const struct dcsctp_skipped_stream *streams, size_t count), tsn, streams, count)
-EXTEND(add_parameter, (TO, uint16_t type, const uint8_t *value, size_t count), type, value, count)
+static inline uint32_t go_add_parameter_at(TO, const struct go_item *it)
+{
+    go_begin(packet, to);
+    return dcsctp_add_parameter(packet, to->room, &to->size, to->start, it->type, it->value, it->count);
+}
+static inline uint32_t go_add_parameter(TO, struct go_item it) { return go_add_parameter_at(packet, to, &it); }
 EXTEND(add_number, (TO, uint16_t type, uint32_t number), type, number)
 EXTEND(add_re_config, (TO, const struct dcsctp_re_config *re_config, const uint16_t *streams, size_t count), re_config, streams,
        count)
@@ -383,6 +412,39 @@ static inline struct go_cookie go_open_cookie(const uint8_t *key, size_t key_siz
     struct go_cookie result = {0};
     result.state = dcsctp_open_cookie(key, key_size, bytes, length, now, &result.it, &result.staleness);
     return result;
+}
+
+/* Whether C may be called directly. A sanitizer's own functions take more stack than there is. (Go has tags for two, unless they are
+   asked for by CGO_CFLAGS.) */
+#if defined(__SANITIZE_THREAD__) || defined(__SANITIZE_ADDRESS__)
+enum { GO_DIRECT = 0 };
+#elif defined(__has_feature)
+#if __has_feature(thread_sanitizer) || __has_feature(address_sanitizer) || __has_feature(memory_sanitizer)
+enum { GO_DIRECT = 0 };
+#else
+enum { GO_DIRECT = 1 };
+#endif
+#else
+enum { GO_DIRECT = 1 };
+#endif
+
+/* What Go calls directly, on the goroutine's stack: dist/stack.py looks at each. */
+struct go_functions {
+    void *first_fault, *seal, *add_chunk, *add_data, *add_i_data, *add_sack, *add_init, *add_init_ack, *add_cookie_ack, *add_parameter;
+};
+
+static inline struct go_functions go_functions(void)
+{
+    /* The first call of a function of libc looks for it: that is done here, not on a goroutine's stack. */
+    const uint8_t value[5] = {0};
+    uint8_t packet[DCSCTP_FIRST_CHUNK + 12];
+    size_t size;
+    dcsctp_begin(packet, sizeof packet, &size, 0, 0, 0);
+    dcsctp_add_chunk(packet, sizeof packet, &size, 0, 0, value, sizeof value);
+    return (struct go_functions){(void *)go_first_fault_at, (void *)go_seal,           (void *)go_add_chunk_at,
+                                 (void *)go_add_data_at,    (void *)go_add_i_data_at,  (void *)go_add_sack_at,
+                                 (void *)go_add_init_at,    (void *)go_add_init_ack_at, (void *)go_add_cookie_ack,
+                                 (void *)go_add_parameter_at};
 }
 
 #endif

@@ -633,8 +633,8 @@ func TestAllFunctions(t *testing.T) {
 	}
 	for _, name := range names {
 		// (a list is read in one call, without those that read one item; packets one by one, a Parsed in Go; and
-		// hash/crc32 computes the word)
-		if regexp.MustCompile(`^(read|gap_ack_block|duplicate_tsn|skipped_stream|parameter_at|reset_stream|missing_parameter|list_offset|read_many|word|item_at)$`).MatchString(name[1]) {
+		// hash/crc32 computes the word; whether a packet is accepted says its first fault)
+		if regexp.MustCompile(`^(check|read|gap_ack_block|duplicate_tsn|skipped_stream|parameter_at|reset_stream|missing_parameter|list_offset|read_many|word|item_at)$`).MatchString(name[1]) {
 			continue
 		}
 		if !regexp.MustCompile(`\bC\.(dcsctp|go)_` + name[1] + `\(`).MatchString(code) {

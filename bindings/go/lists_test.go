@@ -267,7 +267,7 @@ func TestNoMemory(t *testing.T) {
 		t.Skip("the text that is changed is that of Linux on x86-64")
 	}
 	folder := t.TempDir()
-	for _, pattern := range []string{"*.go", "*.h", "go.mod", "*_linux_amd64.s", "testdata/refusing/*"} {
+	for _, pattern := range []string{"*.go", "*.h", "go.mod", "*_linux_amd64.s", "internal/direct/*.*", "testdata/refusing/*"} {
 		names, err := filepath.Glob(pattern)
 		if err != nil {
 			t.Fatal(err)
@@ -282,10 +282,14 @@ func TestNoMemory(t *testing.T) {
 					text = bytes.ReplaceAll(text, []byte("\t"+call), []byte("\trefusing_"+call))
 				}
 			}
-			if strings.HasSuffix(name, "_test.go") && filepath.Dir(name) == "." {
+			if strings.HasSuffix(name, "_test.go") && !strings.HasPrefix(name, "testdata") {
 				continue
 			}
-			if err := os.WriteFile(filepath.Join(folder, filepath.Base(name)), text, 0o644); err != nil {
+			to := filepath.Join(folder, strings.TrimPrefix(name, "testdata/refusing/"))
+			if err := os.MkdirAll(filepath.Dir(to), 0o755); err != nil {
+				t.Fatal(err)
+			}
+			if err := os.WriteFile(to, text, 0o644); err != nil {
 				t.Fatal(err)
 			}
 		}

@@ -60,10 +60,16 @@ func (parsed *Parsed) Read(packet Packet, policy Policy) error {
 	return nil
 }
 
-// ReadBatch reads packets as Read does, each into the Parsed of its index, with one call of C for each 16 of them: of a small packet
-// that takes half of the time, or less. A Parsed has no chunks where the packet is none; its Check says why. It panics where there are
-// fewer Parsed than packets.
+// ReadBatch reads packets as Read does, each into the Parsed of its index. Where C is called by cgo, one call is for 16 of them: of a
+// small packet that takes half of the time, or less. A Parsed has no chunks where the packet is none; its Check says why. It panics
+// where there are fewer Parsed than packets.
 func ReadBatch(parsed []Parsed, packets []Packet, policy Policy) {
+	if isDirect {
+		for i, packet := range packets {
+			parsed[i].read(packet, packet.IsValid(policy))
+		}
+		return
+	}
 	for len(packets) > 0 {
 		var batch C.struct_go_batch
 		count := len(packets)
@@ -71,9 +77,9 @@ func ReadBatch(parsed []Parsed, packets []Packet, policy Policy) {
 			count = C.GO_BATCH
 		}
 		for i, packet := range packets[:count] {
-			batch.bytes[i], batch.lengths[i], batch.words[i] = bytesOf(packet), C.size_t(len(packet)), policy.word(packet)
+			batch.packets[i] = packet.c(policy)
 		}
-		accepted := C.go_check_batch(batch, C.size_t(count), policy.c())
+		accepted := C.go_check_batch(batch, C.size_t(count))
 		for i, packet := range packets[:count] {
 			parsed[i].read(packet, accepted>>i&1 != 0)
 		}

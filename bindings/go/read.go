@@ -11,6 +11,8 @@ import (
 	"hash/crc32"
 	"math/bits"
 	"unsafe"
+
+	"davgyuti.example/davgyuti/internal/direct"
 )
 
 // FirstChunk is the offset of a packet's first chunk: the size of the common header.
@@ -66,16 +68,35 @@ func (p Packet) Check(policy Policy) error {
 }
 
 func (p Packet) firstFault(policy Policy) *Error {
-	result := C.go_first_fault(bytesOf(p), C.size_t(len(p)), policy.word(p), policy.c())
+	result := p.verdict(policy)
 	if result.code == C.DCSCTP_OK {
 		return nil
 	}
 	return &Error{Code(result.code), int(result.size)}
 }
 
+// Whether C is called directly, and the functions that are.
+const isDirect = direct.IsThere && C.GO_DIRECT != 0
+
+var at = C.go_functions()
+
+// verdict returns the code of the first fault, and its offset.
+func (p Packet) verdict(policy Policy) (result C.struct_go_result) {
+	packet := p.c(policy)
+	if !isDirect {
+		return C.go_first_fault(packet)
+	}
+	result.code = C.uint32_t(direct.Call(at.first_fault, unsafe.Pointer(&packet), unsafe.Pointer(&result.size), nil))
+	return result
+}
+
+func (p Packet) c(policy Policy) C.struct_go_packet {
+	return C.struct_go_packet{bytes: bytesOf(p), length: C.size_t(len(p)), word: policy.word(p), policy: policy.c()}
+}
+
 // IsValid returns whether Check returns nil.
 func (p Packet) IsValid(policy Policy) bool {
-	return C.go_check(bytesOf(p), C.size_t(len(p)), policy.word(p), policy.c()) == C.DCSCTP_OK
+	return p.verdict(policy).code == C.DCSCTP_OK
 }
 
 // castagnoli is the table of CRC32c, which hash/crc32 computes by the processor's own instructions where it has them.

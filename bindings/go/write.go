@@ -5,7 +5,11 @@ package davgyuti
 // #include "calls.h"
 import "C"
 
-import "unsafe"
+import (
+	"unsafe"
+
+	"davgyuti.example/davgyuti/internal/direct"
+)
 
 // A Builder writes a packet into a buffer of the caller: AddParameter, AddCause, AddNumber, AddCauseNumber, AddReConfig,
 // AddMissingParameters, AddUnrecognizedParameters, AddNewAddresses, AddRegisteredParameter and AddRegisteredCause add to the last
@@ -72,7 +76,17 @@ func (b *Builder) LastChunk() (Chunk, bool) { return Packet(b.Bytes()).ChunkAt(i
 
 // Seal writes the CRC32c. Call it last. Whether there is a chunk isn't looked at: without one the packet is sealed, and
 // Packet.Check refuses it.
-func (b *Builder) Seal() error { return errorOf(C.go_seal(bytesOf(b.buffer), &b.c)) }
+func (b *Builder) Seal() error {
+	if isDirect {
+		return b.call(at.seal, nil)
+	}
+	return errorOf(C.go_seal(bytesOf(b.buffer), &b.c))
+}
+
+// call calls a function directly, with the packet and what is added to it.
+func (b *Builder) call(function, it unsafe.Pointer) error {
+	return errorOf(C.uint32_t(direct.Call(function, unsafe.Pointer(bytesOf(b.buffer)), unsafe.Pointer(&b.c), it)))
+}
 
 // RemoveLastChunk takes the last chunk back, with its list; nothing if that was done, or there is none. After it there is
 // no chunk to add to, until one is added.
@@ -81,36 +95,59 @@ func (b *Builder) RemoveLastChunk() { b.c.size = b.c.start }
 // AddChunk adds a chunk of any type with these flags and this value.
 func (b *Builder) AddChunk(chunkType ChunkType, flags uint8, value []byte) error {
 	value = b.apart(value)
-	return errorOf(C.go_add_chunk(bytesOf(b.buffer), &b.c, C.uint8_t(chunkType), C.uint8_t(flags), bytesOf(value),
-		C.size_t(len(value))))
+	it := C.struct_go_item{value: bytesOf(value), count: C.size_t(len(value)), _type: C.uint16_t(chunkType), flags: C.uint8_t(flags)}
+	if isDirect {
+		return b.call(at.add_chunk, unsafe.Pointer(&it))
+	}
+	return errorOf(C.go_add_chunk(bytesOf(b.buffer), &b.c, it))
 }
 
 // AddData adds DATA; its MID and FSN are ignored.
 func (b *Builder) AddData(data Data) error {
 	payload := b.apart(data.Payload)
-	return errorOf(C.go_add_data(bytesOf(b.buffer), &b.c, data.c(), bytesOf(payload), C.size_t(len(payload))))
+	it := C.struct_go_user_data{bytesOf(payload), C.size_t(len(payload)), data.c()}
+	if isDirect {
+		return b.call(at.add_data, unsafe.Pointer(&it))
+	}
+	return errorOf(C.go_add_data(bytesOf(b.buffer), &b.c, it))
 }
 
 // AddIData adds I-DATA; its SSN is ignored, FSN at the beginning of a message, and PPID elsewhere.
 func (b *Builder) AddIData(data Data) error {
 	payload := b.apart(data.Payload)
-	return errorOf(C.go_add_i_data(bytesOf(b.buffer), &b.c, data.c(), bytesOf(payload), C.size_t(len(payload))))
+	it := C.struct_go_user_data{bytesOf(payload), C.size_t(len(payload)), data.c()}
+	if isDirect {
+		return b.call(at.add_i_data, unsafe.Pointer(&it))
+	}
+	return errorOf(C.go_add_i_data(bytesOf(b.buffer), &b.c, it))
 }
 
 // AddSACK adds a SACK.
 func (b *Builder) AddSACK(cumulativeTSNAck, aRwnd uint32, blocks []GapAckBlock, duplicates []uint32) error {
-	return errorOf(C.go_add_sack(bytesOf(b.buffer), &b.c, C.uint32_t(cumulativeTSNAck), C.uint32_t(aRwnd), blocksOf(blocks),
-		C.size_t(len(blocks)), (*C.uint32_t)(first(duplicates)), C.size_t(len(duplicates))))
+	it := C.struct_go_lists{blocksOf(blocks), C.size_t(len(blocks)), (*C.uint32_t)(first(duplicates)), C.size_t(len(duplicates)),
+		C.uint32_t(cumulativeTSNAck), C.uint32_t(aRwnd)}
+	if isDirect {
+		return b.call(at.add_sack, unsafe.Pointer(&it))
+	}
+	return errorOf(C.go_add_sack(bytesOf(b.buffer), &b.c, it))
 }
 
 // AddInit adds INIT with these numbers, and no parameter yet.
 func (b *Builder) AddInit(init Init) error {
-	return errorOf(C.go_add_init(bytesOf(b.buffer), &b.c, init.c()))
+	it := init.c()
+	if isDirect {
+		return b.call(at.add_init, unsafe.Pointer(&it))
+	}
+	return errorOf(C.go_add_init(bytesOf(b.buffer), &b.c, it))
 }
 
 // AddInitAck adds INIT ACK with these numbers, and no parameter yet; its State Cookie has to be added.
 func (b *Builder) AddInitAck(init Init) error {
-	return errorOf(C.go_add_init_ack(bytesOf(b.buffer), &b.c, init.c()))
+	it := init.c()
+	if isDirect {
+		return b.call(at.add_init_ack, unsafe.Pointer(&it))
+	}
+	return errorOf(C.go_add_init_ack(bytesOf(b.buffer), &b.c, it))
 }
 
 // AddCookieEcho adds COOKIE ECHO with this cookie.
@@ -121,6 +158,9 @@ func (b *Builder) AddCookieEcho(cookie []byte) error {
 
 // AddCookieAck adds COOKIE ACK.
 func (b *Builder) AddCookieAck() error {
+	if isDirect {
+		return b.call(at.add_cookie_ack, nil)
+	}
 	return errorOf(C.go_add_cookie_ack(bytesOf(b.buffer), &b.c))
 }
 
@@ -181,7 +221,11 @@ func (b *Builder) AddCause(code CauseCode, value []byte) error {
 
 func (b *Builder) item(itemType C.uint16_t, value []byte) error {
 	value = b.apart(value)
-	return errorOf(C.go_add_parameter(bytesOf(b.buffer), &b.c, itemType, bytesOf(value), C.size_t(len(value))))
+	it := C.struct_go_item{value: bytesOf(value), count: C.size_t(len(value)), _type: itemType}
+	if isDirect {
+		return b.call(at.add_parameter, unsafe.Pointer(&it))
+	}
+	return errorOf(C.go_add_parameter(bytesOf(b.buffer), &b.c, it))
 }
 
 // AddNumber adds a parameter whose value is a number of four bytes: Zero Checksum Acceptable.
