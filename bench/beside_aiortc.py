@@ -18,8 +18,10 @@ def sum_of_value(value):
 
 # ---- by davgyuti
 
-# What a kind of parameters holds, as bytes; another is written.
+# What a kind of parameters holds, as bytes. One that isn't here writes its value.
+VALUE = operator.attrgetter('value')
 VALUES = {
+    davgyuti.RawParameter: VALUE,
     davgyuti.ForwardTsnSupported: lambda it: b'',
     davgyuti.HeartbeatInfo: operator.attrgetter('info'),
     davgyuti.StateCookie: operator.attrgetter('cookie'),
@@ -30,8 +32,7 @@ VALUES = {
 def sum_of_parameters(parameters):
     total = 0
     for it in parameters:
-        kind = type(it)
-        total += it.type + sum_of_value(it.value if kind is davgyuti.RawParameter or kind not in VALUES else VALUES[kind](it))
+        total += it.type + sum_of_value(VALUES.get(type(it), VALUE)(it))
     return total
 
 
