@@ -17752,27 +17752,29 @@ sctp_dump.event_printer.EventPrinterSink.frame.cdc8ff12022c16a2:
 	movq	720(%rsp), %r13
 	cmpb	$1, 8536(%rcx)
 	jne	.Ldcsctp_BB49_4
-	movq	8544(%rsi), %rcx
-	addq	%r12, %rcx
-	movq	$-1, %rax
-	cmovbq	%rax, %rcx
-	movq	%rcx, 8544(%rsi)
-	cmpq	$16777216, %rcx
+	movq	8544(%rsi), %rax
+	addq	%r12, %rax
+	movq	$-1, %rcx
+	cmovbq	%rcx, %rax
+	movq	%rax, 8544(%rsi)
+	cmpq	$16777216, %rax
 	jb	.Ldcsctp_BB49_4
-	movq	$0, 8544(%rsi)
-	movq	8552(%rsi), %rcx
-	incq	%rcx
-	cmoveq	%rax, %rcx
-	movq	%rcx, 8552(%rsi)
+	movq	%rax, %rdx
+	shrq	$24, %rdx
+	addq	8552(%rsi), %rdx
+	cmovbq	%rcx, %rdx
+	movq	%rdx, 8552(%rsi)
+	andl	$16777215, %eax
+	movq	%rax, 8544(%rsi)
 	movb	$1, 8537(%rsi)
-	movq	%rcx, %rax
+	movq	%rdx, %rax
 	shrq	$60, %rax
-	shlq	$4, %rcx
-	xorl	%edx, %edx
+	shlq	$4, %rdx
+	xorl	%ecx, %ecx
 	negq	%rax
-	sbbq	%rdx, %rdx
-	orq	%rcx, %rdx
-	movq	%rdx, 424(%rsp)
+	sbbq	%rcx, %rcx
+	orq	%rdx, %rcx
+	movq	%rcx, 424(%rsp)
 	leaq	.Ldcsctp_static.154(%rip), %rax
 	movq	%rax, 504(%rsp)
 	movq	$11, 512(%rsp)
@@ -104670,7 +104672,7 @@ std_alloc.fmt.written.53b0e0f2b427c257:
 	movq	%rax, 120(%rsp)
 	leaq	.Ldcsctp_static.776(%rip), %rdi
 	movl	$8, %ebp
-	movl	$44, %eax
+	movl	$54, %eax
 	movq	%rax, 104(%rsp)
 	leaq	.Ldcsctp_static.794(%rip), %r13
 	jmp	.Ldcsctp_BB248_360
@@ -134289,7 +134291,7 @@ std_alloc.std_alloc.fmt.written.FnOnce.call_once.f6d1bab0989a234d:
 	movl	$22, %esi
 	leaq	.Ldcsctp_static.776(%rip), %r14
 	movl	$8, %ebp
-	movl	$44, %ecx
+	movl	$54, %ecx
 	leaq	.Ldcsctp_static.794(%rip), %r15
 	jmp	.Ldcsctp_BB318_415
 .Ldcsctp_BB318_406:
@@ -177052,7 +177054,7 @@ rattle_main:
 .Ldcsctp_static.793:
 	.ascii	"INIT has a verification tag other than 0"
 .Ldcsctp_static.794:
-	.ascii	"the verification tag is 0 without INIT alone"
+	.ascii	"the verification tag is 0 with a chunk other than INIT"
 .Ldcsctp_static.795:
 	.ascii	"the Initiate Tag is 0"
 .Ldcsctp_static.796:

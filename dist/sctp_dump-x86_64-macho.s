@@ -17739,27 +17739,29 @@ _sctp_dump.event_printer.EventPrinterSink.frame.cdc8ff12022c16a2:
 	movq	%rdi, %rbx
 	cmpb	$1, 8536(%rdi)
 	jne	Ldcsctp_BB49_4
-	movq	8544(%rbx), %rcx
-	addq	%r15, %rcx
-	movq	$-1, %rax
-	cmovbq	%rax, %rcx
-	movq	%rcx, 8544(%rbx)
-	cmpq	$16777216, %rcx
+	movq	8544(%rbx), %rax
+	addq	%r15, %rax
+	movq	$-1, %rcx
+	cmovbq	%rcx, %rax
+	movq	%rax, 8544(%rbx)
+	cmpq	$16777216, %rax
 	jb	Ldcsctp_BB49_4
-	movq	$0, 8544(%rbx)
-	movq	8552(%rbx), %rcx
-	incq	%rcx
-	cmoveq	%rax, %rcx
-	movq	%rcx, 8552(%rbx)
+	movq	%rax, %rdx
+	shrq	$24, %rdx
+	addq	8552(%rbx), %rdx
+	cmovbq	%rcx, %rdx
+	movq	%rdx, 8552(%rbx)
+	andl	$16777215, %eax
+	movq	%rax, 8544(%rbx)
 	movb	$1, 8537(%rbx)
-	movq	%rcx, %rax
+	movq	%rdx, %rax
 	shrq	$60, %rax
-	shlq	$4, %rcx
-	xorl	%edx, %edx
+	shlq	$4, %rdx
+	xorl	%ecx, %ecx
 	negq	%rax
-	sbbq	%rdx, %rdx
-	orq	%rcx, %rdx
-	movq	%rdx, 408(%rsp)
+	sbbq	%rcx, %rcx
+	orq	%rdx, %rcx
+	movq	%rcx, 408(%rsp)
 	leaq	l_static.154(%rip), %rax
 	movq	%rax, 488(%rsp)
 	movq	$11, 496(%rsp)
@@ -104893,7 +104895,7 @@ Ldcsctp_BB248_352:
 	movl	$22, %r10d
 	leaq	L_static.776(%rip), %r13
 	movl	$8, %r15d
-	movl	$44, %r11d
+	movl	$54, %r11d
 	leaq	l_static.794(%rip), %r14
 	jmp	Ldcsctp_BB248_362
 Ldcsctp_BB248_353:
@@ -134807,7 +134809,7 @@ Ldcsctp_BB318_406:
 	movl	$22, %r15d
 	leaq	L_static.776(%rip), %r12
 	movl	$8, %r9d
-	movl	$44, %ecx
+	movl	$54, %ecx
 	leaq	l_static.794(%rip), %rax
 	jmp	Ldcsctp_BB318_416
 Ldcsctp_BB318_407:
@@ -177948,7 +177950,7 @@ l_static.792:
 l_static.793:
 	.ascii	"INIT has a verification tag other than 0"
 l_static.794:
-	.ascii	"the verification tag is 0 without INIT alone"
+	.ascii	"the verification tag is 0 with a chunk other than INIT"
 l_static.795:
 	.ascii	"the Initiate Tag is 0"
 l_static.796:
