@@ -173,6 +173,8 @@ def c_program():
 
 def lto_program():
     """The same program and the library's LLVM module, which clang makes one of: by clang 22, or the toolchain's."""
+    if platform.machine() != 'x86_64':
+        raise Missing('its options are those of x86-64')
     gcc, clang = needed('gcc'), shutil.which('clang-22')
     if clang is None:
         clang = os.path.join(os.path.dirname(run(needed('rt'), 'doc').strip()), 'toolchain', 'bin', 'clang')

@@ -213,14 +213,10 @@ bare_metal() {
 
 # A program and the library as one module of LLVM, by the command of docs/C.md. (The toolchain's clang has no headers of its own.)
 one_module() {
-    local command it
+    local command
     command=$(sed -n 's/^    \(clang-22 .*\) answer.c \(.*\) -o answer$/\1 \2/p' "$root/docs/C.md" | sed "s|dist|$dist|g")
-    for it in answer show; do
-        ${command/clang-22/$clang_22} --target=x86_64-linux-gnu --no-default-config -B"$(dirname "$clang_22")" \
-            -isystem "$(gcc -print-file-name=include)" "$examples/c/$it.c" -o "${it}_module" || return
-    done
-    grep -m 1 '^1388' "$examples/packets.txt" | ./answer_module | diff - <(sed -n 's/^  answer //p;T;q' "$examples/expected.txt") &&
-        all_of ./show_module
+    ${command/clang-22/$clang_22} --target=x86_64-linux-gnu --no-default-config -B"$(dirname "$clang_22")" \
+        -isystem "$(gcc -print-file-name=include)" "$examples/c/show.c" -o show_module && all_of ./show_module
 }
 
 # A system that there is no text for.
