@@ -1,6 +1,6 @@
 -- The laws of the table of error causes: a line for each kind, of the laws that it satisfies.
 use Rattle.std.{proofs.Common.{rules, ◌≡◌, ℕ, Bool, List, length, Result, refl, subst, inl, inr}, specs.Str.{IsUtf8}, specs.List.{AllByRecursion}}
-use Rattle.dcsctp_tlv.{specs.Decided.{LawfulRow, IgnoresPadding}, specs.Frame.{Item, AreItems, any_padding, lenient}, specs.Image.{Tlv, zeroed, size_of, image_of}, specs.Level.{MeansTrees}, specs.Table.{Content, Text, ◌&◌}, specs.declared.error.ChunkParseError.{ChunkParseError}, specs.Kinds.{ChecksKind}, specs.Reading.{Answers, checking, RowAnswer, Counted, Unplaced}, proofs.Lengths.{length-format}, proofs.Laws.{Lawful}, proofs.Satisfies.{AllSatisfy, SatisfiesOf, plain_satisfies, satisfies_if, back_of}, proofs.Places.{AtFront}, proofs.Lenient.{Loosens}, proofs.TableLaws.{TypedFacts, typed_row_lawful, typed_at_front, typed_lawful, typed_looser, typed_form, typed_account, typed_unpadded, typed_tested, unknown_means}, proofs.ReadsBack.{ReadsBack}, proofs.KindLaws.{IsGood, of_ok, of_map_ok}, proofs.Forms.{FormsTrees}, proofs.Accounts.{Accounts, items_kept}, proofs.Decided.{splits_one_way}}
+use Rattle.dcsctp_tlv.{specs.Decided.{LawfulRow, IgnoresPadding}, specs.Frame.{Item, AreItems, any_padding, lenient}, specs.Image.{Tlv, zeroed, size_of, image_of}, specs.Level.{MeansTrees}, specs.Table.{Content, Text, ◌&◌}, specs.declared.error.ChunkParseError.{ChunkParseError}, specs.Kinds.{ChecksKind}, specs.Reading.{Answers, checking, RowAnswer, Counted, Unplaced}, proofs.Lengths.{length-format}, proofs.Laws.{Lawful}, proofs.Satisfies.{AllSatisfy, SatisfiesOf, plain_satisfies, satisfies_if, back_of}, proofs.Lenient.{Loosens}, proofs.TableLaws.{TypedFacts, typed_row_lawful, typed_lawful, typed_looser, typed_form, typed_account, typed_unpadded, typed_tested, unknown_means}, proofs.ReadsBack.{ReadsBack}, proofs.KindLaws.{IsGood, of_ok, of_map_ok}, proofs.Forms.{FormsTrees}, proofs.Accounts.{Accounts, items_kept}, proofs.Decided.{splits_one_way}}
 use Rattle.dcsctp_cause.specs.UserInitiatedAbort as abort
 use Rattle.dcsctp_cause.specs.ProtocolViolation as violation
 use Rattle.dcsctp_cause.{specs.Cause.{CauseTree, UserInitiatedAbort, ProtocolViolation, Unknown, kinds, trees, table, row, causes, entry, format, tlv, IsWellFormed, HoldsText, IsTextKept, HasOwnText}, proofs.Texts.{utf8_unless}, proofs.CauseKinds.{missing_laws, chunk_laws, no_user_data_laws, cookie_received_laws, abort_laws, violation_laws}}
@@ -40,9 +40,6 @@ facts = record {
 
 pub row_lawful : (code : ℕ) → LawfulRow (row code)
 row_lawful = typed_row_lawful facts
-
-pub row_at_front : (code : ℕ) → AtFront (row code)
-row_at_front = typed_at_front facts
 
 -- a check that says what the kind does says what the table does
 pub cause_tested : (code : ℕ) (value : List ℕ) (r : Result (Unit {0}) ChunkParseError)

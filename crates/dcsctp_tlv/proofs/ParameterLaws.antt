@@ -1,6 +1,6 @@
 -- The laws of the table of parameters: a line for each kind, of the laws that it satisfies.
 use Rattle.std.{proofs.Common.{rules, ◌≡◌, ℕ, Bool, ◌+◌, ◌*◌, ◌^◌, ◌<◌, List, ◌++◌, length, Result, refl, ap, Option, Some, None, IfSome}, specs.Int.{w32}, specs.List.{AllByRecursion}}
-use Rattle.dcsctp_tlv.{specs.Decided.{LawfulRow, IgnoresPadding}, specs.Format.{sized_tlv}, specs.Frame.{lenient}, specs.Number.{numbers}, specs.declared.error.ChunkParseError.{ChunkParseError}, specs.Kinds.{ChecksKind}, specs.Reading.{Answers, checking, RowAnswer, Counted, Unplaced}, proofs.Lengths.{length-format}, specs.Image.{Tlv, zeroed, image_of, size_of}, specs.Table.{Content, Varied, ◌&◌}, specs.ReconfigurationResponse.{next_tsns, kept_tsn}, specs.Parameter.{ParameterTree, Unknown, kinds, trees, table, row, parameters, entry, format, tlv, IsInWidth, IsWellFormed, kept, all_kept}, proofs.Laws.{Lawful}, proofs.KindLaws.{IsGood}, proofs.Satisfies.{AllSatisfy, SatisfiesOf, plain_satisfies, kept_satisfies, back_of, kept_tlv_of, kept_width_of}, proofs.Places.{AtFront}, proofs.Lenient.{Loosens}, proofs.TableLaws.{TypedFacts, typed_row_lawful, typed_at_front, typed_lawful, typed_looser, typed_form, typed_account, typed_unpadded, typed_tested, unknown_means}, proofs.ReadsBack.{ReadsBack}, proofs.ParameterKinds.{info_laws, cookie_laws, outgoing_laws, incoming_laws, response_laws, zero_checksum_laws, extensions_laws, forward_tsn_laws, ssn_tsn_laws, add_streams_laws}, proofs.Forms.{FormsTrees}, proofs.Accounts.{Accounts}, proofs.Kept.{all_map}}
+use Rattle.dcsctp_tlv.{specs.Decided.{LawfulRow, IgnoresPadding}, specs.Format.{sized_tlv}, specs.Frame.{lenient}, specs.Number.{numbers}, specs.declared.error.ChunkParseError.{ChunkParseError}, specs.Kinds.{ChecksKind}, specs.Reading.{Answers, checking, RowAnswer, Counted, Unplaced}, proofs.Lengths.{length-format}, specs.Image.{Tlv, zeroed, image_of, size_of}, specs.Table.{Content, Varied, ◌&◌}, specs.ReconfigurationResponse.{next_tsns, kept_tsn}, specs.Parameter.{ParameterTree, Unknown, kinds, trees, table, row, parameters, entry, format, tlv, IsInWidth, IsWellFormed, kept, all_kept}, proofs.Laws.{Lawful}, proofs.KindLaws.{IsGood}, proofs.Satisfies.{AllSatisfy, SatisfiesOf, plain_satisfies, kept_satisfies, back_of, kept_tlv_of, kept_width_of}, proofs.Lenient.{Loosens}, proofs.TableLaws.{TypedFacts, typed_row_lawful, typed_lawful, typed_looser, typed_form, typed_account, typed_unpadded, typed_tested, unknown_means}, proofs.ReadsBack.{ReadsBack}, proofs.ParameterKinds.{info_laws, cookie_laws, outgoing_laws, incoming_laws, response_laws, zero_checksum_laws, extensions_laws, forward_tsn_laws, ssn_tsn_laws, add_streams_laws}, proofs.Forms.{FormsTrees}, proofs.Accounts.{Accounts}, proofs.Kept.{all_map}}
 use Rattle.dcsctp_tlv.specs.AddOutgoingStreamsRequest as add_outgoing
 use Rattle.dcsctp_tlv.specs.AddIncomingStreamsRequest as add_incoming
 use Rattle.dcsctp_tlv.specs.ReconfigurationResponse as response
@@ -78,9 +78,6 @@ facts = record {
 
 pub row_lawful : (typ : ℕ) → LawfulRow (row typ)
 row_lawful = typed_row_lawful facts
-
-pub row_at_front : (typ : ℕ) → AtFront (row typ)
-row_at_front = typed_at_front facts
 
 -- a check that says what the kind does says what the table does
 pub parameter_tested : (typ : ℕ) (value : List ℕ) (r : Result (Unit {0}) ChunkParseError)

@@ -24,11 +24,6 @@ fault_only level parts bytes l (inr none) = absurd none
 
 -- ---- rows
 
--- a fault of a value is the item's as a whole
-abbrev pub AtFront : {T : Type 0} → Row T → Type 0
-AtFront row = (value : List ℕ) (e : Fault) (n : ℕ) → row.faults value (e, n)
-    → row.faults value (e, 0)
-
 pub fault_at_front : {T U : Type 0} (row : Row T) (parts : T → ℕ) (v : List ℕ)
     (answer : Result U Fault → Type 0) → ((e : Fault) → answer (Err e) → row.faults v (e, 0))
     → (x : ChunkParseError) → Answers checking (λ (u : U). u) answer (Err x)

@@ -1,6 +1,6 @@
 -- The laws of its level that a kind satisfies, in one record; and what follows for a table of kinds.
 use Rattle.std.proofs.Common.{◌≡◌, ℕ, ◌+◌, ◌*◌, ◌≤◌, Bool, true, false, List, [], ◌∷◌, length, Result, Ok, Err, refl, sym, ap, subst, arith, ◌==◌}
-use Rattle.dcsctp_tlv.{specs.Fault.{Fault, Padding}, specs.Format.{Format}, specs.Frame.{lenient}, specs.Image.{zeroed, size_of}, specs.Level.{Row, if_row, map_ok}, specs.Table.{Content, row_of}, proofs.Accounts.{SameSpace, same_size}, proofs.FormatLaws.{TypedLaws}, proofs.KindLaws.{KindLaws, IsGood, of_map_ok}, proofs.Places.{AtFront}, specs.Decided.{LawfulRow}, proofs.Laws.{plain_lawful, as_lawful}, proofs.Lenient.{LoosensRow}, proofs.Tables.{EachNamed}, proofs.Unpadded.{Unpadded, NotPadding}, specs.Kinds.{Kind, Reader, AtFixed, Nested, plain_kind, kept_kind, own_row, row_as, TreesOf, rows, Entry, Of, Unnamed, format_of, parts_of}}
+use Rattle.dcsctp_tlv.{specs.Fault.{Fault, Padding}, specs.Format.{Format}, specs.Frame.{lenient}, specs.Image.{zeroed, size_of}, specs.Level.{Row, if_row, map_ok}, specs.Table.{Content, row_of}, proofs.Accounts.{SameSpace, same_size}, proofs.FormatLaws.{TypedLaws}, proofs.KindLaws.{KindLaws, IsGood, of_map_ok}, specs.Decided.{LawfulRow}, proofs.Laws.{plain_lawful, as_lawful}, proofs.Lenient.{LoosensRow}, proofs.Tables.{EachNamed}, proofs.Unpadded.{Unpadded, NotPadding}, specs.Kinds.{Kind, Reader, AtFixed, Nested, plain_kind, kept_kind, own_row, row_as, TreesOf, rows, Entry, Of, Unnamed, format_of, parts_of}}
 
 -- ---- what a kind satisfies
 
@@ -104,12 +104,6 @@ module _ {X T : Type 0} (tree : X → T) where
       law value n (err_of tree (read flags value) Padding e.0, e.1)
   unpadded_as flags (Nested row) law value n f = law value n f
 
-  -- a fault of what is read at fixed places is the item's as a whole
-  front_as : (strict : Bool) (flags : ℕ) (r : Reader X) → IsAtFixed r
-      → AtFront (row_as strict flags tree r)
-  front_as strict flags (AtFixed read) fixed = λ value e n is. (is.0, refl)
-  front_as strict flags (Nested row) fixed = absurd fixed
-
 -- ---- a table of kinds
 
 abbrev pub AllSatisfy : (Content → List ℕ → Type 0) → List Kind → Type 0
@@ -138,14 +132,6 @@ all_lawful T Keeps strict flags [] trees satisfied = tt
 all_lawful T Keeps strict flags (k ∷ ks) trees satisfied = (
   lawful_as trees.0 strict flags k.reader (satisfied.0.lawful strict flags),
   all_lawful T Keeps strict flags ks trees.1 satisfied.1,
-)
-
-pub all_at_front : (T : Type 0) (strict : Bool) (flags : ℕ) (ks : List Kind) (trees : TreesOf ks T)
-    → AreAtFixed ks → EachNamed (λ typ row. AtFront row) (rows strict flags ks trees)
-all_at_front T strict flags [] trees fixed = tt
-all_at_front T strict flags (k ∷ ks) trees fixed = (
-  front_as trees.0 strict flags k.reader fixed.0,
-  all_at_front T strict flags ks trees.1 fixed.1,
 )
 
 pick_looser : {T : Type 0} (b : Bool) (row others loose rest : Row T) → LoosensRow row loose

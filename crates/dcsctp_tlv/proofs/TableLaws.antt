@@ -1,6 +1,6 @@
 -- The laws of a level whose items have a type in their first two bytes, by what its kinds satisfy.
 use Rattle.std.{proofs.Common.{◌≡◌, ℕ, ◌/◌, ◌%◌, ◌+◌, ◌*◌, ◌≤◌, Bool, List, [], ◌∷◌, length, Result, refl, sym, ap, subst, ◌∙◌, arith}, specs.Int.{w16, from_be_bytes}}
-use Rattle.dcsctp_tlv.{specs.Decided.{LawfulRow, IgnoresPadding}, specs.Frame.{lenient}, specs.Image.{solid, zeroed, size_of}, specs.Kinds.{Kind, TreesOf, rows, Entry, format_of, parts_of, ChecksKind}, specs.Level.{plain, map_ok}, specs.Reading.{Answers, checking, RowAnswer, Counted, Unplaced}, specs.declared.error.ChunkParseError.{ChunkParseError}, specs.Table.{Content, Named, IsUnnamed}, specs.Typed.{item_type, typed_row, typed_level}, proofs.Accounts.{Accounts, plain_account}, proofs.Forms.{FormsTrees}, proofs.KindChecks.{table_finds, finds_tested, all_single}, proofs.KindLaws.{of_map_ok}, proofs.Laws.{Lawful, plain_lawful}, proofs.Lenient.{Loosens}, proofs.Satisfies.{AllSatisfy, AllFound, AreAtFixed, Sound, all_lawful, all_at_front, all_sound}, proofs.ParameterKinds.{type_back, unknown_keeps, unknown_forms}, proofs.Places.{AtFront}, proofs.ReadsBack.{zeroed-solid}, proofs.Tables.{of_table, of_others}, proofs.Unpadded.{ok_unpadded, list_unpadded}}
+use Rattle.dcsctp_tlv.{specs.Decided.{LawfulRow, IgnoresPadding}, specs.Frame.{lenient}, specs.Image.{solid, zeroed, size_of}, specs.Kinds.{Kind, TreesOf, rows, Entry, format_of, parts_of, ChecksKind}, specs.Level.{plain, map_ok}, specs.Reading.{Answers, checking, RowAnswer, Counted, Unplaced}, specs.declared.error.ChunkParseError.{ChunkParseError}, specs.Table.{Content, Named, IsUnnamed}, specs.Typed.{item_type, typed_row, typed_level}, proofs.Accounts.{Accounts, plain_account}, proofs.Forms.{FormsTrees}, proofs.KindChecks.{table_finds, finds_tested, all_single}, proofs.KindLaws.{of_map_ok}, proofs.Laws.{Lawful, plain_lawful}, proofs.Lenient.{Loosens}, proofs.Satisfies.{AllSatisfy, AllFound, AreAtFixed, Sound, all_lawful, all_sound}, proofs.ParameterKinds.{type_back, unknown_keeps, unknown_forms}, proofs.ReadsBack.{zeroed-solid}, proofs.Tables.{of_table, of_others}, proofs.Unpadded.{ok_unpadded, list_unpadded}}
 use Rattle.dcsctp_tlv.specs.UnknownParameter as unknown
 
 -- What is shown of a level's kinds and of its trees; `tree` is that of a type that isn't named.
@@ -44,11 +44,6 @@ module _ {T : Type 0} {kinds : List Kind} {trees : TreesOf kinds T} {of : T → 
     pub typed_row_lawful : (typ : ℕ) → LawfulRow (typed_row table tree typ)
     typed_row_lawful typ = of_table (λ n row. LawfulRow row) table typ _
         (all_lawful T Keeps lenient 0 kinds trees facts.satisfied) (λ unnamed. plain_lawful _)
-
-    -- its fault is that of the item as a whole
-    pub typed_at_front : (typ : ℕ) → AtFront (typed_row table tree typ)
-    typed_at_front typ = of_table (λ n row. AtFront row) table typ _
-        (all_at_front T lenient 0 kinds trees facts.fixed) (λ unnamed value e n is. (is.0, refl))
 
     pub typed_lawful : (strict : Bool) → Lawful (typed_level (typed_row table tree) strict)
     typed_lawful strict first second =
