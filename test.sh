@@ -28,7 +28,7 @@ failure is printed, but not counted. The last line says that nothing was proved,
 quick= library= crates=() modules=()
 case $#:${1:-} in
     0:) ;;
-    1:library) library=yes crates=(dcsctp_c sctp_show test_rows test_values) modules=(dcsctp sctp_show) ;;
+    1:library) library=yes crates=(dcsctp_c sctp_show test_rows test_callers) modules=(dcsctp sctp_show) ;;
     1:--quick) quick=yes ;;
     1:--help) echo "$usage" && exit ;;
     *) echo "$usage" >&2 && exit 2 ;;

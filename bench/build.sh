@@ -4,7 +4,7 @@
 # goes to the folder $out.
 
 export PYTHONDONTWRITEBYTECODE=1
-archives='crates/bench_probes/out/libbench_probes.a crates/dcsctp_c/out/libdcsctp_c.a'
+archives='crates/test_callers/out/libtest_callers.a crates/dcsctp_c/out/libdcsctp_c.a'
 
 give_up() {
     echo "${0##*/}: $1" >&2
@@ -17,7 +17,7 @@ build_program() {
     shift
     mkdir -p "$out"
     echo 'building the library: minutes the first time, since it is proved first' >&2
-    for crate in bench_probes dcsctp_c; do
+    for crate in test_callers dcsctp_c; do
         (cd "crates/$crate" && rt lib) >"$out/library.log" 2>&1 || { tail -n 5 "$out/library.log" >&2; give_up "no $crate"; }
     done
     # shellcheck disable=SC2086 # a list of paths without blanks

@@ -1,5 +1,5 @@
 /* SPDX-License-Identifier: Apache-2.0 */
-/* Times the CRC32c of crates/bench_probes, beside a loop in C that goes byte by byte through one table.
+/* Times the CRC32c of crates/test_callers, beside a loop in C that goes byte by byte through one table.
 
    usage: crc ROUNDS MILLIS
 

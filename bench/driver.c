@@ -1,5 +1,5 @@
 /* SPDX-License-Identifier: Apache-2.0 */
-/* Times the calls of crates/bench_probes over traffic files, and counts their requests for memory. Those of the C library can
+/* Times the calls of crates/test_callers over traffic files, and counts their requests for memory. Those of the C library can
    be counted alone.
 
    usage: driver ROUNDS MILLIS FILE..

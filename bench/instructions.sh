@@ -16,7 +16,7 @@ seconds once the library is built.
 callgrind counts one round over a file, after a round that warms up. Only the functions of the archives of the library are
 counted; the C library has a column of its own, which is compared with nothing. So a count does not depend on the C library
 or on the load of the machine. It does depend on the toolchain: record again after a change of it. check_lenient and
-check_strict are dcsctp_check, with a policy that is known only as the program runs; the calls of bench_probes are lenient, so
+check_strict are dcsctp_check, with a policy that is known only as the program runs; the other calls are lenient, so
 the compiler leaves out of them what only a strict check does.
 
 The counts rest on three hints, which keep the work for a fault off the path of a valid item. Without padding_fault as a cold

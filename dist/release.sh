@@ -72,7 +72,7 @@ pack() {
 make_archive() {
     mkdir "$work/$folder"
     {
-        git ls-files -coz --exclude-standard -- '*.md' ':(glob)*.toml' LICENSE NOTICE bindings ':(glob)crates/test_values/src/*.rt' dist docs \
+        git ls-files -coz --exclude-standard -- '*.md' ':(glob)*.toml' LICENSE NOTICE bindings ':(glob)crates/test_callers/src/*.rt' dist docs \
             tests/dump/data examples include ':!dist/*.py' ':!dist/*.sh'
         git ls-files -z dist/texts.py
     } | xargs -0 cp -P --parents -t "$work/$folder"

@@ -49,7 +49,7 @@ crates/dump_report/src/parameters.rt = Forward-TSN-Supported = | 0xc000
 crates/dump_report/src/causes.rt = Protocol Violation = | 13
 crates/dump_report/src/fault.rt = RE-CONFIG = | 130
 crates/dcsctp_receive/src/chunk_test.rt = RE-CONFIG = 130 |
-crates/test_values/src/tests/facade.rt = INIT = (init_chunk::CHUNK_TYPE, 1),
+crates/test_callers/src/tests/facade.rt = INIT = (init_chunk::CHUNK_TYPE, 1),
 crates/test_rows/src/kinds.rt = State Cookie = 7 => write_read(alloc, bytes, StateCookie::try_from(alloc, raw), out),
 crates/test_rows/src/in_place.rt = COOKIE ACK = Chunk::CookieAck(_) |
 crates/test_rows/src/buffers.rt = I-DATA = Chunk::IData(c) =>
@@ -78,7 +78,7 @@ chunk  191  MADE_BYTES  MADE BYTES  9999 1  0+1  kind  data  any bytes  Made
     crates/dcsctp_chunk/src/made_bytes_chunk.rt crates/dcsctp_chunk/src/lib.rt crates/dcsctp_chunk/src/plain_check.rt
     crates/dcsctp_wire/specs/Chunk.antt crates/dcsctp_wire/proofs/ChunkRows.antt crates/dcsctp_wire/src/packet/chunk.rt
     crates/dcsctp_wire/src/packet.rt crates/dcsctp_wire/src/laws.rt crates/dcsctp_buffer/proofs/Longer.antt
-    crates/test_rows/src/in_place.rt crates/test_rows/src/kinds.rt crates/test_rows/stdin crates/test_values/src/tests/facade.rt
+    crates/test_rows/src/in_place.rt crates/test_rows/src/kinds.rt crates/test_rows/stdin crates/test_callers/src/tests/facade.rt
     tests/refusals/rows.txt tests/c/assertions.c tests/c/plain_reader.h bindings/python/tests/support.py bindings/cpp/README.md docs/C.md
     docs/ARCHITECTURE.md CHANGELOG.md
 chunk  191  MADE_LIST  MADE LIST  9999 1  4+1  kind  data  serial u32, parameters  Made
@@ -94,7 +94,7 @@ parameter  0xffff  MADE_NUMBER  Made Number  9999 1  4  kind  milliseconds u32  
     crates/dcsctp_tlv/specs/Parameter.antt crates/dcsctp_tlv/src/parameter/made_number_parameter.rt
     crates/dcsctp_tlv/src/parameter.rt crates/dcsctp_tlv/proofs/ParameterLaws.antt crates/dcsctp_wire/src/packet.rt
     crates/dcsctp_wire/src/laws.rt crates/dcsctp_c/specs/Parameter.antt crates/dcsctp_c/proofs/NumberRows.antt
-    crates/test_rows/src/kinds.rt crates/test_rows/stdin crates/test_values/src/tests/facade.rt tests/c/assertions.c tests/c/fuzz.c
+    crates/test_rows/src/kinds.rt crates/test_rows/stdin crates/test_callers/src/tests/facade.rt tests/c/assertions.c tests/c/fuzz.c
     tests/dump/refused.txt include/dcsctp.h bindings/js/davgyuti.d.ts bindings/js/tests/user/imported.mts bindings/python/tests/support.py
     bindings/go/read.go bindings/go/write.go bindings/rust/src/list.rs bindings/rust/src/builder.rs docs/C.md CHANGELOG.md
 cause  0xffff  MADE_NUMBER  Made Number  9999 1  4  kind  microseconds u32  Made

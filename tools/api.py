@@ -25,11 +25,10 @@ import textwrap
 ROOT = os.path.dirname(os.path.dirname(os.path.abspath(__file__)))
 PAGE = os.path.join(ROOT, 'docs', 'API.md')
 
-# The libraries, in the order in which their items come within a section.
-LIBRARIES = [
-    'dcsctp_wire', 'dcsctp_borrowed', 'dcsctp_registry', 'dcsctp_buffer', 'dcsctp_receive', 'dcsctp_crc32c', 'dcsctp_auth',
-    'dcsctp_chunk', 'dcsctp_tlv', 'dcsctp_cause', 'dcsctp_types',
-]
+# The libraries that a program names, and those that it sees through `dcsctp_wire`; in the order in which their items come within
+# a section.
+NAMED = ['dcsctp_wire', 'dcsctp_borrowed', 'dcsctp_registry', 'dcsctp_buffer', 'dcsctp_receive', 'dcsctp_crc32c']
+LIBRARIES = NAMED + ['dcsctp_chunk', 'dcsctp_tlv', 'dcsctp_cause', 'dcsctp_types']
 
 # The sections of the page, and which modules each has, by their paths in a program: the first that matches.
 SECTIONS = [
@@ -42,8 +41,8 @@ SECTIONS = [
     ('Packets in their own bytes', r'dcsctp_borrowed'),
     ('What the registry has beyond the kinds', r'dcsctp_registry'),
     ("Packets written into the caller's buffer", r'dcsctp_buffer'),
-    ('What a receiver is asked', r'dcsctp_receive'),
-    ('The checksum, authentication and cookies', r'dcsctp_crc32c|dcsctp_auth'),
+    ('What a receiver is asked', r'dcsctp_receive::(?!(auth|cookie|hmac|shared_key)$)'),
+    ('The checksum, authentication and cookies', r'dcsctp_crc32c|dcsctp_receive'),
 ]
 
 # Traits that say nothing to a caller: what every type has, what the proofs see of a type, and those of the libraries themselves.
@@ -338,7 +337,7 @@ def path_in_program(name, paths):
     parts = name.split('::')
     if any(re.match(it, name) for it in FOR_THE_TOOL):
         return ''
-    if parts[0] in LIBRARIES[:7]:
+    if parts[0] in NAMED:
         return name
     for size in range(len(parts), 1, -1):
         front = '::'.join(parts[:size])

@@ -6,7 +6,7 @@ Makes the page of captures, docs/CAPTURES.md, by running the program.
 
   --write    runs sctp_show (`rt try`) over the packets of tools/captures.txt, and writes docs/CAPTURES.md, two
              tables, tests/show/captures.txt of what the program prints and
-             crates/test_values/src/tests/association.rt of the packets that carry their checksums, and these
+             crates/test_callers/src/tests/association.rt of the packets that carry their checksums, and these
              packets for the stored run of sctp_dump, whose output the page quotes
   --compare  runs nothing; fails if the page isn't what the tables and tools/captures.txt give, or if a packet
              doesn't carry its CRC32c
@@ -25,7 +25,7 @@ SOURCE = os.path.join(ROOT, 'tools', 'captures.txt')
 PAGE = os.path.join(ROOT, 'docs', 'CAPTURES.md')
 PROGRAM = os.path.join(ROOT, 'crates', 'sctp_show')
 TABLE = os.path.join(ROOT, 'tests', 'show', 'captures.txt')
-SEALED = os.path.join(ROOT, 'crates', 'test_values', 'src', 'tests', 'association.rt')
+SEALED = os.path.join(ROOT, 'crates', 'test_callers', 'src', 'tests', 'association.rt')
 GOLDEN = os.path.join(ROOT, 'crates', 'sctp_dump')
 DUMPED = os.path.join(GOLDEN, 'data', 'association.txt')
 
@@ -37,7 +37,7 @@ PAGE_HEAD = '''# Packets of real peers
 Each line of digits is a packet. Above it is what it is, and below it what a program prints of it: `echo DIGITS | ./sctp_show` or `echo
 DIGITS | ./sctp_dump` ([how to build them](INSTALL.md)). Where the line `canonical=` of `sctp_show` is missing, the canonical form is the
 packet with a checksum field of 0. `tools/captures.py --write` makes this page of `tools/captures.txt` and of what the programs print. Tests
-have it too: `tests/show/captures.txt`, `crates/test_values/src/tests/association.rt`, and the stored run of `crates/sctp_dump`.
+have it too: `tests/show/captures.txt`, `crates/test_callers/src/tests/association.rt`, and the stored run of `crates/sctp_dump`.
 '''
 
 # What is said below each heading; what is below others is in the tables alone.

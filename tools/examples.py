@@ -2,7 +2,7 @@
 # SPDX-License-Identifier: Apache-2.0
 """usage: tools/examples.py --write | --compare | --try | --paste DIR [NAME ..] | --help
 
-The programs of docs/CALLING.md are files of crates/test_values/src, which the gate proves. The program of docs/C.md
+The programs of docs/CALLING.md are files of crates/test_callers/src, which the gate proves. The program of docs/C.md
 is a file of examples/c, which tests/c/test.sh runs.
 
   --write      puts each file into its page, after the line `<!-- NAME.rt -->` or `<!-- NAME.c -->`
@@ -10,7 +10,7 @@ is a file of examples/c, which tests/c/test.sh runs.
   --try        compiles the indented code of docs/CALLING.md, unproved, in a repository as a new user would have it, and runs
                its whole program
   --paste DIR  makes a repository in DIR as a new user would: the libraries, with what is proved of them, their licence and
-               their version, and a crate `your_crate` with the programs of crates/test_values, or the named ones alone and
+               their version, and a crate `your_crate` with the programs of crates/test_callers, or the named ones alone and
                what they call, and with the files of proofs/ and specs/ that they need
   --help       prints this
 """
@@ -22,10 +22,10 @@ import sys
 import tempfile
 
 ROOT = os.path.dirname(os.path.dirname(os.path.abspath(__file__)))
-USES = os.path.join(ROOT, 'crates', 'test_values')
+USES = os.path.join(ROOT, 'crates', 'test_callers')
 # A page, the folder of its programs, and what they are written in: the ending of their names, and markdown's word.
 PAGES = [
-    ('docs/CALLING.md', 'crates/test_values/src', 'rt', 'rust'),
+    ('docs/CALLING.md', 'crates/test_callers/src', 'rt', 'rust'),
     ('docs/C.md', 'examples/c', 'c', 'c'),
 ]
 LIBRARIES = [
@@ -90,7 +90,7 @@ def examples(page, _, ending, word):
 
 
 def all_programs():
-    """The name and the text of each program of crates/test_values, which has tests too."""
+    """The name and the text of each program of crates/test_callers, which has tests too."""
     return [(path[4:-3], text) for path, text in sorted(text_files('src').items())
             if path not in ('src/lib.rt', 'src/tests.rt') and not path.startswith('src/tests/')]
 
@@ -158,12 +158,12 @@ def tried():
 
 
 def text_files(folder):
-    """The files below crates/test_values/FOLDER, by their paths there, and their texts."""
+    """The files below crates/test_callers/FOLDER, by their paths there, and their texts."""
     found = {}
     for place, _, files in os.walk(os.path.join(USES, folder)):
         for name in sorted(files):
             path = os.path.relpath(os.path.join(place, name), USES)
-            found[path] = read(f'crates/test_values/{path}')
+            found[path] = read(f'crates/test_callers/{path}')
     return found
 
 
@@ -182,7 +182,7 @@ def needed(programs, wanted):
             left += [it for it in files if it.startswith(f'proofs/{name}/')]
             left += [f'src/{it}.rt' for it in re.findall(r'\bcrate::(\w+)', files[path])]
         left += [f'{folder}/{it}.antt' for folder, it in
-                 re.findall(r'\bRattle\.test_values\.(specs|proofs)\.(\w+)', files[path])]
+                 re.findall(r'\bRattle\.test_callers\.(specs|proofs)\.(\w+)', files[path])]
     for folder in ('specs', 'proofs'):
         lines = [line for line in files[f'{folder}/Lib.antt'].splitlines() if f'{folder}/{line.split()[-1]}.antt' in taken]
         taken[f'{folder}/Lib.antt'] = ''.join(f'{line}\n' for line in lines)
@@ -195,7 +195,7 @@ def paste(directory, wanted):
     programs = all_programs()
     lacking = [name for name in wanted if name not in [it for it, _ in programs]]
     if lacking:
-        sys.exit(f'crates/test_values has no program {lacking[0]}')
+        sys.exit(f'crates/test_callers has no program {lacking[0]}')
     os.makedirs(os.path.join(directory, 'crates'))
     shutil.copy(os.path.join(ROOT, 'HANDLES'), directory)
     for name in ('LICENSE', 'NOTICE'):
@@ -215,7 +215,7 @@ def paste(directory, wanted):
         path = os.path.join(directory, 'crates', 'your_crate', path)
         os.makedirs(os.path.dirname(path), exist_ok=True)
         with open(path, 'w', encoding='utf-8') as file:
-            file.write(text.replace('Rattle.test_values.', 'Rattle.your_crate.'))
+            file.write(text.replace('Rattle.test_callers.', 'Rattle.your_crate.'))
 
 
 def main():

@@ -73,7 +73,7 @@ RESULTS = ('Success - Nothing to do', 'Success - Performed', 'Denied', 'Error - 
            'Error - Request already in progress', 'Error - Bad Sequence Number', 'In progress')
 # RFC 8832 section 5.1: the kinds of channels, and what is said of their reliability.
 CHANNELS = (('reliable', ''), ('partial reliable rexmit', 'reliability N, '), ('partial reliable timed', 'reliability N ms, '))
-# Controls, what crates/dump_text/specs/Printed.antt hides, and bytes that are no character of UTF-8.
+# Controls, what crates/dump_report/specs/Printed.antt hides, and bytes that are no character of UTF-8.
 UNSEEN = re.compile('[\0-\x1f"\\\\\x7f-\x9f\u061c\u200b-\u200f\u2028-\u202e\u2060-\u206f\udc80-\udcff\ufeff\ufff9-\ufffb'
                     '\U000e0000-\U0010ffff]')
 

@@ -1,6 +1,6 @@
 -- A State Cookie that was opened, as the struct holds it.
 use Rattle.std.proofs.Common.{◌≡◌, ◌∙◌, ◌+◌, ◌≤◌, ℕ, List, Some, true, length, take, drop, refl, sym, ap, arith, nat_le, le-leb, length-drop, drop-drop, take_all, drop_at}
-use Rattle.dcsctp_auth.{specs.Cookie.{CookieTree, cookie_bytes, fixed_bytes, view}, specs.declared.cookie.StateCookie.{StateCookie}, proofs.Cookies.{cookie_is_sealed}}
+use Rattle.dcsctp_receive.{specs.Cookie.{CookieTree, cookie_bytes, fixed_bytes, view}, specs.declared.cookie.StateCookie.{StateCookie}, proofs.Cookies.{cookie_is_sealed}}
 use Rattle.dcsctp_c.specs.{Auth.{cookie_tree, HoldsCookie}, Part.{part_at}, declared.structs.DcsctpCookie.{DcsctpCookie}}
 
 -- what ends the bytes lies there

@@ -1,7 +1,7 @@
 -- State Cookies (RFC 9260 section 5.1.3) and the association shared key (RFC 4895 section 6.1), as
 -- a C program passes and gets them.
 use Rattle.std.specs.Prelude.{◌≡◌, ◌+◌, ◌≤◌, ◌<◌, ℕ, nat_le, if◌then◌else◌, List, Some}
-use Rattle.dcsctp_auth.specs.Cookie.{CookieTree}
+use Rattle.dcsctp_receive.specs.Cookie.{CookieTree}
 use Rattle.dcsctp_c.specs.{Code.{no_room_code}, Part.{part_at}}
 use Rattle.dcsctp_c.specs.declared.structs.DcsctpCookie.{DcsctpCookie}
 

@@ -3,15 +3,17 @@
 
 ghost use Rattle.std.specs.Prelude.{◌≡◌, ◌≢◌, ◌↔◌, ◌+◌, ◌++◌, IsTrue, length};
 ghost use Rattle.dcsctp_tlv.specs.Image.{put};
-ghost use Rattle.dcsctp_auth.specs.{Auth.{IsListed, BeginsWithAuth, auth_data, IsAuthenticated}, Cookie.{CookieTree, IsInWidth, cookie_bytes, view as cookie_view}, Hmac.{hmac}, SharedKey.{ComesFirst}};
-ghost use Rattle.dcsctp_auth.specs.declared.hmac.HashFunction.{HashFunction};
+ghost use Rattle.dcsctp_receive.specs.{Auth.{IsListed, BeginsWithAuth, auth_data, IsAuthenticated}, Cookie.{CookieTree, IsInWidth, cookie_bytes, view as cookie_view}, Hmac.{hmac}, SharedKey.{ComesFirst}};
+ghost use Rattle.dcsctp_receive.specs.declared.hmac.HashFunction.{HashFunction};
 ghost use Rattle.dcsctp_c.specs.Auth.{room_code, cookie_tree, Opens};
 
 use crate::codes::{NO_ROOM, OK};
 use crate::structs::DcsctpCookie;
-use dcsctp_auth::auth::{is_listed, sign, verify};
-use dcsctp_auth::cookie::{MIN_COOKIE_SIZE, OpenedCookie, StateCookie, open_cookie, seal_cookie};
-use dcsctp_auth::shared_key::write_shared_key;
+use dcsctp_receive::auth::{is_listed, sign, verify};
+use dcsctp_receive::cookie::{
+    MIN_COOKIE_SIZE, OpenedCookie, StateCookie, open_cookie, seal_cookie,
+};
+use dcsctp_receive::shared_key::write_shared_key;
 
 /// The cookie was sealed under the key, and is good.
 pub const COOKIE_GOOD: u32 = 0;

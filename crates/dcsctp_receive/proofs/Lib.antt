@@ -7,3 +7,8 @@ pub mod Marks
 pub mod Reports
 pub mod AddedItems
 pub mod NewAddresses
+pub mod Cookies
+pub mod Differences
+pub mod Hmacs
+pub mod Signatures
+pub mod Vectors

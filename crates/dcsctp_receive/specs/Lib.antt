@@ -9,3 +9,7 @@ pub mod Initiation
 pub mod Restart
 pub mod Handling
 pub mod Rule
+pub mod Auth
+pub mod Cookie
+pub mod Hmac
+pub mod SharedKey

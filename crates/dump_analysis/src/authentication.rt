@@ -1,16 +1,16 @@
 //! AUTH in the packets of an association (RFC 4895).
 
 ghost use Rattle.std.specs.Prelude.{◌≡◌, ◌≤◌, ◌↔◌, ◌++◌, IsTrue, length};
-ghost use Rattle.dcsctp_auth.specs.Auth.{IsAuthenticated};
-ghost use Rattle.dcsctp_auth.specs.SharedKey.{ComesFirst};
+ghost use Rattle.dcsctp_receive.specs.Auth.{IsAuthenticated};
+ghost use Rattle.dcsctp_receive.specs.SharedKey.{ComesFirst};
 
 use crate::chunk_type::AUTH;
 use crate::counts::{SeenPacket, increase};
 use crate::key_vector::{KeyVector, KeyVectors, MOST_VECTOR};
 use crate::pair_key::{MOST_KEY, PairKey};
-use dcsctp_auth::auth::{is_listed, verify};
-use dcsctp_auth::hmac::HashFunction;
-use dcsctp_auth::shared_key::write_shared_key;
+use dcsctp_receive::auth::{is_listed, verify};
+use dcsctp_receive::hmac::HashFunction;
+use dcsctp_receive::shared_key::write_shared_key;
 use dcsctp_tlv::frame::TLV_HEADER_SIZE;
 use dcsctp_wire::packet::read_u16_be;
 use dcsctp_wire::packet::sctp_packet::CommonHeader;

@@ -1,8 +1,8 @@
 //! What is found of AUTH, as text and as JSON.
 
 use crate::authentication::{AuthVerdict, Authentication, AuthenticationCounts};
-use dump_text::names::ChunkName;
-use dump_text::registry::chunk_name;
+use dump_report::names::ChunkName;
+use dump_report::registry::chunk_name;
 use std::fmt;
 
 impl fmt::Display for AuthVerdict {

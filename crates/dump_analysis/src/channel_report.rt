@@ -8,10 +8,10 @@ use crate::json::index_of;
 use crate::moment::Moment;
 use crate::packet_number::{PacketNumber, PacketText, write_packet_keys};
 use crate::time::{TimeStyle, write_time_key};
-use dump_text::hexadecimal::write_digits;
-use dump_text::json_text::JsonText;
-use dump_text::printed::Quoted;
-use dump_text::registry::{channel_type_name, payload_protocol, result_name};
+use dump_report::hexadecimal::write_digits;
+use dump_report::json_text::JsonText;
+use dump_report::printed::Quoted;
+use dump_report::registry::{channel_type_name, payload_protocol, result_name};
 use std::{fmt, str};
 
 /// A channel as a line, without its line break.

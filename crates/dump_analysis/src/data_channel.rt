@@ -8,7 +8,7 @@ use crate::fragment::Numbers;
 use crate::moment::Moment;
 use dcsctp_borrowed::part::Item;
 use dcsctp_wire::packet::{read_u16_be, read_u32_be};
-use dump_text::printed::text_front;
+use dump_report::printed::text_front;
 
 /// The payload protocol identifier of WebRTC DCEP (RFC 8832 section 8.1).
 const DCEP: u32 = 50;

@@ -12,9 +12,9 @@ use crate::path::Path;
 use crate::paths::Paths;
 use crate::time::{TimeStyle, write_time_key};
 use crate::transport::Transport;
-use dump_text::json_text::JsonText;
-use dump_text::names::ChunkName;
-use dump_text::registry::cause_name;
+use dump_report::json_text::JsonText;
+use dump_report::names::ChunkName;
+use dump_report::registry::cause_name;
 use std::fmt;
 
 /// An association as one JSON object (RFC 8259), without blanks and without a line break.

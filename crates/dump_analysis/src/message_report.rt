@@ -6,11 +6,11 @@ use crate::message::{Fate, Message};
 use crate::moment::Moment;
 use crate::packet_number::{PacketText, write_packet_keys};
 use crate::time::{TimeStyle, write_time_key};
-use dump_text::hexadecimal::write_digits;
-use dump_text::json_text::JsonText;
-use dump_text::names::ChunkName;
-use dump_text::payload::{ByteCount, Rows, TextLine};
-use dump_text::registry::payload_protocol;
+use dump_report::hexadecimal::write_digits;
+use dump_report::json_text::JsonText;
+use dump_report::names::ChunkName;
+use dump_report::payload::{ByteCount, Rows, TextLine};
+use dump_report::registry::payload_protocol;
 use std::fmt;
 
 /// The payload protocol identifier of a WebRTC string, which is UTF-8 (RFC 8831 section 6.6).

@@ -1,6 +1,6 @@
 //! The numbers of packets, where several files are read.
 
-use dump_text::json_text::JsonText;
+use dump_report::json_text::JsonText;
 use std::fmt;
 
 /// A packet's number.

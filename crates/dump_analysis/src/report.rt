@@ -12,7 +12,7 @@ use crate::path::Path;
 use crate::paths::Paths;
 use crate::time::TimeStyle;
 use crate::transport::Transport;
-use dump_text::names::{CauseName, ChunkName};
+use dump_report::names::{CauseName, ChunkName};
 use std::fmt;
 
 /// An association as lines that end with a line break: its ends, how it began and ended, and what

@@ -9,7 +9,7 @@ use dcsctp_wire::packet::idata_chunk::IDataNumbers;
 use dcsctp_wire::packet::read_u32_be;
 use dcsctp_wire::packet::sctp_packet::{COMMON_HEADER_SIZE, CommonHeader};
 use dump_capture::line::Direction;
-use dump_text::printed::OneWord;
+use dump_report::printed::OneWord;
 use std::alloc::{AllocError, Global};
 use std::fmt;
 

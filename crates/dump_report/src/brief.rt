@@ -2,12 +2,12 @@
 
 use crate::fault::{Fault, Reason};
 use crate::fields::{Block, Fields, Flag, Form, Number, Text};
+use crate::names::Level;
+use crate::printed::OneWord;
+use crate::registry::{cause_name, chunk_name, parameter_name};
 use dcsctp_borrowed::checksum::Checksum;
 use dcsctp_borrowed::part::{Item, Part};
 use dcsctp_wire::packet::sctp_packet::CommonHeader;
-use dump_text::names::Level;
-use dump_text::printed::OneWord;
-use dump_text::registry::{cause_name, chunk_name, parameter_name};
 use std::fmt;
 
 /// Writes words. Of parameters and error causes it writes the names, or types and codes without

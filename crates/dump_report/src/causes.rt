@@ -2,12 +2,12 @@
 
 use crate::fields::{Fields, Form, Number, walk_numbers};
 use crate::lists::{Listed, is_list, walk_list};
+use crate::names::Level;
 use crate::parameters::InnerParameters;
+use crate::registry::hmac_name;
 use dcsctp_borrowed::missing_parameters::missing_parameters;
 use dcsctp_borrowed::part::Item;
 use dcsctp_wire::packet::parameter::RawParameter;
-use dump_text::names::Level;
-use dump_text::registry::hmac_name;
 use std::fmt;
 
 /// The causes in a chunk or a parameter.

@@ -1,9 +1,9 @@
 //! What a message of the Data Channel Establishment Protocol holds (RFC 8832 section 5).
 
 use crate::fields::{Fields, Form, Number, Text};
+use crate::registry::channel_type_name;
 use dcsctp_borrowed::part::Item;
 use dcsctp_wire::packet::read_u16_be;
-use dump_text::registry::channel_type_name;
 use std::fmt;
 
 /// Bytes of DATA_CHANNEL_OPEN before the label.

@@ -4,7 +4,9 @@ use crate::causes::Causes;
 use crate::channel::walk_channel;
 use crate::fields::{Block, Bytes, Fields, Flag, Form, HEADER_SIZE, Number, walk_numbers};
 use crate::lists::{list_after, walk_list};
+use crate::names::Level;
 use crate::parameters::Parameters;
+use crate::registry::{hmac_name, payload_protocol};
 use dcsctp_borrowed::forward_tsn_ref::ForwardTsnRef;
 use dcsctp_borrowed::part::{Item, Part};
 use dcsctp_borrowed::user_data::UserData;
@@ -15,8 +17,6 @@ use dcsctp_wire::packet::idata_chunk::IDataNumbers;
 use dcsctp_wire::packet::init_chunk::InitNumbers;
 use dcsctp_wire::packet::read_u16_be;
 use dcsctp_wire::packet::sack_chunk::SackNumbers;
-use dump_text::names::Level;
-use dump_text::registry::{hmac_name, payload_protocol};
 use std::fmt;
 
 /// Bytes of a gap ack block, and of a duplicate TSN.

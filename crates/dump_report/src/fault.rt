@@ -1,15 +1,15 @@
 //! Why bytes are no packet, and where, as text.
 
 use crate::fields::HEADER_SIZE;
+use crate::names::{ItemName, Level};
+use crate::registry::{
+    cause_section, chunk_section, least_cause, least_chunk, least_parameter, parameter_section,
+};
 use dcsctp_borrowed::part::{Item, Part};
 use dcsctp_wire::packet::init_chunk::InitNumbers;
 use dcsctp_wire::packet::sack_chunk::SackNumbers;
 use dcsctp_wire::packet::sctp_packet::{COMMON_HEADER_SIZE, FirstFault, PacketParseError};
 use dcsctp_wire::packet::{ChunkParseError, read_u16_be, read_u32_be};
-use dump_text::names::{ItemName, Level};
-use dump_text::registry::{
-    cause_section, chunk_section, least_cause, least_chunk, least_parameter, parameter_section,
-};
 use std::fmt;
 
 /// The bytes of a row.

@@ -6,11 +6,11 @@
 //! field, as in the figures of the RFCs.
 
 use crate::fault::Fault;
+use crate::names::{Level, NamedBy};
 use dcsctp_borrowed::checksum::Checksum;
 use dcsctp_borrowed::part::{Item, Part};
 use dcsctp_wire::packet::sctp_packet::CommonHeader;
 use dcsctp_wire::packet::{read_u16_be, read_u32_be};
-use dump_text::names::{Level, NamedBy};
 use std::fmt;
 use std::net::IpAddr;
 

@@ -2,14 +2,14 @@
 
 use crate::fault::{Fault, Reason};
 use crate::fields::{Block, Bytes, Fields, Flag, HEADER_SIZE, Number, Text};
+use crate::hexadecimal::write_digits;
+use crate::json_text::JsonText;
+use crate::names::{Level, Named, NamedBy};
+use crate::registry::{cause_name, chunk_name, parameter_name};
 use dcsctp_borrowed::checksum::Checksum;
 use dcsctp_borrowed::part::{Item, Part};
 use dcsctp_wire::packet::sctp_packet::CommonHeader;
 use dcsctp_wire::packet::{read_u16_be, read_u32_be};
-use dump_text::hexadecimal::write_digits;
-use dump_text::json_text::JsonText;
-use dump_text::names::{Level, Named, NamedBy};
-use dump_text::registry::{cause_name, chunk_name, parameter_name};
 use std::fmt;
 use std::net::IpAddr;
 

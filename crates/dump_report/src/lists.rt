@@ -1,8 +1,8 @@
 //! Lists of parameters and error causes, in a chunk and in one another.
 
 use crate::fields::{Fields, HEADER_SIZE};
+use crate::names::Level;
 use dcsctp_borrowed::part::{Item, Part};
-use dump_text::names::Level;
 use std::fmt;
 
 /// A list of items, as deep as they are opened: no function calls itself, so each depth has a type.

@@ -3,6 +3,8 @@
 use crate::causes::Causes;
 use crate::fields::{Fields, Form, Number, walk_named, walk_numbers};
 use crate::lists::{Listed, is_list, list_after, walk_list};
+use crate::names::{Level, NamedBy};
+use crate::registry::result_name;
 use dcsctp_borrowed::part::Item;
 use dcsctp_borrowed::re_config_ref::ReConfigRef;
 use dcsctp_wire::packet::add_streams_request::AddStreamsNumbers;
@@ -12,8 +14,6 @@ use dcsctp_wire::packet::reconfiguration_response_parameter::{
     ReconfigurationResponseNumbers, ReconfigurationResponseParameter,
 };
 use dcsctp_wire::packet::request_numbers::RequestNumbers;
-use dump_text::names::{Level, NamedBy};
-use dump_text::registry::result_name;
 use std::fmt;
 use std::net::{IpAddr, Ipv4Addr, Ipv6Addr};
 

@@ -1,8 +1,8 @@
 //! How bytes of a packet are printed.
 
+use crate::hexadecimal::write_digits;
+use crate::payload::ByteCount;
 use dcsctp_borrowed::part::Part;
-use dump_text::hexadecimal::write_digits;
-use dump_text::payload::ByteCount;
 use std::fmt;
 
 /// The most bytes of a value that are shown, unless all are.

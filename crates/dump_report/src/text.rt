@@ -2,14 +2,14 @@
 
 use crate::fault::Fault;
 use crate::fields::{Block, Bytes, Fields, Flag, Form, Number, Text};
+use crate::names::{ChunkName, ItemName, Level, Named, NamedBy};
+use crate::payload::{Rows, TextLine};
+use crate::printed::{Quoted, text_front};
 use crate::shown::{Shown, Size};
 use dcsctp_borrowed::checksum::Checksum;
 use dcsctp_borrowed::part::{Item, Part};
 use dcsctp_wire::packet::sctp_packet::CommonHeader;
 use dcsctp_wire::packet::{read_u16_be, read_u32_be};
-use dump_text::names::{ChunkName, ItemName, Level, Named, NamedBy};
-use dump_text::payload::{Rows, TextLine};
-use dump_text::printed::{Quoted, text_front};
 use std::fmt;
 use std::net::IpAddr;
 

@@ -9,7 +9,7 @@ use crate::name::Name;
 use crate::options::{FormatOption, Options, OutputForm, TimeOption};
 use dump_analysis::filter::{Bound, Host, VALUES};
 use dump_capture::line::Direction;
-use dump_text::registry::chunk_name;
+use dump_report::registry::chunk_name;
 use std::alloc::Global;
 use std::net::IpAddr;
 

@@ -6,8 +6,8 @@ use dcsctp_wire::packet::sctp_packet::CommonHeader;
 use dump_capture::event::Part;
 use dump_capture::frame::{Addresses, FoundPacket, UdpPorts};
 use dump_capture::line::Direction;
-use dump_text::json_text::JsonText;
-use dump_text::printed::OneWord;
+use dump_report::json_text::JsonText;
+use dump_report::printed::OneWord;
 use std::fmt;
 use std::net::{Ipv4Addr, Ipv6Addr};
 

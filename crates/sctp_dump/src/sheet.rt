@@ -16,8 +16,8 @@ use dump_analysis::{
     ChannelJson, ChannelReport, Channels, EndedMessage, Membership, MembershipJson, MessageJson,
     MessageReport, Paths, ResentBrief, TimeStyle,
 };
+use dump_report::json_text::JsonText;
 use dump_report::{PacketBrief, PacketJson, PacketReport};
-use dump_text::json_text::JsonText;
 use std::alloc::AllocError;
 
 /// A packet, and what was found of it.

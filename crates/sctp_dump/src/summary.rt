@@ -2,7 +2,7 @@
 
 use crate::counts::Counts;
 use dump_analysis::{AuthenticationCounts, AuthenticationCountsJson};
-use dump_text::names::ChunkName;
+use dump_report::names::ChunkName;
 use std::fmt;
 
 /// Counts, as lines.

@@ -1,10 +1,10 @@
 //! HMACs, AUTH chunks, association shared keys and State Cookies.
 
 use crate::bytes::write_digits;
-use dcsctp_auth::auth::{is_listed, sign, verify};
-use dcsctp_auth::cookie::{OpenedCookie, StateCookie, open_cookie, seal_cookie};
-use dcsctp_auth::hmac::{HashFunction, Hmac};
-use dcsctp_auth::shared_key::write_shared_key;
+use dcsctp_receive::auth::{is_listed, sign, verify};
+use dcsctp_receive::cookie::{OpenedCookie, StateCookie, open_cookie, seal_cookie};
+use dcsctp_receive::hmac::{HashFunction, Hmac};
+use dcsctp_receive::shared_key::write_shared_key;
 use std::alloc::{AllocError, Global};
 
 /// When the cookies of the rows are created, in microseconds.

@@ -1,5 +1,0 @@
-use Rattle.bench_probes.proofs.Sums.{IsGathered}
-use Rattle.bench_probes.proofs.walk.with_blocks.Given as goal
-
-abbrev pub invariant-loop-block : goal.invariant-loop-block
-invariant-loop-block l = IsGathered l.fn.sum l.starts l.both l.block-iterator l.fn.sack.blocks

@@ -1,2 +1,0 @@
-pub mod Probe
-pub mod Walk

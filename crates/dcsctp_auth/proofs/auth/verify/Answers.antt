@@ -1,5 +1,0 @@
-use Rattle.std.proofs.Common.{refl}
-use Rattle.dcsctp_auth.proofs.auth.verify.Goals as goal
-
-pub auth_mac-mac-requires : goal.auth_mac-mac-requires
-auth_mac-mac-requires c = (c.in-Some.ensures c.in-Some.function).0 refl

@@ -1,4 +1,0 @@
-pub mod Auth
-pub mod Cookie
-pub mod Hmac
-pub mod SharedKey

@@ -1,0 +1,6 @@
+pub mod Sealed
+pub mod Payload
+pub mod Reply
+pub mod Normal
+pub mod Probe
+pub mod Walk

@@ -1,6 +1,0 @@
-pub mod Checks
-pub mod Sealing
-pub mod Chunks
-pub mod Replies
-pub mod Rooms
-pub mod Texts

@@ -1,8 +1,0 @@
-use Rattle.test_values.proofs.Checks.{is_good}
-use Rattle.test_values.proofs.filter.is_packet.Goals as goal
-
--- src/lib.rt:39:1
-pub returns : goal.returns
-returns c =
-    rw c.is_ok.ensures.value (is_good c.args.bytes.now c.args.word c.args.policy.now c.check.result
-    c.check.ensures.answer)

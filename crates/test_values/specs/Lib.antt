@@ -1,4 +1,0 @@
-pub mod Sealed
-pub mod Payload
-pub mod Reply
-pub mod Normal
