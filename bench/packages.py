@@ -172,7 +172,8 @@ def c_program():
 
 
 def lto_program():
-    """The same program and the library's LLVM module, which clang makes one of: by clang 22, or the toolchain's."""
+    """The same program and the library's LLVM module, which clang makes one of: by clang 22, or the toolchain's. It has one way
+    alone to read by the library, as a program of a user's has: what is called at more than one place is less likely inlined."""
     if platform.machine() != 'x86_64':
         raise Missing('its options are those of x86-64')
     gcc, clang = needed('gcc'), shutil.which('clang-22')
@@ -181,7 +182,7 @@ def lto_program():
     program, dist = os.path.join(OUT, 'hand_lto'), os.path.join(ROOT, 'dist')
     run(clang, '--target=x86_64-linux-gnu', '--no-default-config', '-Wno-override-module', '-O2', '-march=x86-64-v2', '-flto',
         '-fuse-ld=lld', '-B' + os.path.dirname(clang), '-isystem', run(gcc, '-print-file-name=include').strip(), '-I' + dist,
-        '-o', program, os.path.join(BENCH, 'hand.c'), os.path.join(dist, 'dcsctp.ll'), os.path.join(dist, 'heap.ll'))
+        '-DWITHOUT_ROWS', '-o', program, os.path.join(BENCH, 'hand.c'), os.path.join(dist, 'dcsctp.ll'), os.path.join(dist, 'heap.ll'))
     return [program], {}, 'clang ' + run(clang, '-dumpversion').strip()
 
 
