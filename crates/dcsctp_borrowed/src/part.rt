@@ -4,7 +4,7 @@
 ghost use Rattle.std.specs.Prelude.{◌≡◌};
 ghost use Rattle.dcsctp_borrowed.specs.Part.{part_of, front, after, IsFirst};
 
-use dcsctp_wire::packet::read_u16_be;
+use dcsctp_wire::packet::{read_u16_be, round_up_to_4};
 use std::marker::Model;
 
 /// Bytes of a packet, of which the last ones may not have been captured.
@@ -88,7 +88,7 @@ impl<'a> Part<'a> {
             first: bytes[0],
             second: bytes[1],
             value: self.front(length).after(4),
-            padded: length.div_ceil(4) * 4,
+            padded: round_up_to_4(length),
         })
     }
 

@@ -50,7 +50,7 @@ pub fn frame_parts(bytes: &[u8]) -> (&[u8], &[u8])
 {
     let length = read_u16_be(&bytes[2..]) as usize;
     let value = &bytes[TLV_HEADER_SIZE..length];
-    let padded = length.div_ceil(4) * 4;
+    let padded = round_up_to_4(length);
     let rest = &bytes[padded.min(bytes.len())..];
     (value, rest)
 }

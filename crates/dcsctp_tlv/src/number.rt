@@ -76,7 +76,7 @@ pub fn round_up_to_4(n: usize) -> usize
     requires { round_up_to_4 n < 2 ^ 64 }
     ensures { result ≡ round_up_to_4 n }
 {
-    n.div_ceil(4) * 4
+    round_down_to_4(n + 3)
 }
 
 /// Returns the greatest multiple of 4 that isn't above `n`.

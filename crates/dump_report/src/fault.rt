@@ -9,7 +9,7 @@ use dcsctp_borrowed::part::{Item, Part};
 use dcsctp_wire::packet::init_chunk::InitNumbers;
 use dcsctp_wire::packet::sack_chunk::SackNumbers;
 use dcsctp_wire::packet::sctp_packet::{COMMON_HEADER_SIZE, FirstFault, PacketParseError};
-use dcsctp_wire::packet::{ChunkParseError, read_u16_be, read_u32_be};
+use dcsctp_wire::packet::{ChunkParseError, read_u16_be, read_u32_be, round_up_to_4};
 use std::fmt;
 
 /// The bytes of a row.
@@ -350,7 +350,8 @@ fn write_padding<W: fmt::Write>(
     is_missing: bool,
     f: &mut fmt::Formatter<W>,
 ) -> fmt::Result {
-    let padding = (length as usize).div_ceil(4) * 4 - length as usize;
+    let length = length as usize;
+    let padding = round_up_to_4(length) - length;
     let unit = if padding == 1 { "byte" } else { "bytes" };
     if is_missing {
         let left = Left(there);
