@@ -494,6 +494,15 @@ processor() {
     cd "$root" && "$cc" "${sanitizers[@]}" -I "$dist" -o "$work/processor" tests/c/processor.c "$elf" && "$work/processor"
 }
 
+# The same on arm64, in one lane and in three.
+processor_on_arm64() {
+    local options
+    for options in +crc +crc+crypto; do
+        aarch64-linux-gnu-gcc -static -O2 -march="armv8-a$options" -I "$dist" -o processor_arm64 "$root/tests/c/processor.c" \
+            "$dist/dcsctp-aarch64-elf.s" && qemu-aarch64 ./processor_arm64 || return
+    done
+}
+
 # What MemorySanitizer is told: each function that writes or reads much is wrapped; nothing is found in programs that are right, and
 # in each that isn't.
 memory() {
@@ -765,6 +774,7 @@ texts() {
     with "$cc gdb" 'so it does in gdb' by_gdb
     with 'aarch64-linux-gnu-gcc qemu-aarch64' 'the same on arm64, and x18 is kept' kept_on_arm64
     with "$cc" "the processor's CRC32c" processor
+    with 'aarch64-linux-gnu-gcc qemu-aarch64' "the processor's CRC32c on arm64" processor_on_arm64
     with 'clang clang-memory' 'MemorySanitizer' memory
     with "$cc" '20,000 packets against a second reader' fuzz
     with "$cc" 'sctp_show' sctp_show "$cc"

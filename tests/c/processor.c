@@ -1,5 +1,6 @@
 /* SPDX-License-Identifier: Apache-2.0 */
-/* Compares dcsctp_processor.h with the library: the word of random bytes of every size, and what each seals.
+/* Compares dcsctp_processor.h with the library: the word of random bytes of every size up to some blocks of three lanes, at each
+   address modulo 8, and of sizes at random, and what each seals; and makes the constants of the lanes anew.
 
    usage: processor [--times]
 
@@ -13,9 +14,10 @@
 #include <string.h>
 #include <time.h>
 
-enum { MOST = 65535 };
+/* A block of three lanes has at most 1,536 bytes. */
+enum { MOST = 65535, EACH = 12 + 3 * 1536 + 100 };
 
-static uint8_t bytes[MOST + 8], one[MOST + 8], other[MOST + 8];
+static uint8_t bytes[MOST + 8];
 
 /* Numbers that look random: xorshift64*. */
 static uint64_t state = 88172645463325252u;
@@ -68,16 +70,37 @@ static void print_times(void)
     }
 }
 
-/* Whether both do the same to the bytes from `at` on, which may lie at any address. */
+#ifdef DCSCTP_PROCESSOR_TIMES
+/* Whether each constant is x^(64 n - 33), made bit by bit: x^31, and 64 places on for each number more. */
+static bool constants_are_right(void)
+{
+    uint32_t power = 1;
+    for (size_t n = 1; n <= 2 * DCSCTP_PROCESSOR_LANE; n++) {
+        if (dcsctp_processor_over[n] != power)
+            return false;
+        for (int place = 0; place < 64; place++)
+            power = power >> 1 ^ (power & 1 ? 0x82f63b78 : 0);
+    }
+    return sizeof dcsctp_processor_over / 4 == 2 * DCSCTP_PROCESSOR_LANE + 1;
+}
+#endif
+
+/* Whether both do the same to random bytes from `at` on, in memory that ends with them. */
 static bool agree(size_t at, size_t length)
 {
-    const uint8_t *packet = bytes + at;
-    memcpy(one, bytes, sizeof one);
-    memcpy(other, bytes, sizeof other);
-    if (length >= 12 && dcsctp_processor_word(packet, length) != dcsctp_word(packet, length))
-        return false;
-    return dcsctp_processor_seal(one + at, length) == dcsctp_seal(other + at, length) &&
-           memcmp(one, other, sizeof one) == 0;
+    const size_t size = at + length;
+    uint8_t *one = malloc(size + !size), *other = malloc(size + !size);
+    bool same;
+    fill(size);
+    memcpy(one, bytes, size);
+    memcpy(other, bytes, size);
+    same = length < 12 || dcsctp_processor_word(one + at, length) == dcsctp_word(one + at, length);
+    same = same && dcsctp_processor_seal(one + at, length) == dcsctp_seal(other + at, length) && memcmp(one, other, size) == 0;
+    free(one);
+    free(other);
+    if (!same)
+        fprintf(stderr, "processor: they differ at %zu bytes from %zu on\n", length, at);
+    return same;
 }
 
 int main(int count, char **words)
@@ -86,17 +109,23 @@ int main(int count, char **words)
         print_times();
         return 0;
     }
-    for (int round = 0; round < 3000; round++) {
-        size_t at = chance() % 8;
-        size_t length = round < 2000 ? (size_t)round : chance() % (MOST + 1);
-        fill(at + length);
-        if (!agree(at, length)) {
-            fprintf(stderr, "processor: they differ at %zu bytes\n", length);
-            return 1;
-        }
+#ifdef DCSCTP_PROCESSOR_TIMES
+    if (!constants_are_right()) {
+        fprintf(stderr, "processor: a constant isn't what it has to be\n");
+        return 1;
     }
-#ifdef DCSCTP_PROCESSOR_TARGET
-    printf("the processor's CRC32c: %s\n", DCSCTP_PROCESSOR_HAS ? "used" : "not there");
+#endif
+    for (size_t length = 0; length <= EACH; length++)
+        for (size_t at = 0; at < 8; at++)
+            if (!agree(at, length))
+                return 1;
+    for (int round = 0; round < 1000; round++)
+        if (!agree(chance() % 8, chance() % (MOST + 1)))
+            return 1;
+#if defined(DCSCTP_PROCESSOR_TIMES)
+    printf("the processor's CRC32c: %s\n", DCSCTP_PROCESSOR_HAS ? "used, in three lanes" : "not there");
+#elif defined(DCSCTP_PROCESSOR_TARGET)
+    printf("the processor's CRC32c: %s\n", DCSCTP_PROCESSOR_HAS ? "used, in one lane" : "not there");
 #else
     printf("the processor's CRC32c: not compiled\n");
 #endif

@@ -313,7 +313,7 @@ if has "$cxx"; then
 else
     left_out "$cxx" 'the header and the example in C++'
 fi
-try "the processor's CRC32c, on 3,000 packets" processor
+try "the processor's CRC32c, on packets of each size" processor
 try 'calls on captured packets and at the edges, and each allocation refused' edge
 try "what IANA's registry has beyond the kinds, field by field" registered
 try "what is asked of whoever receives a packet, sentence by sentence" receive
