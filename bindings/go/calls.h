@@ -5,6 +5,7 @@
 #define CALLS_H
 
 #include "dcsctp.h"
+#include "dcsctp_processor.h"
 
 #include <string.h>
 
@@ -55,19 +56,40 @@ struct go_result {
     size_t size;
 };
 
-/* A packet, the word that its field has to be, and the policy. */
+/* Whether the word of a packet can be computed here, by the processor's instruction: dcsctp_processor.h says when, and that it isn't
+   proved. */
+static inline bool go_has_word(void)
+{
+#ifdef DCSCTP_PROCESSOR_TARGET
+    return DCSCTP_PROCESSOR_HAS;
+#else
+    return false;
+#endif
+}
+
+/* A packet, the word that its field has to be, and the policy. Where go_has_word the word of at least 12 bytes can be left out. */
 struct go_packet {
     const uint8_t *bytes;
     size_t length;
     uint32_t word;
     struct go_policy policy;
+    bool lacks_word;
 };
+
+static inline uint32_t go_word(const struct go_packet *packet)
+{
+#ifdef DCSCTP_PROCESSOR_TARGET
+    if (packet->lacks_word)
+        return dcsctp_processor_word_12(packet->bytes, packet->length);
+#endif
+    return packet->word;
+}
 
 static inline uint32_t go_first_fault_at(const struct go_packet *packet, size_t *offset)
 {
     struct dcsctp_policy policy;
     go_policy(packet->bytes, packet->length, &packet->policy, &policy);
-    return dcsctp_first_fault(packet->bytes, packet->length, packet->word, &policy, offset);
+    return dcsctp_first_fault(packet->bytes, packet->length, go_word(packet), &policy, offset);
 }
 
 static inline struct go_result go_first_fault(struct go_packet packet)

@@ -394,7 +394,7 @@ func TestPacket(t *testing.T) {
 	equal(t, "short", davgyuti.Packet(nil).SetTag(1), davgyuti.ErrBadPlace)
 }
 
-// What Seal writes, the library's own CRC32c, is the word that a packet is checked by, which Go computes.
+// What Seal writes, the library's own CRC32c, is the word that Go computes.
 func TestWord(t *testing.T) {
 	packet := make(davgyuti.Packet, 3000)
 	for i := range packet {
@@ -405,6 +405,28 @@ func TestWord(t *testing.T) {
 		equal(t, "word", packet[:size].Word(), there[davgyuti.Header](t)(packet[:size].Header()).Checksum)
 	}
 	equal(t, "word", packet[:davgyuti.FirstChunk-1].Word(), uint32(0))
+}
+
+// A packet is checked by a word that C computes with the processor's instruction, or Go where it can't: by what Seal writes too, at each
+// address, of each size up to some blocks of three lanes (dcsctp_processor.h).
+func TestCheckedWord(t *testing.T) {
+	random := rand.New(rand.NewSource(1))
+	memory := make([]byte, 8+65535)
+	random.Read(memory)
+	wrong := &davgyuti.Error{Code: davgyuti.ErrChecksum, Offset: 8}
+	for size := 16; size <= 65535 && !t.Failed(); size++ {
+		if size == 12+3*1536+100 {
+			size = 65528
+		}
+		for at := 0; at < 8; at++ {
+			packet := davgyuti.Packet(memory[at : at+size])
+			copy(packet[davgyuti.FirstChunk:], []byte{99, 0, byte((size - 12) >> 8), byte(size - 12)})
+			equal(t, "seal", packet.Seal(), nil)
+			equal(t, fmt.Sprint(size, " bytes"), packet.Check(davgyuti.Policy{}), nil)
+			packet[random.Intn(size)] ^= 1 << random.Intn(8)
+			equal(t, fmt.Sprint(size, " bytes, changed"), packet.Check(davgyuti.Policy{}), wrong)
+		}
+	}
 }
 
 func TestFaults(t *testing.T) {
@@ -632,8 +654,8 @@ func TestAllFunctions(t *testing.T) {
 		t.Errorf("dcsctp.h has %d functions", len(names))
 	}
 	for _, name := range names {
-		// (a list is read in one call, without those that read one item; packets one by one, a Parsed in Go; and
-		// hash/crc32 computes the word; whether a packet is accepted says its first fault)
+		// (a list is read in one call, without those that read one item; packets one by one, a Parsed in Go; the word is
+		// the processor's, or that of hash/crc32; whether a packet is accepted says its first fault)
 		if regexp.MustCompile(`^(check|read|gap_ack_block|duplicate_tsn|skipped_stream|parameter_at|reset_stream|missing_parameter|list_offset|read_many|word|item_at)$`).MatchString(name[1]) {
 			continue
 		}

@@ -77,7 +77,7 @@ func ReadBatch(parsed []Parsed, packets []Packet, policy Policy) {
 			count = C.GO_BATCH
 		}
 		for i, packet := range packets[:count] {
-			batch.packets[i] = packet.c(policy)
+			packet.fill(&batch.packets[i], policy)
 		}
 		accepted := C.go_check_batch(batch, C.size_t(count))
 		for i, packet := range packets[:count] {

@@ -68,11 +68,11 @@ func (p Packet) Check(policy Policy) error {
 }
 
 func (p Packet) firstFault(policy Policy) *Error {
-	result := p.verdict(policy)
-	if result.code == C.DCSCTP_OK {
+	code, offset := p.verdict(policy)
+	if code == C.DCSCTP_OK {
 		return nil
 	}
-	return &Error{Code(result.code), int(result.size)}
+	return &Error{Code(code), int(offset)}
 }
 
 // Whether C is called directly, and the functions that are.
@@ -81,22 +81,36 @@ const isDirect = direct.IsThere && C.GO_DIRECT != 0
 var at = C.go_functions()
 
 // verdict returns the code of the first fault, and its offset.
-func (p Packet) verdict(policy Policy) (result C.struct_go_result) {
-	packet := p.c(policy)
+func (p Packet) verdict(policy Policy) (code C.uint32_t, offset C.size_t) {
+	var packet C.struct_go_packet
+	p.fill(&packet, policy)
 	if !isDirect {
-		return C.go_first_fault(packet)
+		result := C.go_first_fault(packet)
+		return result.code, result.size
 	}
-	result.code = C.uint32_t(direct.Call(at.first_fault, unsafe.Pointer(&packet), unsafe.Pointer(&result.size), nil))
-	return result
+	code = C.uint32_t(direct.Call(at.first_fault, unsafe.Pointer(&packet), unsafe.Pointer(&offset), nil))
+	return code, offset
 }
 
-func (p Packet) c(policy Policy) C.struct_go_packet {
-	return C.struct_go_packet{bytes: bytesOf(p), length: C.size_t(len(p)), word: policy.word(p), policy: policy.c()}
+// hasWord is whether C computes the word of a packet that is checked, in the same direct call: it takes little more than half of the time
+// that Word does.
+var hasWord = isDirect && bool(C.go_has_word())
+
+// fill writes a packet as C takes it, in its place: a struct that was returned would be copied in pieces of 16 bytes, right after it
+// was written in smaller ones, which the processor has to wait for.
+func (p Packet) fill(to *C.struct_go_packet, policy Policy) {
+	to.bytes, to.length, to.policy = bytesOf(p), C.size_t(len(p)), policy.c()
+	if !hasWord {
+		to.word = policy.word(p)
+	} else {
+		to.lacks_word = C.bool(!policy.AnyChecksum && len(p) >= FirstChunk && len(p) <= largest)
+	}
 }
 
 // IsValid returns whether Check returns nil.
 func (p Packet) IsValid(policy Policy) bool {
-	return p.verdict(policy).code == C.DCSCTP_OK
+	code, _ := p.verdict(policy)
+	return code == C.DCSCTP_OK
 }
 
 // castagnoli is the table of CRC32c, which hash/crc32 computes by the processor's own instructions where it has them.
