@@ -107,44 +107,59 @@ func readByDavgyuti(raw []byte) uint64 {
 	return sumOf(&parsed)
 }
 
-// What a chunk is written from.
-type keptChunk struct {
-	typ        davgyuti.ChunkType
-	data       davgyuti.Data
+// What chunks are written from: a *davgyuti.Data, a *keptInit, a *keptSACK, or of a COOKIE ACK a cookieAck.
+type keptPacket struct {
+	header davgyuti.Header
+	chunks []any
+}
+
+type keptInit struct {
 	init       davgyuti.Init
 	parameters []davgyuti.Parameter
+}
+
+type keptSACK struct {
 	sack       davgyuti.SACK
 	blocks     []davgyuti.GapAckBlock
 	duplicates []uint32
 }
 
-type keptPacket struct {
-	header davgyuti.Header
-	chunks []keptChunk
-}
+type cookieAck struct{}
 
 func keep(raw []byte) (kept keptPacket) {
 	packet := davgyuti.Packet(raw)
 	kept.header, _ = packet.Header()
 	for chunks := packet.Chunks(); chunks.Next(); {
-		chunk := chunks.Value()
-		it := keptChunk{typ: chunk.Type, parameters: chunk.Parameters().Slice()}
-		it.data, _ = chunk.Data()
-		it.init, _ = chunk.Init()
-		it.sack, _ = chunk.SACK()
-		it.blocks, it.duplicates = chunk.GapAckBlocks().Slice(), chunk.DuplicateTSNs().Slice()
-		kept.chunks = append(kept.chunks, it)
+		kept.chunks = append(kept.chunks, keepChunk(chunks.Value()))
 	}
 	return kept
 }
 
-func add(builder *davgyuti.Builder, it *keptChunk) error {
-	switch it.typ {
+func keepChunk(chunk davgyuti.Chunk) any {
+	switch chunk.Type {
 	case davgyuti.ChunkData:
-		return builder.AddData(it.data)
-	case davgyuti.ChunkSACK:
-		return builder.AddSACK(it.sack.CumulativeTSNAck, it.sack.ARwnd, it.blocks, it.duplicates)
+		data, _ := chunk.Data()
+		return &data
 	case davgyuti.ChunkInit:
+		init, _ := chunk.Init()
+		return &keptInit{init, chunk.Parameters().Slice()}
+	case davgyuti.ChunkSACK:
+		sack, _ := chunk.SACK()
+		return &keptSACK{sack, chunk.GapAckBlocks().Slice(), chunk.DuplicateTSNs().Slice()}
+	case davgyuti.ChunkCookieAck:
+		return cookieAck{}
+	default:
+		return chunk.Type
+	}
+}
+
+func add(builder *davgyuti.Builder, it any) error {
+	switch it := it.(type) {
+	case *davgyuti.Data:
+		return builder.AddData(*it)
+	case *keptSACK:
+		return builder.AddSACK(it.sack.CumulativeTSNAck, it.sack.ARwnd, it.blocks, it.duplicates)
+	case *keptInit:
 		if err := builder.AddInit(it.init); err != nil {
 			return err
 		}
@@ -154,10 +169,10 @@ func add(builder *davgyuti.Builder, it *keptChunk) error {
 			}
 		}
 		return nil
-	case davgyuti.ChunkCookieAck:
+	case cookieAck:
 		return builder.AddCookieAck()
 	default:
-		return fmt.Errorf("no file has a %v", it.typ)
+		return fmt.Errorf("no file has a %v", it)
 	}
 }
 
@@ -170,7 +185,7 @@ func (kept *keptPacket) write() ([]byte, error) {
 	header := kept.header
 	err := builder.Reset(buffer, header.SourcePort, header.DestinationPort, header.VerificationTag)
 	for i := 0; err == nil && i < len(kept.chunks); i++ {
-		err = add(&builder, &kept.chunks[i])
+		err = add(&builder, kept.chunks[i])
 	}
 	if err == nil {
 		err = builder.Seal()
