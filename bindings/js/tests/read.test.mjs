@@ -112,6 +112,7 @@ test('blocks are in order where each begins two past the end before it', () => {
   for (const [isInOrder, ...pairs] of [
     [true], [true, [2, 3]], [true, [2, 3], [5, 5]], [true, [2, 65533], [65535, 65535]],
     [false, [1, 3]], [false, [0, 0]], [false, [3, 2]], [false, [2, 3], [4, 4]], [false, [2, 3], [3, 4]], [false, [5, 6], [2, 3]],
+    [false, [2, 3], [5, 6], [7, 8], [10, 11], [13, 14]], [false, [9, 9], [2, 3], [5, 6]],
   ]) {
     const blocks = pairs.map(([start, end]) => ({ start, end })), sack = { cumulativeTsnAck: 1, aRwnd: 2, blocks };
     const packet = new Builder({ sourcePort: 1, destinationPort: 2, verificationTag: 3 }).addSack(sack).finish();
