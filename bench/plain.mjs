@@ -3,7 +3,7 @@
 //
 // usage: node plain.mjs ROUNDS MILLIS FILE..
 import { readFileSync } from 'node:fs';
-import { ChunkType, causes, parameters, read } from '../bindings/js/davgyuti.mjs';
+import { ChunkType, causes, parameters, read, readSack } from '../bindings/js/davgyuti.mjs';
 
 // ---- by the package
 
@@ -42,6 +42,9 @@ function sumOfInit({ initiateTag, aRwnd, outboundStreams, inboundStreams, initia
   return initiateTag + aRwnd + outboundStreams + inboundStreams + initialTsn;
 }
 
+// What SACKs are read into.
+const kept = {};
+
 function sumOfChunk(chunk) {
   switch (chunk.type) {
     case ChunkType.DATA:
@@ -51,7 +54,7 @@ function sumOfChunk(chunk) {
     case ChunkType.INIT_ACK:
       return sumOfInit(chunk.init) + sumOfItems(chunk);
     case ChunkType.SACK:
-      return sumOfSack(chunk.sack);
+      return sumOfSack(readSack(chunk, kept));
     case ChunkType.HEARTBEAT:
     case ChunkType.HEARTBEAT_ACK:
     case ChunkType.ABORT:

@@ -435,6 +435,14 @@ export interface ReadPacket {
     Throws as `check` does. */
 export function read(bytes: Uint8Array, policy?: Policy): ReadPacket;
 
+/** Reads a SACK (section 3.3.4) into an object of yours, and returns that: it then has what `chunk.sack` has, in lists and blocks of its
+    own. Keep one object, `{}` at first, to read many SACKs: its lists and the blocks in them are used again, and only what a list has
+    more than before is made; what it has less is let go. So copy what is to stay, and have each block in one place only. What another
+    chunk's `sack` gave is changed if it is passed, and only then. */
+export function readSack(chunk: UncheckedChunk & { sack: Sack }, sack: Partial<Sack>): Sack;
+/** The same of any chunk. Of one that has no `sack` it returns undefined, and changes nothing. */
+export function readSack(chunk: UncheckedChunk, sack: Partial<Sack>): Sack | undefined;
+
 /** The chunk that the bytes are, without a packet around it, and with or without its padding: as SDP has an INIT in
     `a=sctp-init`, and the cause Unrecognized Chunk Type any chunk. Its `bytes` write it. Throws a Fault whose offset is into
     these bytes; with FAULT_LENGTH where the chunk ends if something follows it. */

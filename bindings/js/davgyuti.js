@@ -548,7 +548,7 @@ function streamsOf(size, words) {
 const CONTENTS = {
   [ChunkType.DATA]: ['data', readData],
   [ChunkType.I_DATA]: ['data', readData],
-  [ChunkType.SACK]: ['sack', readSack],
+  [ChunkType.SACK]: ['sack', sackOf],
   [ChunkType.INIT]: ['init', words => found(structs.init, 'dcsctp_init', ...words)],
   [ChunkType.INIT_ACK]: ['init', words => found(structs.init, 'dcsctp_init', ...words)],
   [ChunkType.SHUTDOWN]: ['shutdown', readShutdown],
@@ -564,7 +564,7 @@ function readData(words, bytes) {
   return { ...data, payload: part(bytes, payloadOffset, payloadSize) };
 }
 
-function readSack(words, bytes, size) {
+function sackOf(words, bytes, size) {
   const it = found(structs.sack, 'dcsctp_sack', ...words);
   return it && {
     cumulativeTsnAck: it.cumulativeTsnAck,
@@ -715,27 +715,65 @@ function reConfigIn(type, bytes, at, end) {
   };
 }
 
-/** Reads the lists of a SACK that was accepted, which begin at a place. */
-function fillSack(it, view, at) {
-  const blocks = new Array(it.blocks), duplicates = new Array(it.duplicates);
-  let i = 0;
-  for (let before = 0; i < blocks.length; i++, at += 4) {
+/** Has a block of a list say this: the one that is there, or a new one. */
+function setBlock(blocks, i, start, end) {
+  const it = blocks[i];
+  if (it === undefined || it === null) {
+    blocks[i] = { start, end };
+  } else {
+    it.start = start;
+    it.end = end;
+  }
+}
+
+/** Whether a block is in order after one with this end. */
+const follows = (before, start, end) => start >= before + 2 && start <= end;
+
+/** Reads the lists of a SACK that was accepted, which begin at a place, into lists that are as long, and of which the first `kept` blocks
+    may be there; returns whether the blocks are in order. (To ask of each block whether it is there would take half of the time to make
+    it; and once they are out of order nothing is compared, which saves a tenth.) */
+function fillSack(blocks, kept, duplicates, view, at) {
+  let i = 0, before = 0;
+  for (; i < kept; i++, at += 4) {
     const block = view.getInt32(at), start = high(block), end = low(block);
-    if (start < before + 2 || start > end)
+    if (!follows(before, start, end))
+      break;
+    setBlock(blocks, i, start, end);
+    before = end;
+  }
+  for (const from = i; from === kept && i < blocks.length; i++, at += 4) {
+    const block = view.getInt32(at), start = high(block), end = low(block);
+    if (!follows(before, start, end))
       break;
     blocks[i] = { start, end };
     before = end;
   }
-  it.isInOrder = i === blocks.length;
-  // (of the others nothing is compared, which saves a tenth of their time)
+  const isInOrder = i === blocks.length;
+  for (; i < kept; i++, at += 4) {
+    const block = view.getInt32(at);
+    setBlock(blocks, i, high(block), low(block));
+  }
   for (; i < blocks.length; i++, at += 4) {
     const block = view.getInt32(at);
     blocks[i] = { start: high(block), end: low(block) };
   }
   for (i = 0; i < duplicates.length; i++, at += 4)
     duplicates[i] = view.getUint32(at);
-  it.duplicates = duplicates;
-  it.blocks = blocks;
+  return isInOrder;
+}
+
+/** A list of the caller's, which is as long as this from now on; or else a new one. */
+function keptList(list, length, filler) {
+  if (!Array.isArray(list))
+    return new Array(length);
+  // (to set the length takes as long as to add or take away some items)
+  if (Math.abs(list.length - length) > 8)
+    list.length = length;
+  while (list.length > length)
+    list.pop();
+  while (list.length < length)
+    list.push(filler);
+  return list;
 }
 
 /** Where the parameters or error causes begin in a value, of the types that have some. */
@@ -831,13 +869,30 @@ class RowChunk {
 
   get sack() {
     const it = this.#of(ChunkType.SACK);
-    if (it !== undefined && typeof it.blocks === 'number') {
-      // (to make a view takes longer than to read most SACKs)
-      const { bytes } = this.#packet, isHeld = inInput === this.#packet && input.isHeld;
-      const its = isHeld ? view() : new DataView(bytes.buffer, bytes.byteOffset, bytes.length);
-      fillSack(it, its, (isHeld ? input.from : 0) + high(this.#place) + SACK_LIST);
-    }
+    if (it !== undefined && typeof it.blocks === 'number')
+      this.#fill(it, new Array(it.blocks), 0, new Array(it.duplicates));
     return it;
+  }
+
+  #fill(sack, blocks, kept, duplicates) {
+    // (to make a view takes longer than to read most SACKs)
+    const { bytes } = this.#packet, isHeld = inInput === this.#packet && input.isHeld;
+    const its = isHeld ? view() : new DataView(bytes.buffer, bytes.byteOffset, bytes.length);
+    sack.isInOrder = fillSack(blocks, kept, duplicates, its, (isHeld ? input.from : 0) + high(this.#place) + SACK_LIST);
+    sack.blocks = blocks;
+    sack.duplicates = duplicates;
+  }
+
+  /** Reads a SACK into an object of the caller's; returns whether it is one whose lists weren't read before. */
+  static fillSack(chunk, sack) {
+    const it = chunk.#of(ChunkType.SACK);
+    if (it === undefined || typeof it.blocks !== 'number')
+      return false;
+    sack.cumulativeTsnAck = it.cumulativeTsnAck;
+    sack.aRwnd = it.aRwnd;
+    const kept = Array.isArray(sack.blocks) ? Math.min(sack.blocks.length, it.blocks) : 0;
+    chunk.#fill(sack, keptList(sack.blocks, it.blocks, null), kept, keptList(sack.duplicates, it.duplicates, 0));
+    return true;
   }
 
   get forwardTsn() {
@@ -939,6 +994,25 @@ function read(bytes, policy = {}) {
     chunks.push(chunk = new RowChunk(packet, memory, from, chunk.next, end));
   inInput = packet;
   return { header, chunks };
+}
+
+/** Copies a SACK that was read into an object of the caller's. */
+function copySack(it, sack) {
+  const blocks = keptList(sack.blocks, it.blocks.length, null), duplicates = keptList(sack.duplicates, it.duplicates.length, 0);
+  it.blocks.forEach(({ start, end }, i) => setBlock(blocks, i, start, end));
+  it.duplicates.forEach((tsn, i) => {
+    duplicates[i] = tsn;
+  });
+  const { cumulativeTsnAck, aRwnd, isInOrder } = it;
+  return Object.assign(sack, { cumulativeTsnAck, aRwnd, blocks, duplicates, isInOrder });
+}
+
+function readSack(chunk, sack) {
+  record(sack, 'sack');
+  if (RowChunk.is(record(chunk, 'chunk')) && RowChunk.fillSack(chunk, sack))
+    return sack;
+  const it = chunk.sack;
+  return it === undefined ? undefined : copySack(it, sack);
 }
 
 function readChunk(bytes) {
@@ -1659,10 +1733,10 @@ function begin(wasm) {
 }
 
 const davgyuti = {
-  version, versionNumber, Result, FIRST_CHUNK, ChunkType, TAG_REFLECTED, ParameterType, CauseCode, ReConfigResult, resultText,
-  chunkName, parameterName, causeName, isKnownChunk, isKnownParameter, isKnownCause, Fault, WriteError, check, firstFault,
-  canonical, text, report, word, needsChecksum, header, chunks, read, readChunk, dataFlags, withFlags, parameters, parameter, causes,
-  cause, registeredChunk, registeredParameter, registeredCause, addresses, seal, setTag, Builder, cleanBlocks, Action, unrecognizedChunk,
+  version, versionNumber, Result, FIRST_CHUNK, ChunkType, TAG_REFLECTED, ParameterType, CauseCode, ReConfigResult, resultText, chunkName,
+  parameterName, causeName, isKnownChunk, isKnownParameter, isKnownCause, Fault, WriteError, check, firstFault, canonical, text, report,
+  word, needsChecksum, header, chunks, read, readSack, readChunk, dataFlags, withFlags, parameters, parameter, causes, cause,
+  registeredChunk, registeredParameter, registeredCause, addresses, seal, setTag, Builder, cleanBlocks, Action, unrecognizedChunk,
   unrecognizedParameter, actionReports, actionSkips, TagVerdict, verifyTag, Answer, outOfTheBlue, reply, InitFault, initFault, Refusal,
   initRefusal, initAbort, addsAddresses, Rule, ruleName, ruleText, brokenRules, isListed, sharedKey, verifyAuth, signAuth, sealCookie,
   CookieState, openCookie,

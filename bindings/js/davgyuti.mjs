@@ -14,10 +14,10 @@ async function fetched() {
 }
 
 export const {
-  version, versionNumber, Result, FIRST_CHUNK, ChunkType, TAG_REFLECTED, ParameterType, CauseCode, ReConfigResult, resultText,
-  chunkName, parameterName, causeName, isKnownChunk, isKnownParameter, isKnownCause, Fault, WriteError, check, firstFault,
-  canonical, text, report, word, needsChecksum, header, chunks, read, readChunk, dataFlags, withFlags, parameters, parameter, causes,
-  cause, registeredChunk, registeredParameter, registeredCause, addresses, seal, setTag, Builder, cleanBlocks, Action, unrecognizedChunk,
+  version, versionNumber, Result, FIRST_CHUNK, ChunkType, TAG_REFLECTED, ParameterType, CauseCode, ReConfigResult, resultText, chunkName,
+  parameterName, causeName, isKnownChunk, isKnownParameter, isKnownCause, Fault, WriteError, check, firstFault, canonical, text, report,
+  word, needsChecksum, header, chunks, read, readSack, readChunk, dataFlags, withFlags, parameters, parameter, causes, cause,
+  registeredChunk, registeredParameter, registeredCause, addresses, seal, setTag, Builder, cleanBlocks, Action, unrecognizedChunk,
   unrecognizedParameter, actionReports, actionSkips, TagVerdict, verifyTag, Answer, outOfTheBlue, reply, InitFault, initFault, Refusal,
   initRefusal, initAbort, addsAddresses, Rule, ruleName, ruleText, brokenRules, isListed, sharedKey, verifyAuth, signAuth, sealCookie,
   CookieState, openCookie,

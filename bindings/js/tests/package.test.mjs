@@ -51,13 +51,13 @@ test('what README.md says, in a project of its own', { skip: lacking('npm') }, (
   writeFileSync(join(project, 'package.json'), '{ "private": true }');
   run('npm', 'install', own.match(/`npm install (\.\/davgyuti-\S*\.tgz)`/)[1]);
   assert.deepEqual(readdirSync(join(project, 'node_modules')).filter(it => !it.startsWith('.')), ['davgyuti']);
-  const [code, other, receive, asconf] = [...own.matchAll(/```js\n([^]*?)```/g)].map(it => it[1]), [, answer] = code.match(/prints (\w+)/);
+  const [code, other, receive, asconf, sack] = [...own.matchAll(/```js\n([^]*?)```/g)].map(it => it[1]), [, answer] = code.match(/prints (\w+)/);
   assert.match(file('../../../examples/expected.txt'), new RegExp(`^  answer ${answer}$`, 'm'));
   writeFileSync(join(project, 'answer.mjs'), code);
   assert.equal(run(process.execPath, 'answer.mjs'), `${answer}\n`);
   writeFileSync(join(project, 'other.mjs'), other);
   assert.equal(run(process.execPath, 'other.mjs'), `${other.match(/prints (.*)/)[1]}\n`);
-  for (const [name, program] of Object.entries({ 'receive.mjs': receive, 'asconf.mjs': asconf })) {
+  for (const [name, program] of Object.entries({ 'receive.mjs': receive, 'asconf.mjs': asconf, 'sack.mjs': sack })) {
     writeFileSync(join(project, name), program);
     assert.equal(run(process.execPath, name), [...program.matchAll(/prints (.*)/g)].map(it => `${it[1]}\n`).join(''));
   }
@@ -72,7 +72,7 @@ test('what TypeScript knows of it', { skip: lacking('npm') ?? lacking('tsc') }, 
   const options = '--noEmit --strict --exactOptionalPropertyTypes --module node16 --moduleResolution node16 --target es2020 --lib es2020'
     + ' --allowJs --checkJs';
   // (those in .mjs are the programs of README.md)
-  const files = ['imported.mts', 'required.cts', 'node.d.ts', 'answer.mjs', 'other.mjs', 'receive.mjs', 'asconf.mjs'];
+  const files = ['imported.mts', 'required.cts', 'node.d.ts', 'answer.mjs', 'other.mjs', 'receive.mjs', 'asconf.mjs', 'sack.mjs'];
   const ran = spawnSync('tsc', [...options.split(' '), ...files], { cwd: project, env, encoding: 'utf8' });
   assert.equal(ran.stdout, '');
   assert.equal(ran.status, 0);

@@ -3,8 +3,8 @@
 import {
   Builder, CauseCode, Chunk, ChunkType, CookieState, Fault, FaultCode, Packet, Parameter, ParameterType, ReConfigResult, ReConfigType, Result,
   Rule, UncheckedChunk, WriteError, addsAddresses, brokenRules, cause as causeOf, causes, check, chunks, dataFlags, firstFault, header,
-  isKnownChunk, needsChecksum, openCookie, outOfTheBlue, parameter, parameters, read, readChunk, registeredCause, registeredChunk,
-  registeredParameter, ruleName, withFlags,
+  isKnownChunk, needsChecksum, openCookie, outOfTheBlue, parameter, parameters, read, readChunk, readSack, registeredCause,
+  registeredChunk, registeredParameter, ruleName, withFlags,
 } from 'davgyuti';
 // @ts-expect-error it is no part of the interface
 import { Needed } from 'davgyuti';
@@ -194,3 +194,19 @@ function stalenessOf(): bigint {
 openCookie(bytes, bytes, Number(stalenessOf()));
 // @ts-expect-error whether it is unicast is missing
 outOfTheBlue(bytes);
+
+// A SACK is read into an object that is kept.
+const kept = {};
+for (const chunk of read(bytes).chunks) {
+  if (chunk.type === ChunkType.SACK)
+    numbers.push(readSack(chunk, kept).aRwnd, ...readSack(chunk, chunk.sack).blocks.map(it => it.end));
+  // @ts-expect-error not every chunk is a SACK
+  numbers.push(readSack(chunk, kept).aRwnd);
+  numbers.push(...readSack(chunk, { blocks: [], isInOrder: true })?.duplicates ?? []);
+}
+for (const chunk of chunks(bytes))
+  numbers.push(readSack(chunk, kept)?.cumulativeTsnAck ?? 0);
+// @ts-expect-error the object is missing
+readSack(readChunk(bytes));
+// @ts-expect-error it is no list
+readSack(readChunk(bytes), { blocks: 5 });
