@@ -7766,89 +7766,64 @@ start:
   %r40 = getelementptr i8, ptr %r4, i64 8
   store i64 %r39, ptr %r40, align 8
   %r41 = load i64, ptr %r3, align 8, !noundef !1
-  %r42 = call i64 @core.int.usize.div_ceil(i64 %r41, i64 4)
-  store i64 %r42, ptr %r9, align 8
-  %r43 = load i64, ptr %r9, align 8, !noundef !1
-  %r44 = mul i64 %r43, 4
-  store i64 %r44, ptr %r5, align 8
-  %r45 = getelementptr i8, ptr %r1, i64 8
-  %r46 = load i64, ptr %r45, align 8, !noundef !1
-  store i64 %r46, ptr %r14, align 8
-  %r47 = load i64, ptr %r5, align 8, !noundef !1
-  %r48 = load i64, ptr %r14, align 8, !noundef !1
-  %r49 = call i64 @core.int.usize.min(i64 %r47, i64 %r48)
-  store i64 %r49, ptr %r9, align 8
-  %r50 = load ptr, ptr %r1, align 8, !noundef !1
-  %r51 = load i64, ptr %r9, align 8, !noundef !1
-  %r52 = getelementptr i8, ptr %r50, i64 %r51
-  store ptr %r52, ptr %r15, align 8
-  %r53 = getelementptr i8, ptr %r1, i64 8
-  %r54 = load i64, ptr %r53, align 8, !noundef !1
-  %r55 = load i64, ptr %r9, align 8, !noundef !1
-  %r56 = sub i64 %r54, %r55
-  store i64 %r56, ptr %r16, align 8
-  %r57 = load ptr, ptr %r15, align 8, !noundef !1
-  store ptr %r57, ptr %r17, align 8
-  %r58 = load ptr, ptr %r17, align 8, !noundef !1
-  %r59 = load i64, ptr %r16, align 8, !noundef !1
-  store ptr %r58, ptr %r6, align 8
-  %r60 = getelementptr i8, ptr %r6, i64 8
-  store i64 %r59, ptr %r60, align 8
+  %r42 = call i64 @dcsctp_tlv.number.round_up_to_4(i64 %r41)
+  store i64 %r42, ptr %r5, align 8
+  %r43 = getelementptr i8, ptr %r1, i64 8
+  %r44 = load i64, ptr %r43, align 8, !noundef !1
+  store i64 %r44, ptr %r14, align 8
+  %r45 = load i64, ptr %r5, align 8, !noundef !1
+  %r46 = load i64, ptr %r14, align 8, !noundef !1
+  %r47 = call i64 @core.int.usize.min(i64 %r45, i64 %r46)
+  store i64 %r47, ptr %r9, align 8
+  %r48 = load ptr, ptr %r1, align 8, !noundef !1
+  %r49 = load i64, ptr %r9, align 8, !noundef !1
+  %r50 = getelementptr i8, ptr %r48, i64 %r49
+  store ptr %r50, ptr %r15, align 8
+  %r51 = getelementptr i8, ptr %r1, i64 8
+  %r52 = load i64, ptr %r51, align 8, !noundef !1
+  %r53 = load i64, ptr %r9, align 8, !noundef !1
+  %r54 = sub i64 %r52, %r53
+  store i64 %r54, ptr %r16, align 8
+  %r55 = load ptr, ptr %r15, align 8, !noundef !1
+  store ptr %r55, ptr %r17, align 8
+  %r56 = load ptr, ptr %r17, align 8, !noundef !1
+  %r57 = load i64, ptr %r16, align 8, !noundef !1
+  store ptr %r56, ptr %r6, align 8
+  %r58 = getelementptr i8, ptr %r6, i64 8
+  store i64 %r57, ptr %r58, align 8
   call void @llvm.memmove.p0.p0.i64(ptr %r0, ptr %r4, i64 16, i1 false)
-  %r61 = getelementptr i8, ptr %r0, i64 16
-  call void @llvm.memmove.p0.p0.i64(ptr %r61, ptr %r6, i64 16, i1 false)
+  %r59 = getelementptr i8, ptr %r0, i64 16
+  call void @llvm.memmove.p0.p0.i64(ptr %r59, ptr %r6, i64 16, i1 false)
   call void @llvm.memmove.p0.p0.i64(ptr %a0, ptr %r0, i64 32, i1 false)
   ret void
 }
 
 ; Function Attrs: nounwind
-define internal noundef i64 @core.int.usize.div_ceil(i64 noundef %a0, i64 noundef %a1) #0 {
+define internal noundef i64 @dcsctp_tlv.number.round_up_to_4(i64 noundef %a0) #0 {
 start:
   %r0 = alloca i64, align 8
   %r1 = alloca i64, align 8
-  %r2 = alloca i64, align 8
-  %r3 = alloca i8, align 1
-  %r4 = alloca i64, align 8
-  %r5 = icmp eq i64 %a1, 0
-  br i1 %r5, label %trap.1, label %ok.2
+  %r2 = add i64 %a0, 3
+  store i64 %r2, ptr %r1, align 8
+  %r3 = load i64, ptr %r1, align 8, !noundef !1
+  %r4 = call i64 @dcsctp_tlv.number.round_down_to_4(i64 %r3)
+  store i64 %r4, ptr %r0, align 8
+  %r5 = load i64, ptr %r0, align 8, !noundef !1
+  ret i64 %r5
+}
 
-ok.2:                                             ; preds = %start
-  %r6 = udiv i64 %a0, %a1
-  store i64 %r6, ptr %r1, align 8
-  %r7 = icmp eq i64 %a1, 0
-  br i1 %r7, label %trap.1, label %ok.3
-
-ok.3:                                             ; preds = %ok.2
-  %r8 = urem i64 %a0, %a1
-  store i64 %r8, ptr %r2, align 8
-  %r9 = load i64, ptr %r2, align 8, !noundef !1
-  %r10 = icmp eq i64 %r9, 0
-  %r11 = zext i1 %r10 to i8
-  store i8 %r11, ptr %r3, align 1
-  %r12 = load i8, ptr %r3, align 1, !range !2, !noundef !1
-  %r13 = trunc i8 %r12 to i1
-  br i1 %r13, label %then.4, label %else.5
-
-then.4:                                           ; preds = %ok.3
-  %r14 = load i64, ptr %r1, align 8, !noundef !1
-  store i64 %r14, ptr %r4, align 8
-  br label %join.6
-
-else.5:                                           ; preds = %ok.3
-  %r15 = load i64, ptr %r1, align 8, !noundef !1
-  %r16 = add i64 %r15, 1
-  store i64 %r16, ptr %r4, align 8
-  br label %join.6
-
-join.6:                                           ; preds = %else.5, %then.4
-  %r17 = load i64, ptr %r4, align 8, !noundef !1
-  store i64 %r17, ptr %r0, align 8
-  %r18 = load i64, ptr %r0, align 8, !noundef !1
-  ret i64 %r18
-
-trap.1:                                           ; preds = %ok.2, %start
-  call void @llvm.trap()
-  unreachable
+; Function Attrs: nounwind
+define internal noundef i64 @dcsctp_tlv.number.round_down_to_4(i64 noundef %a0) #0 {
+start:
+  %r0 = alloca i64, align 8
+  %r1 = alloca i64, align 8
+  %r2 = udiv i64 %a0, 4
+  store i64 %r2, ptr %r1, align 8
+  %r3 = load i64, ptr %r1, align 8, !noundef !1
+  %r4 = mul i64 %r3, 4
+  store i64 %r4, ptr %r0, align 8
+  %r5 = load i64, ptr %r0, align 8, !noundef !1
+  ret i64 %r5
 }
 
 ; Function Attrs: nounwind
@@ -11682,20 +11657,6 @@ start:
   call void @llvm.memmove.p0.p0.i64(ptr %r52, ptr %r15, i64 16, i1 false)
   call void @llvm.memmove.p0.p0.i64(ptr %a0, ptr %r0, i64 24, i1 false)
   ret void
-}
-
-; Function Attrs: nounwind
-define internal noundef i64 @dcsctp_tlv.number.round_up_to_4(i64 noundef %a0) #0 {
-start:
-  %r0 = alloca i64, align 8
-  %r1 = alloca i64, align 8
-  %r2 = call i64 @core.int.usize.div_ceil(i64 %a0, i64 4)
-  store i64 %r2, ptr %r1, align 8
-  %r3 = load i64, ptr %r1, align 8, !noundef !1
-  %r4 = mul i64 %r3, 4
-  store i64 %r4, ptr %r0, align 8
-  %r5 = load i64, ptr %r0, align 8, !noundef !1
-  ret i64 %r5
 }
 
 ; Function Attrs: nounwind
