@@ -90,9 +90,9 @@ def examples(page, _, ending, word):
 
 
 def all_programs():
-    """The name and the text of each program of crates/test_callers, which has tests too."""
+    """The name and the text of each program of crates/test_callers, which has tests and a benchmark's calls too."""
     return [(path[4:-3], text) for path, text in sorted(text_files('src').items())
-            if path not in ('src/lib.rt', 'src/tests.rt') and not path.startswith('src/tests/')]
+            if not re.match(r'src/(lib|tests|probes)\b', path)]
 
 
 def version():
