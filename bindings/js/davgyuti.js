@@ -726,38 +726,22 @@ function setBlock(blocks, i, start, end) {
   }
 }
 
-/** Whether a block is in order after one with this end. */
-const follows = (before, start, end) => start >= before + 2 && start <= end;
-
 /** Reads the lists of a SACK that was accepted, which begin at a place, into lists that are as long, and of which the first `kept` blocks
     may be there; returns whether the blocks are in order. (To ask of each block whether it is there would take half of the time to make
-    it; and once they are out of order nothing is compared, which saves a tenth.) */
+    it.) */
 function fillSack(blocks, kept, duplicates, view, at) {
-  let i = 0, before = 0;
-  for (; i < kept; i++, at += 4) {
+  let isInOrder = true, before = 0;
+  for (let i = 0; i < blocks.length; i++, at += 4) {
     const block = view.getInt32(at), start = high(block), end = low(block);
-    if (!follows(before, start, end))
-      break;
-    setBlock(blocks, i, start, end);
+    if (i < kept)
+      setBlock(blocks, i, start, end);
+    else
+      blocks[i] = { start, end };
+    if (start < before + 2 || start > end)
+      isInOrder = false;
     before = end;
   }
-  for (const from = i; from === kept && i < blocks.length; i++, at += 4) {
-    const block = view.getInt32(at), start = high(block), end = low(block);
-    if (!follows(before, start, end))
-      break;
-    blocks[i] = { start, end };
-    before = end;
-  }
-  const isInOrder = i === blocks.length;
-  for (; i < kept; i++, at += 4) {
-    const block = view.getInt32(at);
-    setBlock(blocks, i, high(block), low(block));
-  }
-  for (; i < blocks.length; i++, at += 4) {
-    const block = view.getInt32(at);
-    blocks[i] = { start: high(block), end: low(block) };
-  }
-  for (i = 0; i < duplicates.length; i++, at += 4)
+  for (let i = 0; i < duplicates.length; i++, at += 4)
     duplicates[i] = view.getUint32(at);
   return isInOrder;
 }
