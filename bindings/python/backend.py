@@ -1,8 +1,8 @@
 # SPDX-License-Identifier: Apache-2.0
 """Builds the package, for pip and other tools (PEP 517 and 660): `pip install .` in this folder.
 
-The wheel has the Python files and a shared library, which a C compiler links from the text in dist/: $CC, or else cc. ctypes
-loads it, so that one wheel serves every Python of a system. Where Python.h is there too, the wheel also has a module of the
+The wheel has the Python files and a shared library, which a C compiler makes of the text in dist/ and of _calls.c: $CC, or else cc.
+ctypes loads it, so that one wheel serves every Python of a system. Where Python.h is there too, the wheel also has a module of the
 limited API (abi3) with the text in it, which does the same at the rate of C; a Python that doesn't take it goes without.
 Nothing else is needed, setuptools neither.
 """
@@ -39,7 +39,7 @@ PROCESSORS = {"amd64": "x86_64", "arm64": "aarch64"}
 FORMATS = {"darwin": ("macho", "dylib", []), "win32": ("coff", "dll", ["-Wl,--export-all-symbols"])}
 # (It names no libc: Python has loaded one, and so the same library serves with glibc and musl, of any version. The linker notes
 # the object's name, which is made up at random where it isn't saved.)
-ELF = ("elf", "so", ["-save-temps=obj", "-nostdlib", "-Wl,-z,now,-z,relro"])
+ELF = ("elf", "so", ["-fPIC", "-save-temps=obj", "-nostdlib", "-Wl,-Bsymbolic,-z,now,-z,relro"])
 # The segment of ELF with what a loader has to do, and the tags in it that name a library, and versions of one.
 PT_DYNAMIC, DT_NEEDED, DT_VERNEED = 2, 1, 0x6FFFFFFE
 
@@ -99,6 +99,12 @@ def texts():
     return sorted(it for it in os.listdir(LIBRARY) if re.fullmatch(r"dcsctp-.*-(elf|macho|coff)\.s", it))
 
 
+def linked(compiler, out, source, text, *words):
+    """What runs the compiler over a source of the package and the text."""
+    words = ["-O2", "-fno-stack-protector", "-shared", "-I", LIBRARY, "-o", out, *words]
+    return subprocess.run([*compiler, *words, os.path.join(HERE, "src", NAME, source), text]).returncode == 0
+
+
 def shared_library():
     """The name and the bytes of the library for this system."""
     processor = platform.machine().lower()
@@ -114,8 +120,7 @@ def shared_library():
         give_up(f"a C compiler is needed, and there is no {' '.join(compiler) or 'CC'}; $CC names another")
     with tempfile.TemporaryDirectory() as work:
         out = os.path.join(work, "library")
-        ran = subprocess.run([*compiler, "-shared", "-o", out, text, *words])
-        if ran.returncode:
+        if not linked(compiler, out, "_calls.c", text, *words):
             give_up(f"{compiler[0]} doesn't take {os.path.normpath(text)}: it has to assemble GNU syntax for this system")
         with open(out, "rb") as file:
             return f"_dcsctp.{ending}", file.read()
@@ -132,10 +137,8 @@ def module():
     text = os.path.join(LIBRARY, f"dcsctp-{platform.machine().lower()}-elf.s")
     with tempfile.TemporaryDirectory() as work:
         out = os.path.join(work, "module")
-        words = ["-O2", "-shared", "-fPIC", "-Wl,-Bsymbolic", "-I", os.path.dirname(header), "-I", LIBRARY, "-o", out, *ELF[2]]
-        source = os.path.join(HERE, "src", NAME, "_fast.c")
-        if subprocess.run([*shlex.split(os.environ.get("CC", "cc")), *words, source, text]).returncode:
-            print(f"{NAME}: {source} isn't compiled: without it the package takes more time", file=sys.stderr)
+        if not linked(shlex.split(os.environ.get("CC", "cc")), out, "_fast.c", text, "-I", os.path.dirname(header), *ELF[2]):
+            print(f"{NAME}: _fast.c isn't compiled: without it the package takes more time", file=sys.stderr)
             return {}
         with open(out, "rb") as file:
             return {MODULE: file.read()}

@@ -278,7 +278,7 @@ static bool needs_checksum(struct bytes bytes)
     return false;
 }
 
-PyDoc_STRVAR(read_doc, "read(data, policy, word, /) -> the word, the number of chunks, and None; as _reading.read, which it calls for a fault");
+PyDoc_STRVAR(read_doc, "read(data, policy, word, /) -> the word, and the number of chunks; as _reading.read, which it calls for a fault");
 static PyObject *fast_read(PyObject *module, PyObject *const *arguments, Py_ssize_t count)
 {
     const struct state *state = PyModule_GetState(module);
@@ -298,7 +298,7 @@ static PyObject *fast_read(PyObject *module, PyObject *const *arguments, Py_ssiz
         if (is_set[2] && bytes.length <= 0xFFFF && dcsctp_header(bytes.at, bytes.length, &packet.header) && packet.header.checksum == 0)
             policy.zero_checksum |= !needs_checksum(bytes);
         if (dcsctp_read(bytes.at, bytes.length, word, &policy, NULL, 0, &packet) == DCSCTP_OK)
-            return Py_BuildValue("knO", (unsigned long)word, (Py_ssize_t)packet.chunk_count, Py_None);
+            return Py_BuildValue("kn", (unsigned long)word, (Py_ssize_t)packet.chunk_count);
     }
     return PyObject_CallFunctionObjArgs(state->read, arguments[0], arguments[1], arguments[2], NULL);
 }

@@ -114,34 +114,6 @@ class Registered(ctypes.Structure):
     ]
 
 
-class Row(ctypes.Structure):
-    _fields_ = [
-        ("chunk", Chunk),
-        ("rest_offset", c_size_t),
-        ("rest_size", c_size_t),
-        ("count", c_size_t),
-        ("duplicate_count", c_size_t),
-        ("tsn", c_uint32),
-        ("a_rwnd", c_uint32),
-        ("initiate_tag", c_uint32),
-        ("mid", c_uint32),
-        ("fsn", c_uint32),
-        ("ppid", c_uint32),
-        ("stream", c_uint16),
-        ("ssn", c_uint16),
-        ("outbound_streams", c_uint16),
-        ("inbound_streams", c_uint16),
-        ("is_unordered", c_bool),
-        ("is_beginning", c_bool),
-        ("is_end", c_bool),
-        ("immediate_ack", c_bool),
-    ]
-
-
-class Packet(ctypes.Structure):
-    _fields_ = [("header", Header), ("code", c_uint32), ("chunk_count", c_size_t), ("fault_offset", c_size_t)]
-
-
 class Association(ctypes.Structure):
     _fields_ = [("own_tag", c_uint32), ("peer_tag", c_uint32), ("has_peer_tag", c_bool), ("awaits_cookie", c_bool)]
 
@@ -168,9 +140,7 @@ class Cookie(ctypes.Structure):
 
 
 # The same as formats: many numbers at once are read and written by these in less time than one by one.
-ROW = struct.Struct("@BBNNN NNNN IIIIII HHHH ????0N")
 DATA = struct.Struct("@IIIIHH????NN")
-CHUNK = struct.Struct("@BBNNN")
 PARAMETER = struct.Struct("@HNNN")
 BLOCK = struct.Struct("@HH")
 SKIPPED = struct.Struct("@HHI?3x")
@@ -187,9 +157,6 @@ _REGISTERED = (POINTER(Registered), *_BYTES)
 
 # What each returns, and what it takes.
 FUNCTIONS: dict[str, tuple[Any, ...]] = {
-    "dcsctp_check": (c_uint32, *_WHOLE),
-    "dcsctp_first_fault": (c_uint32, *_WHOLE, POINTER(c_size_t)),
-    "dcsctp_read": (c_uint32, *_WHOLE, POINTER(Row), c_size_t, POINTER(Packet)),
     "dcsctp_canonical": (c_uint32, *_WHOLE, *_OUTPUT),
     "dcsctp_print": (c_uint32, *_WHOLE, *_OUTPUT),
     "dcsctp_report": (c_uint32, *_WHOLE, *_OUTPUT),
@@ -266,6 +233,14 @@ FUNCTIONS: dict[str, tuple[Any, ...]] = {
     "dcsctp_clean_blocks": (c_size_t, POINTER(GapAckBlock), c_size_t),
     "dcsctp_version_number": (c_uint32,),
 }
+# What _calls.c adds to them returns these.
+CALLS = {
+    "davgyuti_read": c_uint64,
+    "davgyuti_add": c_uint32,
+    "davgyuti_seal": c_uint32,
+    "davgyuti_take": c_uint64,
+    "davgyuti_give": None,
+}
 
 
 def _load() -> tuple[ctypes.PyDLL, ctypes.PyDLL]:
@@ -285,6 +260,8 @@ def _load() -> tuple[ctypes.PyDLL, ctypes.PyDLL]:
         for name, (result, *arguments) in FUNCTIONS.items():
             function = getattr(library, name)
             function.restype, function.argtypes = result, arguments
+            getattr(bare, name).restype = result
+        for name, result in CALLS.items():
             getattr(bare, name).restype = result
     except AttributeError as error:
         raise ImportError(f"{path} is not the library of davgyuti {_text(VERSION)}: {error}") from None

@@ -7,7 +7,7 @@ from collections.abc import Callable, Iterable, Iterator
 from ctypes import byref, c_size_t, c_uint8, c_uint32
 from functools import partial
 from ipaddress import ip_address
-from itertools import chain, islice, product
+from itertools import chain
 from typing import Any, TypeAlias, TypeVar
 
 from . import _library as c
@@ -31,11 +31,8 @@ _LARGEST = 0xFFFF
 _DEFAULT = v.Policy()
 _CHECKSUMMED = {v.ChunkType.INIT, v.ChunkType.COOKIE_ECHO, v.ChunkType.ASCONF}
 _REFLECTING = {v.ChunkType.ABORT, v.ChunkType.SHUTDOWN_COMPLETE}
-_POLICIES = {bits: byref(c.Policy(*bits)) for bits in product((False, True), repeat=3)}
-_PLAIN = _POLICIES[False, False, False]
-# How many rows are read with a packet; those of one that has more chunks are read when they are asked for.
-_FEW = 8
-_FewRows = c.Row * _FEW
+# What is asked of a read: the bits of a policy, and that the word be computed.
+_ANY_CHECKSUM, _ZERO_CHECKSUM, _STRICT_PADDING, _LACKS_WORD = 1, 2, 4, 8
 # An iteration reads as many chunks at once, and of a packet that has more each as it is reached.
 _AT_ONCE = 64
 
@@ -68,11 +65,8 @@ def start_of(buffer: bytearray) -> Any:
 # ---- a whole packet
 
 
-def _arguments(data: bytes, policy: v.Policy, word: int | None) -> tuple[Any, ...]:
-    length = size(len(data))
-    right = bare.dcsctp_word(data, length) if word is None else number(word, 0xFFFFFFFF, "word")
-    if policy is _DEFAULT:
-        return data, length, right, _PLAIN
+def _asked(data: bytes, policy: v.Policy) -> int:
+    """The bits of a policy, for a packet."""
     if not isinstance(policy, v.Policy):
         raise TypeError(f"policy has to be a Policy, and is {policy!r}")
     zero = policy.zero_checksum or (
@@ -81,37 +75,49 @@ def _arguments(data: bytes, policy: v.Policy, word: int | None) -> tuple[Any, ..
         and len(data) <= _LARGEST
         and not needs_checksum(data)
     )
-    return data, length, right, _POLICIES[policy.any_checksum, zero, policy.strict_padding]
+    return policy.any_checksum * _ANY_CHECKSUM | zero * _ZERO_CHECKSUM | policy.strict_padding * _STRICT_PADDING
 
 
-def _first_fault(arguments: tuple[Any, ...]) -> v.Fault | None:
-    offset = c_size_t()
-    code = bare.dcsctp_first_fault(*arguments, byref(offset))
-    return v.Fault(v.Result(code), offset.value) if code else None
+def _found(data: bytes, policy: v.Policy, word: int | None) -> int:
+    """What _calls.c returns of a packet."""
+    right, asked = (0, _LACKS_WORD) if word is None else (number(word, 0xFFFFFFFF, "word"), 0)
+    if policy is not _DEFAULT:
+        asked |= _asked(data, policy)
+    length = len(data)
+    found: int = bare.davgyuti_read(data, length if length <= _LARGEST else _LARGEST + 1, asked, right)
+    return found
 
 
-def read(data: bytes, policy: v.Policy, word: int | None, /) -> tuple[int, int, Any]:
-    """The word of a packet, the number of its chunks, and what else is read in the same call, its first rows; raises its first
-    Fault."""
-    arguments = _arguments(data, policy, word)
-    rows, packet = _FewRows(), c.Packet()
-    if bare.dcsctp_read(*arguments, byref(rows), size(_FEW), byref(packet)):
-        raise v.Fault(v.Result(packet.code), packet.fault_offset)
-    return arguments[2], packet.chunk_count, (rows, packet)
+def _fault(found: int) -> v.Fault:
+    return v.Fault(v.Result(found & 0xFF), found >> 8 & 0xFFFF)
+
+
+def read(data: bytes, policy: v.Policy, word: int | None, /) -> tuple[int, int]:
+    """The word of a packet, and the number of its chunks; raises its first Fault."""
+    found = _found(data, policy, word)
+    if found & 0xFF:
+        raise _fault(found)
+    return found >> 32, found >> 8 & 0xFFFF
+
+
+_read = read if fast is None else fast.read
 
 
 def _write(function: Any, data: Buffer, policy: v.Policy, word: int | None, room: int) -> bytes:
-    arguments = _arguments(to_bytes(data), policy, word)
+    data = to_bytes(data)
+    right, _ = read(data, policy, word)
+    asked = _asked(data, policy)
+    accepting = c.Policy(asked & _ANY_CHECKSUM, asked & _ZERO_CHECKSUM, asked & _STRICT_PADDING)
     size = c_size_t(room)
     code = int(v.Result.NO_ROOM)
     while code == v.Result.NO_ROOM:
         output = bytearray(size.value)
-        code = function(*arguments, start_of(output), len(output), byref(size))
+        code = function(data, len(data), right, byref(accepting), start_of(output), len(output), byref(size))
     if code == v.Result.OK:
         return bytes(output[: size.value])
     if code == v.Result.NO_MEMORY:
         raise MemoryError
-    raise _first_fault(arguments) or v.write_error(code)
+    raise v.write_error(code)
 
 
 def word(data: Buffer) -> int:
@@ -133,19 +139,13 @@ def check(data: Buffer, policy: v.Policy = _DEFAULT, *, word: int | None = None)
     """Returns if the bytes are a packet (RFC 9260 section 3), and else raises the first Fault. `word` is the number that
     the checksum field has to be, never what it is; None computes it. So does every function here that has these. Of a CRC32c
     of your own, over zeros in that field, the word is `int.from_bytes(crc.to_bytes(4, "little"), "big")`."""
-    if fast is not None:
-        fast.read(to_bytes(data), policy, word)
-        return
-    arguments = _arguments(to_bytes(data), policy, word)
-    if bare.dcsctp_check(*arguments):
-        fault = _first_fault(arguments)
-        assert fault is not None
-        raise fault
+    _read(to_bytes(data), policy, word)
 
 
 def first_fault(data: Buffer, policy: v.Policy = _DEFAULT, *, word: int | None = None) -> v.Fault | None:
     """Returns the first fault, from the left, or None for a packet; raises no Fault."""
-    return _first_fault(_arguments(to_bytes(data), policy, word))
+    found = _found(to_bytes(data), policy, word)
+    return _fault(found) if found & 0xFF else None
 
 
 def canonical(data: Buffer, policy: v.Policy = _DEFAULT, *, word: int | None = None) -> bytes:
@@ -177,10 +177,6 @@ def header(data: Buffer) -> v.Header:
     out = c.Header()
     if not functions.dcsctp_header(data, len(data), byref(out)):
         raise v.Fault(v.Result.FAULT_SIZE, len(data))
-    return _header(out)
-
-
-def _header(out: c.Header) -> v.Header:
     return v.Header(out.source_port, out.destination_port, out.verification_tag, out.checksum)
 
 
@@ -246,17 +242,18 @@ class Packet:
     Iterating gives its chunks; where there are more than 64, each is read as it is reached. `bytes(packet)`, `len(packet)` and
     equality are those of the bytes; packets that mean the same have the same `canonical()`."""
 
-    __slots__ = ("_bytes", "_count", "_policy", "_rows", "_word")
+    __slots__ = ("_bytes", "_count", "_policy", "_word")
 
     def __init__(self, data: Buffer, policy: v.Policy = _DEFAULT, *, word: int | None = None) -> None:
         """Checks the bytes; raises the first Fault if they are no packet."""
-        self._bytes, self._policy = to_bytes(data), policy
-        self._word, self._count, self._rows = (read if fast is None else fast.read)(self._bytes, policy, word)
+        self._bytes = data = data if type(data) is bytes else to_bytes(data)
+        self._policy = policy
+        self._word, self._count = _read(data, policy, word)
 
     @property
     def header(self) -> v.Header:
         """The common header (section 3.1)."""
-        return _header(self._rows[1].header) if fast is None else fast.header(self._bytes)
+        return (header if fast is None else fast.header)(self._bytes)
 
     @property
     def word(self) -> int:
@@ -268,7 +265,7 @@ class Packet:
 
     def chunks(self) -> tuple[v.Chunk, ...]:
         """Returns its chunks (section 3.2), at least one. Reads all of them, at each call."""
-        return _of_rows(self._bytes, self._count, self._rows[0]) if fast is None else fast.chunks(self._bytes)
+        return _of_packet(self._bytes, self._count) if fast is None else fast.chunks(self._bytes)
 
     def raw_chunks(self) -> Iterator[v.RawChunk]:
         """Returns its chunks as they are: with all flags and padding inside."""
@@ -352,14 +349,6 @@ def chunk_at(data: bytes, offset: int, /) -> v.Chunk:
     chunk = c.Chunk()
     functions.dcsctp_chunk_at(data, len(data), offset, byref(chunk))
     return _chunk(data, chunk)
-
-
-def _of_rows(data: bytes, count: int, rows: Any) -> tuple[v.Chunk, ...]:
-    """The chunks of a packet, of which these are the first rows."""
-    if count > _FEW:
-        rows = (c.Row * count)()
-        bare.dcsctp_read(data, size(len(data)), 0, _POLICIES[True, False, False], byref(rows), size(count), byref(c.Packet()))
-    return tuple([_ROWS.get(it[0], _rare_of)(data, it) for it in islice(c.ROW.iter_unpack(rows), count)])
 
 
 def _chunk(data: bytes, chunk: c.Chunk) -> v.Chunk:
@@ -460,55 +449,91 @@ _CHUNKS: dict[int, Callable[[bytes, c.Chunk], v.Chunk | None]] = {
     v.ChunkType.I_FORWARD_TSN: _forward_tsn,
 }
 
-# What makes the same of a row, as its format has it, with fewer calls.
+# ---- of a packet that was accepted, without a call for each part: a call takes longer than to read it
 
-
-def _rare_of(data: bytes, row: tuple[Any, ...]) -> v.Chunk:
-    return _chunk(data, c.Chunk(*row[:5]))
-
-
-def _data_of(data: bytes, row: tuple[Any, ...]) -> v.Data:
-    it: v.Data = _new(v.Data)
-    (_, _, start, _, _, rest, size, _, _, it.tsn, _, _, _, _, it.ppid, it.stream, it.ssn, _, _, it.is_unordered, it.is_beginning,
-     it.is_end, it.immediate_ack) = row
-    it.offset, it.payload = start - 4, data[rest : rest + size]
-    return it
-
-
-def _i_data_of(data: bytes, row: tuple[Any, ...]) -> v.IData:
-    it: v.IData = _new(v.IData)
-    (_, _, start, _, _, rest, size, _, _, it.tsn, _, _, it.mid, it.fsn, it.ppid, it.stream, _, _, _, it.is_unordered,
-     it.is_beginning, it.is_end, it.immediate_ack) = row
-    it.offset, it.payload = start - 4, data[rest : rest + size]
-    return it
-
-
-def _init_of(data: bytes, row: tuple[Any, ...]) -> v.Init | v.InitAck:
-    it: v.Init | v.InitAck = _new(v.Init if row[0] == v.ChunkType.INIT else v.InitAck)
-    items = _list(bare.dcsctp_parameters, data, c.CHUNK.pack(*row[:5]), row[3], c.PARAMETER)
-    it.initial_tsn, it.a_rwnd, it.initiate_tag = row[9:12]
-    it.outbound_streams, it.inbound_streams = row[17:19]
-    it.offset, it.parameters = row[2] - 4, _parameters(data, items)
-    return it
-
-
-def _sack_of(data: bytes, row: tuple[Any, ...]) -> v.Sack:
-    it: v.Sack = _new(v.Sack)
-    it.cumulative_tsn_ack, it.a_rwnd = row[9:11]
-    it.blocks, it.duplicates = _sack_lists(data, c.CHUNK.pack(*row[:5]), row[3])
-    it.offset = row[2] - 4
-    return it
-
-
+_HEAD, _ITEM = struct.Struct(">BBH"), struct.Struct(">HH")
+_DATA, _I_DATA, _INIT, _SACK = (struct.Struct(">4x" + it) for it in ("IHHI", "IH2xII", "IIHHI", "IIHH"))
+_BLOCK, _TSN = struct.Struct(">HH"), struct.Struct(">I")
+# The bits U, B, E and I of user data, by its flags.
+_BITS = [(bool(it & 4), bool(it & 2), bool(it & 1), bool(it & 8)) for it in range(16)]
 _new: Any = object.__new__
 _block: Any = partial(tuple.__new__, v.GapAckBlock)
-_ROWS: dict[int, Callable[[bytes, tuple[Any, ...]], v.Chunk]] = {
+
+
+def _of_packet(data: bytes, count: int) -> tuple[v.Chunk, ...]:
+    """Its chunks, which are as many."""
+    chunks: list[v.Chunk] = []
+    at = _FIRST_CHUNK
+    for _ in range(count):
+        type, flags, size = _HEAD.unpack_from(data, at)
+        read = _OF_PACKET.get(type)
+        chunks.append(read(data, at, at + size, flags) if read else chunk_at(data, at))
+        at += size + 3 & -4
+    return tuple(chunks)
+
+
+def _data_of(data: bytes, at: int, end: int, flags: int) -> v.Data:
+    it: v.Data = _new(v.Data)
+    it.tsn, it.stream, it.ssn, it.ppid = _DATA.unpack_from(data, at)
+    it.is_unordered, it.is_beginning, it.is_end, it.immediate_ack = _BITS[flags & 15]
+    it.offset, it.payload = at, data[at + 16 : end]
+    return it
+
+
+def _i_data_of(data: bytes, at: int, end: int, flags: int) -> v.IData:
+    it: v.IData = _new(v.IData)
+    it.tsn, it.stream, it.mid, number = _I_DATA.unpack_from(data, at)
+    it.is_unordered, it.is_beginning, it.is_end, it.immediate_ack = _BITS[flags & 15]
+    it.ppid, it.fsn = (number, 0) if it.is_beginning else (0, number)
+    it.offset, it.payload = at, data[at + 20 : end]
+    return it
+
+
+def _init_of(kind: type[v.Init | v.InitAck], data: bytes, at: int, end: int, flags: int) -> v.Init | v.InitAck:
+    it: v.Init | v.InitAck = _new(kind)
+    it.initiate_tag, it.a_rwnd, it.outbound_streams, it.inbound_streams, it.initial_tsn = _INIT.unpack_from(data, at)
+    it.offset, it.parameters = at, _parameters_of(data, at + 20, end)
+    return it
+
+
+def _sack_of(data: bytes, at: int, end: int, flags: int) -> v.Sack:
+    it: v.Sack = _new(v.Sack)
+    it.cumulative_tsn_ack, it.a_rwnd, block_count, duplicate_count = _SACK.unpack_from(data, at)
+    middle = at + 16 + 4 * block_count
+    it.blocks = tuple(map(_block, _BLOCK.iter_unpack(data[at + 16 : middle])))
+    it.duplicates = tuple(chain.from_iterable(_TSN.iter_unpack(data[middle : middle + 4 * duplicate_count])))
+    it.offset = at
+    return it
+
+
+def _cookie_ack_of(data: bytes, at: int, end: int, flags: int) -> v.CookieAck:
+    it: v.CookieAck = _new(v.CookieAck)
+    it.offset = at
+    return it
+
+
+def _parameters_of(data: bytes, at: int, end: int) -> tuple[v.Parameter, ...]:
+    parameters = []
+    while at < end:
+        type, size = _ITEM.unpack_from(data, at)
+        read = _PARAMETERS.get(type)
+        it = read and read(data, (type, at + 4, size - 4, end))
+        if not it:
+            it = _new(v.RawParameter)
+            it.type, it.value = type, data[at + 4 : at + size]
+        it.offset = at
+        parameters.append(it)
+        at += size + 3 & -4
+    return tuple(parameters)
+
+
+_OF_PACKET: dict[int, Callable[[bytes, int, int, int], v.Chunk]] = {
     v.ChunkType.DATA: _data_of,
     v.ChunkType.I_DATA: _i_data_of,
-    v.ChunkType.INIT: _init_of,
-    v.ChunkType.INIT_ACK: _init_of,
+    v.ChunkType.INIT: partial(_init_of, v.Init),
+    v.ChunkType.INIT_ACK: partial(_init_of, v.InitAck),
     v.ChunkType.SACK: _sack_of,
-    v.ChunkType.COOKIE_ACK: lambda data, row: v.CookieAck(offset=row[2] - 4),
+    v.ChunkType.COOKIE_ACK: _cookie_ack_of,
 }
 
 # ---- parameters and error causes

@@ -3,10 +3,12 @@
 
 import struct
 import threading
+import time
 from collections.abc import Callable, Iterable, Sequence
-from ctypes import byref, c_size_t, c_uint16, c_uint32
+from ctypes import byref, c_char, c_size_t, c_uint16, c_uint32, c_uint64
+from functools import partial
 from ipaddress import IPv4Address, IPv6Address
-from itertools import accumulate
+from itertools import accumulate, chain, count
 from types import TracebackType
 from typing import Any
 
@@ -14,9 +16,14 @@ from . import _library as c
 from . import _values as v
 from . import registered as r
 from ._library import bare, functions
-from ._reading import Buffer, chunk_at, fast, number, read, size, start_of, to_bytes
+from ._reading import _FIRST_CHUNK, Buffer, chunk_at, fast, number, read, size, start_of, to_bytes
 
 _SMALL = 2048
+# Places for a packet that is sealed, of those that nobody uses now.
+_outputs: list[Any] = []
+# The numbers of headers that are begun.
+_next = count(1).__next__
+_add_records, _seal_into = bare.davgyuti_add, bare.davgyuti_seal
 
 
 # (what most are is looked at here, in less time)
@@ -107,6 +114,95 @@ _REST: dict[str, Callable[[Any], bytes]] = {
     "bytes": to_bytes,
 }
 
+# ---- what is plain, as records for _calls.c, which has these kinds; what raises is left to others
+
+CHUNK, DATA, I_DATA, INIT, INIT_ACK, SACK, PARAMETER, NUMBER = range(8)
+_BEGIN = struct.Struct("@QI12xHH4x").pack
+_CHUNK = struct.Struct("@I3B25x").pack
+_DATA = struct.Struct("@IB3xII8xHH????").pack
+_I_DATA = struct.Struct("@IB3x4IH2x????").pack
+_INIT = struct.Struct("@4xB3x3I4xHH4x").pack
+_SACK = struct.Struct("@IB3x4I8x").pack
+_PARAMETER = struct.Struct("@IB19xH6x").pack
+_NUMBER = struct.Struct("@4xB3xI12xH6x").pack
+_FILLING = b"", bytes(3), bytes(2), bytes(1)
+
+
+def _filled(record: bytes, value: bytes) -> bytes:
+    if type(value) is not bytes:
+        raise TypeError
+    return record + value + _FILLING[len(value) & 3]
+
+
+def _data_record(it: v.Data) -> bytes:
+    payload = it.payload
+    if type(payload) is not bytes:
+        raise TypeError
+    return (
+        _DATA(len(payload), DATA, it.tsn, it.ppid, it.stream, it.ssn, it.is_unordered, it.is_beginning, it.is_end, it.immediate_ack)
+        + payload
+    )
+
+
+def _i_data_record(it: v.IData) -> bytes:
+    payload = it.payload
+    bits = it.is_unordered, it.is_beginning, it.is_end, it.immediate_ack
+    return _filled(_I_DATA(len(payload), I_DATA, it.tsn, it.ppid, it.mid, it.fsn, it.stream, *bits), payload)
+
+
+def _init_record(kind: int, it: v.Init | v.InitAck) -> bytes:
+    numbers = it.initiate_tag, it.a_rwnd, it.initial_tsn, it.outbound_streams, it.inbound_streams
+    return _INIT(kind, *numbers) + _parameter_records(it.parameters)
+
+
+def _sack_record(it: v.Sack) -> bytes:
+    blocks, duplicates = it.blocks, it.duplicates
+    if type(blocks) is not tuple or type(duplicates) is not tuple or {*map(len, blocks)} - {2}:
+        raise TypeError
+    counts = len(blocks), len(duplicates)
+    lists = struct.pack(f"@{2 * counts[0]}H{counts[1]}I", *chain.from_iterable(blocks), *duplicates)
+    return _SACK(len(lists), SACK, it.cumulative_tsn_ack, it.a_rwnd, *counts) + lists
+
+
+def _chunk_record(type: int, value: bytes = b"", flags: int = 0) -> bytes:
+    return _filled(_CHUNK(len(value), CHUNK, type, flags), value)
+
+
+def _parameter_records(parameters: Iterable[v.Parameter]) -> bytes:
+    if type(parameters) is not tuple:
+        raise TypeError
+    return b"".join([_PARAMETER_RECORDS[type(it)](it) for it in parameters])
+
+
+def _parameter_record(type: int, value: bytes = b"") -> bytes:
+    return _filled(_PARAMETER(len(value), PARAMETER, type), value)
+
+
+_PARAMETER_RECORDS: dict[type, Callable[[Any], bytes]] = {
+    v.RawParameter: lambda it: _parameter_record(it.type, it.value),
+    v.HeartbeatInfo: lambda it: _parameter_record(v.ParameterType.HEARTBEAT_INFO, it.info),
+    v.StateCookie: lambda it: _parameter_record(v.ParameterType.STATE_COOKIE, it.cookie),
+    v.SupportedExtensions: lambda it: _parameter_record(v.ParameterType.SUPPORTED_EXTENSIONS, it.chunk_types),
+    v.ForwardTsnSupported: lambda it: _FORWARD_TSN_SUPPORTED,
+    v.ZeroChecksumAcceptable: lambda it: _NUMBER(NUMBER, it.method, v.ParameterType.ZERO_CHECKSUM_ACCEPTABLE),
+}
+_FORWARD_TSN_SUPPORTED = _parameter_record(v.ParameterType.FORWARD_TSN_SUPPORTED)
+_HEARTBEAT, _HEARTBEAT_ACK, _COOKIE_ACK = map(
+    _chunk_record, (v.ChunkType.HEARTBEAT, v.ChunkType.HEARTBEAT_ACK, v.ChunkType.COOKIE_ACK)
+)
+_RECORDS: dict[type, Callable[[Any], bytes]] = {
+    v.Data: _data_record,
+    v.IData: _i_data_record,
+    v.Init: partial(_init_record, INIT),
+    v.InitAck: partial(_init_record, INIT_ACK),
+    v.Sack: _sack_record,
+    v.Heartbeat: lambda it: _HEARTBEAT + _parameter_records(it.parameters),
+    v.HeartbeatAck: lambda it: _HEARTBEAT_ACK + _parameter_records(it.parameters),
+    v.CookieEcho: lambda it: _chunk_record(v.ChunkType.COOKIE_ECHO, it.cookie),
+    v.CookieAck: lambda it: _COOKIE_ACK,
+    v.RawChunk: lambda it: _chunk_record(it.type, it.value, it.flags),
+}
+
 # ---- changing a packet
 
 
@@ -185,7 +281,9 @@ class PacketBuilder:
     is atomic, in any number of threads; but a list that is written call by call, by a ChunkWriter, belongs to one thread:
     no other may add to the packet, or take a chunk back, until it is complete. `add` writes a whole list in one call."""
 
-    __slots__ = ("__dict__", "__weakref__", "_end", "_is_taken", "_last", "_limit", "_lock", "_packet", "_size", "_start")
+    __slots__ = (
+        *("__dict__", "__weakref__", "_at", "_begun", "_end", "_is_taken", "_last", "_limit", "_lock", "_packet", "_size", "_start"),
+    )
 
     def __init__(
         self, source_port: int, destination_port: int, verification_tag: int, *, limit: int = v.MAX_PACKET_SIZE
@@ -201,30 +299,46 @@ class PacketBuilder:
         self._last: object = None
         # (What takes several steps has to be alone with the packet and its size.)
         self._lock, self._is_taken = threading.RLock(), False
+        # What _calls.c keeps, without the module, while nobody is alone with the packet; and the header, which the next call writes.
+        self._at, self._begun = byref((c_uint64 * 5)()), _BEGIN(0, 0, 0, 0)
+        if fast is None:
+            self._give()
         self.reset(source_port, destination_port, verification_tag)
 
     def reset(self, source_port: int, destination_port: int, verification_tag: int) -> None:
         """Begins another packet in the memory of the one before, which is gone, as is what was written to it; with the same
         limit. One builder for many packets takes less time than one for each."""
-        if fast is None or not fast.begin(self, source_port, destination_port, verification_tag):
-            self._call(
-                bare.dcsctp_begin,
-                _u16(source_port, "source_port"),
-                _u16(destination_port, "destination_port"),
-                _u32(verification_tag, "verification_tag"),
-            )
+        if fast is None:
+            try:
+                if self._limit >= _FIRST_CHUNK:
+                    self._begun = _BEGIN(_next(), verification_tag, source_port, destination_port)
+                    return
+            except struct.error:  # (not all have a place: what is raised says which)
+                pass
+        elif fast.begin(self, source_port, destination_port, verification_tag):
+            return
+        self._call(
+            bare.dcsctp_begin,
+            _u16(source_port, "source_port"),
+            _u16(destination_port, "destination_port"),
+            _u32(verification_tag, "verification_tag"),
+        )
 
-    def _alone(self) -> "threading.RLock | _Alone":
-        """What is entered by what is alone with the packet for several steps."""
-        return self._lock if fast is None else _Alone(self)
+    def _give(self) -> None:
+        """Has _calls.c go on where this is."""
+        bare.davgyuti_give(self._at, self._place()[0], len(self._packet), self._size)
+
+    def _place(self) -> tuple[Any, ...]:
+        if self._start is None:
+            self._start = start_of(self._packet), size(len(self._packet)), byref(self._end)
+        place: tuple[Any, ...] = self._start
+        return place
 
     def _write(self, function: Any, *arguments: Any) -> None:
         """What is alone calls this."""
         while True:
-            if self._start is None:
-                self._start = start_of(self._packet), size(len(self._packet)), byref(self._end)
             self._end.value = self._size
-            code = function(*self._start, *arguments)
+            code = function(*self._place(), *arguments)
             if code == 0:
                 self._size = self._end.value
                 return
@@ -238,12 +352,12 @@ class PacketBuilder:
         raise v.write_error(code, f"{text}{value}, after {self._size} of at most {self._limit}")
 
     def _call(self, function: Any, *arguments: Any) -> None:
-        with self._alone():
+        with _Alone(self):
             self._write(function, *arguments)
             self._last = None
 
     def _list(self, function: Any, *arguments: Any) -> "ChunkWriter":
-        with self._alone():
+        with _Alone(self):
             start = self._size
             self._write(function, *arguments)
             writer = ChunkWriter(self, start)
@@ -254,11 +368,13 @@ class PacketBuilder:
 
     def __bytes__(self) -> bytes:
         """The packet with a checksum field of zero, as RFC 9653 has it sent where that was negotiated."""
-        with self._alone():
+        with _Alone(self):
             return bytes(memoryview(self._packet)[: self._size])
 
     def __len__(self) -> int:
         """The number of bytes."""
+        if fast is None and (length := _add_records(self._at, self._begun, b"", 0)):
+            return int(length)
         return self._size
 
     @property
@@ -268,21 +384,24 @@ class PacketBuilder:
 
     def seal(self) -> bytes:
         """Returns the packet, with its CRC32c (RFC 9260 section 6.8). More may be added, and sealed again."""
-        sealed = None if fast is None else fast.sealed(self)
-        if sealed is not None:
-            return sealed
-        with self._alone():
-            bare.dcsctp_seal(self._start[0] if self._start else start_of(self._packet), size(self._size))
-            sealed = bytes(memoryview(self._packet)[: self._size])
-            self._packet[8:12] = bytes(4)
-            return sealed
+        if fast is None:
+            try:
+                output = _outputs.pop()
+            except IndexError:
+                output = (c_char * _SMALL)()
+            end = _seal_into(self._at, self._begun, output, _SMALL)
+            sealed: bytes | None = output[:end] if end else None
+            _outputs.append(output)
+        else:
+            sealed = fast.sealed(self)
+        return seal(bytes(self)) if sealed is None else sealed
 
     def sign_auth(self, key: Buffer, offset: int) -> None:
         """Writes the HMAC into the AUTH chunk that begins at an offset, what `len` was before it was added, under an association
         shared key (RFC 4895 section 6.2). The HMAC is of this chunk and of those after it, so add these first, and `seal` after
         this. Raises BadPlace where no AUTH begins there, its HMAC identifier is another than 1 (SHA-1) and 3 (SHA-256), or its
         field isn't as long as that HMAC, 20 or 32 bytes."""
-        with self._alone():
+        with _Alone(self):
             place = slice(number(offset, self._size, "offset"), self._size)
             self._packet[place] = sign_auth(key, self._packet[place])
 
@@ -290,9 +409,17 @@ class PacketBuilder:
 
     def add(self, chunk: v.Chunk) -> None:
         """Adds a chunk of any kind, with its parameters or error causes: all of it, or nothing."""
-        if fast is not None and fast.add(self, chunk):
+        if fast is None:
+            try:
+                record = _RECORDS[type(chunk)](chunk)
+            except Exception:  # (what isn't plain is left to what is below, from its beginning)
+                pass
+            else:
+                if _add_records(self._at, self._begun, record, len(record)):
+                    return
+        elif fast.add(self, chunk):
             return
-        with self._alone():
+        with _Alone(self):
             start, last = self._size, self._last
             try:
                 self._add(chunk)
@@ -512,7 +639,7 @@ class PacketBuilder:
 
 
 class _Alone:
-    """Has the module leave the builder alone, which takes no lock, and others wait."""
+    """Is entered by what is alone with the packet for several steps: the module, or _calls.c, then leaves it alone, and others wait."""
 
     __slots__ = ("_before", "_builder")
 
@@ -520,12 +647,22 @@ class _Alone:
         self._builder = builder
 
     def __enter__(self) -> None:
-        self._builder._lock.acquire()
-        self._before, self._builder._is_taken = self._builder._is_taken, True
+        builder = self._builder
+        builder._lock.acquire()
+        self._before, builder._is_taken = builder._is_taken, True
+        if fast is None and not self._before:
+            while not (taken := bare.davgyuti_take(builder._at, builder._begun)):
+                time.sleep(0)  # (Python has no lock, and a call isn't over)
+            builder._size = taken >> 2
+            if taken & 2:
+                builder._last = None
 
     def __exit__(self, *_: object) -> None:
-        self._builder._is_taken = self._before
-        self._builder._lock.release()
+        builder = self._builder
+        builder._is_taken = self._before
+        if fast is None and not self._before:
+            builder._give()
+        builder._lock.release()
 
 
 if fast is not None:
@@ -572,14 +709,14 @@ class ChunkWriter:
         self, kind: type[BaseException] | None, value: BaseException | None, traceback: TracebackType | None
     ) -> None:
         builder = self._builder
-        with builder._alone():
+        with _Alone(builder):
             if builder._last is self._token and kind is not None:
                 builder._last, builder._size = None, self._start
             elif isinstance(value, Exception):
                 raise _not_last() from value
 
     def _add(self, function: Any, *arguments: Any) -> None:
-        with self._builder._alone():
+        with _Alone(self._builder):
             if self._builder._last is not self._token:
                 raise _not_last()
             self._builder._write(function, size(self._start), *arguments)
