@@ -2,7 +2,10 @@
 # SPDX-License-Identifier: Apache-2.0
 """Reads and writes packets by the package davgyuti, and by aiortc; bench/packages.py says what such a program does.
 
-usage: beside_aiortc.py ROUNDS MILLIS FILE.."""
+usage: beside_aiortc.py ROUNDS MILLIS FILE..
+
+Where the package lacks its module, its calls have a name of their own."""
+import importlib.util
 import operator
 import struct
 import sys
@@ -165,9 +168,10 @@ def written_by_aiortc(kept):
 
 # ---- the clock
 
-READERS = (('davgyuti', read_by_davgyuti), ('aiortc', read_by_aiortc))
+OURS = 'davgyuti' if importlib.util.find_spec('davgyuti._fast') else 'davgyuti, ctypes'
+READERS = ((OURS, read_by_davgyuti), ('aiortc', read_by_aiortc))
 WRITERS = (
-    ('davgyuti writes', kept_by_davgyuti, written_by_davgyuti),
+    (OURS + ' writes', kept_by_davgyuti, written_by_davgyuti),
     ('aiortc writes', kept_by_aiortc, written_by_aiortc),
 )
 

@@ -53,11 +53,11 @@ READ = (
     ('C', 'by hand', 'davgyuti', 'davgyuti, rows'),
     ('C with LTO', 'by hand', 'davgyuti'),
     ('Rust', 'plain loop', 'davgyuti'),
-    ('Python', 'aiortc', 'davgyuti'),
+    ('Python', 'aiortc', 'davgyuti', 'davgyuti, ctypes'),
     ('Go', 'pion', 'davgyuti'),
     ('JavaScript', 'DataView', 'davgyuti'),
 )
-WRITTEN = (('Python', 'aiortc writes', 'davgyuti writes'), ('Go', 'pion writes', 'davgyuti writes'))
+WRITTEN = (('Python', 'aiortc writes', 'davgyuti writes', 'davgyuti, ctypes writes'), ('Go', 'pion writes', 'davgyuti writes'))
 
 
 class Missing(Exception):
@@ -213,7 +213,7 @@ def rust_program():
     return [os.path.join(target, 'release', 'plain')], {}, 'rustc ' + run('rustc', '--version').split()[1]
 
 
-def python_program():
+def python_program(folder='python', leaves_out=None):
     versions = 'import platform, aiortc; print("Python %s with aiortc %s" % (platform.python_version(), aiortc.__version__))'
     needed('cc')
     # (Debian's aiortc is for Debian's Python)
@@ -225,12 +225,16 @@ def python_program():
             pass
     else:
         raise Missing('aiortc is not there')
-    folder = os.path.join(OUT, 'python')
+    folder = os.path.join(OUT, folder)
     os.makedirs(folder)
     run(python, '-c', 'import backend, sys; backend.build_wheel(sys.argv[1])', folder, cwd=os.path.join(ROOT, 'bindings', 'python'))
     with zipfile.ZipFile(glob.glob(os.path.join(folder, '*.whl'))[0]) as wheel:
-        wheel.extractall(folder)
+        wheel.extractall(folder, [it for it in wheel.namelist() if it != leaves_out])
     return [python, os.path.join(BENCH, 'beside_aiortc.py')], {'PYTHONPATH': folder}, version
+
+
+def ctypes_program():
+    return python_program('ctypes', 'davgyuti/_fast.abi3.so')
 
 
 def go_program():
@@ -254,8 +258,8 @@ def javascript_program():
 
 
 BUILDERS = {
-    'C': c_program, 'C with LTO': lto_program, 'Rust': rust_program, 'Python': python_program, 'Go': go_program,
-    'JavaScript': javascript_program,
+    'C': c_program, 'C with LTO': lto_program, 'Rust': rust_program, 'Python': python_program, 'Python by ctypes': ctypes_program,
+    'Go': go_program, 'JavaScript': javascript_program,
 }
 
 
@@ -285,7 +289,7 @@ def cells(best, language, call, first):
 
 def printed(best, rows, head):
     lines = [['%s: %s' % (language, call.replace(' writes', '')), *cells(best, language, call, first)]
-             for language, first, *others in rows if (language, TIMED[0], first) in best for call in (first, *others)]
+             for language, first, *others in rows for call in (first, *others) if (language, TIMED[0], call) in best]
     return '\n'.join(table([head] + ['`%s`' % name for name in TIMED], lines)) if lines else ''
 
 
@@ -303,7 +307,7 @@ def main():
     for language, build in BUILDERS.items():
         try:
             *programs[language], version = build()
-            versions.append(version)
+            versions += [version] if version not in versions else []
         except Missing as missing:
             left_out.append('%s, since %s' % (language, missing))
     print('packages.py: built in %.0f s' % (time.monotonic() - begin), file=sys.stderr)
@@ -318,7 +322,7 @@ def main():
             compare(language, found, totals)
             sums += len(found)
             for (name, call), (_, took) in found.items():
-                key = language, name, call
+                key = language.removesuffix(' by ctypes'), name, call
                 best[key] = min(took, best.get(key, took))
     if not asked.rounds:
         for it in left_out:

@@ -1,5 +1,5 @@
 # SPDX-License-Identifier: Apache-2.0
-"""The module of C and ctypes: both read, write and refuse the same; rows hold what the single calls read."""
+"""The module of C and ctypes: both read, write and refuse the same; a packet holds what the single calls read."""
 
 import gc
 import os
@@ -10,6 +10,7 @@ import unittest
 from collections.abc import Callable, Iterator
 from types import ModuleType
 from typing import Any
+from unittest import mock
 
 import davgyuti
 from davgyuti import Policy, _reading
@@ -36,7 +37,7 @@ def corpus() -> Iterator[bytes]:
     for chunk in LISTS:
         builder.add(chunk)
     yield builder.seal()
-    # (more chunks than there are rows at first, in each of both)
+    # (more chunks than the module has rows at first, and than an iteration reads at once)
     for count in (8, 9, 32, 33, 64, 65, 1000):
         builder.reset(1, 2, 3)
         for _ in range(count):
@@ -44,8 +45,8 @@ def corpus() -> Iterator[bytes]:
         yield builder.seal()
 
 
-class Rows(unittest.TestCase):
-    def test_are_what_single_calls_read(self) -> None:
+class Whole(unittest.TestCase):
+    def test_is_what_single_calls_read(self) -> None:
         accepted = 0
         for data in corpus():
             if davgyuti.first_fault(data, ANY_CHECKSUM) is None:
@@ -100,29 +101,33 @@ class Rows(unittest.TestCase):
 
 @unittest.skipUnless(_reading.fast, "the module isn't built")
 class Module(unittest.TestCase):
-    other: ModuleType
+    others: list[ModuleType]
 
     @classmethod
     def setUpClass(cls) -> None:
-        """Makes a copy of the package that lacks the module."""
-        work = tempfile.TemporaryDirectory()
-        cls.addClassCleanup(work.cleanup)
-        copy = shutil.copytree(os.path.dirname(davgyuti.__file__), os.path.join(work.name, "by_ctypes"))
-        os.remove(os.path.join(copy, "_fast.abi3.so"))
-        cls.other = module("by_ctypes", copy, "__init__.py")
+        """Makes copies of the package that lack the module, one as in a Python without a lock."""
+        cls.others = []
+        for name, has_lock in (("by_ctypes", True), ("without_lock", False)):
+            work = tempfile.TemporaryDirectory()
+            cls.addClassCleanup(work.cleanup)
+            copy = shutil.copytree(os.path.dirname(davgyuti.__file__), os.path.join(work.name, name))
+            os.remove(os.path.join(copy, "_fast.abi3.so"))
+            with mock.patch.object(sys, "_is_gil_enabled", lambda: has_lock, create=True):
+                cls.others.append(module(name, copy, "__init__.py"))
 
     def test_is_left_out(self) -> None:
-        self.assertIsNone(self.other._reading.fast)
+        self.assertEqual([it._reading.fast for it in self.others], [None, None])
+        self.assertEqual([it._writing._by_calls for it in self.others], [True, False])
 
     def both(self, call: Callable[[ModuleType], object]) -> str:
-        """What it prints with both, which is the same."""
+        """What it prints with both, and with both others, which is the same."""
         found = []
-        for package in (davgyuti, self.other):
+        for package in (davgyuti, *self.others):
             try:
                 found.append(repr(call(package)))
             except Exception as error:
                 found.append(f"{type(error).__name__}: {error}")
-        self.assertEqual(found[0], found[1])
+        self.assertEqual(found, found[:1] * len(found))
         return found[0]
 
     def test_reading(self) -> None:
@@ -166,6 +171,14 @@ class Module(unittest.TestCase):
             lambda it: it.Sack(1, 2, ((2, 3),) * 600, (9,) * 600),
             lambda it: it.Sack(1, 2, ((2, 3),) * 20000),
             lambda it: it.CookieEcho(bytearray(b"abc")),
+            lambda it: it.CookieEcho(memoryview(b"abcd").cast("H")),
+            lambda it: it.Data(tsn=1, stream=2, ssn=3, ppid=4, payload=bytearray(b"abc"), is_unordered=True, immediate_ack=True),
+            lambda it: it.IData(tsn=1, stream=2, mid=3, ppid=4, fsn=5, payload=b"abc", is_beginning=False, is_end=False),
+            lambda it: it.Sack(1, 2, ((1, 2), iter((3, 4)))),
+            lambda it: it.Sack(1, 2, ((5, 6), (7, 8)), (9, 2**32 - 1, 10)),
+            lambda it: it.Heartbeat((it.HeartbeatInfo(b"a"), it.RawParameter(2**16 - 1, b"abcde"), it.ZeroChecksumAcceptable(1))),
+            lambda it: it.HeartbeatAck(iter((it.HeartbeatInfo(b"a"), it.HeartbeatInfo(b"bc")))),
+            lambda it: it.RawChunk(255, 129, bytes(range(256))),
             lambda it: it.CookieEcho(bytes(3000)),
             lambda it: it.CookieEcho(bytes(65532)),
             lambda it: it.Init(1, 2, 3, 4, 5, [it.SsnTsnReset(7), it.StateCookie(b"abc")]),
@@ -210,6 +223,19 @@ class Reset(unittest.TestCase):
         with self.assertRaises(ValueError):
             builder.reset(65536, 1, 1)
         self.assertEqual(builder.seal(), other.seal())
+
+    def test_header_alone(self) -> None:
+        builder = davgyuti.PacketBuilder(1, 2, 3)
+        builder.cookie_echo(bytes(3000))
+        # (the checksum is in what was sealed alone)
+        self.assertEqual((davgyuti.seal(bytes(builder)), bytes(builder)[8:12]), (builder.seal(), bytes(4)))
+        builder.reset(4, 5, 6)
+        self.assertEqual((len(builder), len(builder.seal())), (12, 12))
+        for wrong in ((7, 65536, 8), (7, 8, 2**32), (7, "a", 8)):
+            builder.reset(7, 8, 9)
+            with self.assertRaises((ValueError, TypeError)):
+                builder.reset(*wrong)  # type: ignore[arg-type]
+            self.assertEqual(davgyuti.header(builder.seal()), davgyuti.Header(7, 8, 9, davgyuti.word(bytes(builder))))
 
 
 if __name__ == "__main__":

@@ -82,6 +82,21 @@ class Threads(unittest.TestCase):
         chunks = davgyuti.Packet(builder.seal()).chunks()
         self.assertEqual(chunks, (davgyuti.OperationError((davgyuti.NoUserData(1),)), kept))
 
+    def test_one_builder_in_one_step_and_in_several(self) -> None:
+        builder = davgyuti.PacketBuilder(1, 2, 3)
+        one = davgyuti.Data(tsn=1, stream=2, ssn=3, ppid=4, payload=b"abcd")
+        several = davgyuti.OperationError((davgyuti.NoUserData(7), davgyuti.NoUserData(8)))
+
+        def work(number: int) -> None:
+            for _ in range(150):
+                builder.add(several if number & 1 else one)
+                davgyuti.check(builder.seal()), len(builder)
+
+        self.assertEqual(at_once(work), [])
+        chunks = davgyuti.Packet(builder.seal()).chunks()
+        self.assertEqual([chunks.count(it) for it in (one, several)], [150 * THREADS // 2] * 2)
+        self.assertEqual(len(chunks), 150 * THREADS)
+
     def test_one_builder_that_is_full(self) -> None:
         builder = davgyuti.PacketBuilder(1, 2, 3, limit=16 + 8 * 200)
 

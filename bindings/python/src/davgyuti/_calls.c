@@ -30,54 +30,46 @@ struct record {
     bool bits[4];
 };
 
-/* A packet's header, which the next call writes: its number says whether a call wrote it already, or one that came later. */
-struct header {
-    uint64_t number;
-    uint32_t tag, reserved[3];
-    uint16_t source_port, destination_port;
-    uint32_t last;
-};
-
-/* What is kept of a packet that is written, but for its bytes. It is taken by each call, or by what is alone with the packet for several
-   steps; a call then leaves it alone. (Python's lock alone would do, but some Pythons have none.) */
+/* What is kept of a packet that is written, but for its bytes, and whether it is taken by what is alone with it for several steps: then
+   it is left alone. A call is one step, since it holds Python's lock (GIL). */
 struct state {
     uint8_t *packet;
     size_t room, size;
     uint64_t number;
-    uint32_t is_taken, is_changed;
+    bool is_taken, is_changed;
 };
 
-static bool is_free(struct state *state, const struct header *header)
+/* A packet's header, which the next call writes: its number says whether a call wrote it already, or one that came later. */
+struct header {
+    struct state *state;
+    uint64_t number;
+    uint32_t tag;
+    uint16_t source_port, destination_port;
+};
+
+static void begin(const struct header *header)
 {
-    if (__atomic_exchange_n(&state->is_taken, 1, __ATOMIC_ACQUIRE))
-        return false;
-    if (header->number > state->number) {
-        dcsctp_begin(state->packet, state->room, &state->size, header->source_port, header->destination_port, header->tag);
-        state->number = header->number;
-        state->is_changed = 1;
-    }
-    return true;
+    struct state *state = header->state;
+    if (header->number <= state->number)
+        return;
+    dcsctp_begin(state->packet, state->room, &state->size, header->source_port, header->destination_port, header->tag);
+    state->number = header->number;
+    state->is_changed = true;
 }
 
-static void leave(struct state *state)
+/* The packet's size from bit 1 on, and whether it was written to since it was taken before. */
+uint64_t davgyuti_take(const struct header *header)
 {
-    __atomic_store_n(&state->is_taken, 0, __ATOMIC_RELEASE);
-}
-
-/* 0 if it can't be taken now; else 1, 2 if it was written to since it was taken before, and its size in the bits from 2 on. */
-uint64_t davgyuti_take(struct state *state, const struct header *header)
-{
-    return is_free(state, header) ? (uint64_t)state->size << 2 | state->is_changed << 1 | 1 : 0;
+    begin(header);
+    header->state->is_taken = true;
+    return (uint64_t)header->state->size << 1 | header->state->is_changed;
 }
 
 /* Ends that, with these. */
-void davgyuti_give(struct state *state, uint8_t *packet, uint32_t room, uint32_t size)
+void davgyuti_give(const struct header *header, uint8_t *packet, uint32_t room, uint32_t size)
 {
-    state->packet = packet;
-    state->room = room;
-    state->size = size;
-    state->is_changed = 0;
-    leave(state);
+    struct state *state = header->state;
+    *state = (struct state){.packet = packet, .room = room, .size = size, .number = state->number};
 }
 
 static uint32_t add(struct state *state, const struct record *it, size_t start, size_t *size)
@@ -115,37 +107,34 @@ static uint32_t add(struct state *state, const struct record *it, size_t start, 
 
 /* Adds a chunk and its parameters, or nothing. Returns the packet's size then; 0 where it is taken, or a call doesn't return DCSCTP_OK:
    then nothing is added. */
-uint32_t davgyuti_add(struct state *state, const struct header *header, const uint8_t *records, uint32_t length)
+uint32_t davgyuti_add(const struct header *header, const uint8_t *records, uint32_t length)
 {
-    if (!is_free(state, header))
+    struct state *state = header->state;
+    if (state->is_taken)
         return 0;
-    const uint8_t *const end = records + length;
+    begin(header);
     size_t size = state->size;
-    bool is_written = true;
-    while (records < end && is_written) {
+    for (const uint8_t *const end = records + length; records < end;) {
         const struct record *it = (const struct record *)records;
-        is_written = add(state, it, state->size, &size) == DCSCTP_OK;
+        if (add(state, it, state->size, &size) != DCSCTP_OK)
+            return 0;
         records += sizeof *it + ((it->count + 3) & ~(uint32_t)3);
     }
-    if (is_written) {
-        state->is_changed |= size != state->size;
-        state->size = size;
-    }
-    leave(state);
-    return is_written ? (uint32_t)size : 0;
+    state->is_changed |= size != state->size;
+    state->size = size;
+    return (uint32_t)size;
 }
 
 /* Writes the packet with its CRC32c to an output, and returns its size; 0 where it is taken, or larger than the output. */
-uint32_t davgyuti_seal(struct state *state, const struct header *header, uint8_t *output, uint32_t room)
+uint32_t davgyuti_seal(const struct header *header, uint8_t *output, uint32_t room)
 {
-    size_t size = 0;
-    if (!is_free(state, header))
+    const struct state *state = header->state;
+    if (state->is_taken)
         return 0;
-    if (state->size <= room) {
-        size = state->size;
-        __builtin_memcpy(output, state->packet, size);
-        dcsctp_seal(output, size);
-    }
-    leave(state);
-    return (uint32_t)size;
+    begin(header);
+    if (state->size > room)
+        return 0;
+    __builtin_memcpy(output, state->packet, state->size);
+    dcsctp_seal(output, state->size);
+    return (uint32_t)state->size;
 }

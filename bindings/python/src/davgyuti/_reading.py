@@ -7,7 +7,7 @@ from collections.abc import Callable, Iterable, Iterator
 from ctypes import byref, c_size_t, c_uint8, c_uint32
 from functools import partial
 from ipaddress import ip_address
-from itertools import chain
+from itertools import chain, repeat
 from typing import Any, TypeAlias, TypeVar
 
 from . import _library as c
@@ -83,8 +83,7 @@ def _found(data: bytes, policy: v.Policy, word: int | None) -> int:
     right, asked = (0, _LACKS_WORD) if word is None else (number(word, 0xFFFFFFFF, "word"), 0)
     if policy is not _DEFAULT:
         asked |= _asked(data, policy)
-    length = len(data)
-    found: int = bare.davgyuti_read(data, length if length <= _LARGEST else _LARGEST + 1, asked, right)
+    found: int = _call(data, min(len(data), _LARGEST + 1), asked, right)
     return found
 
 
@@ -94,12 +93,15 @@ def _fault(found: int) -> v.Fault:
 
 def read(data: bytes, policy: v.Policy, word: int | None, /) -> tuple[int, int]:
     """The word of a packet, and the number of its chunks; raises its first Fault."""
-    found = _found(data, policy, word)
+    # (in less time for most)
+    is_plain = word is None and policy is _DEFAULT and len(data) <= _LARGEST
+    found = _call(data, len(data), _LACKS_WORD, 0) if is_plain else _found(data, policy, word)
     if found & 0xFF:
         raise _fault(found)
     return found >> 32, found >> 8 & 0xFFFF
 
 
+_call = bare.davgyuti_read
 _read = read if fast is None else fast.read
 
 
@@ -403,7 +405,12 @@ def _sack(data: bytes, chunk: c.Chunk) -> v.Sack | None:
 def _sack_lists(data: bytes, chunk: Any, size: int) -> tuple[tuple[v.GapAckBlock, ...], tuple[int, ...]]:
     blocks = _list(bare.dcsctp_gap_ack_blocks, data, chunk, size, c.BLOCK)
     duplicates = _list(bare.dcsctp_duplicate_tsns, data, chunk, size, c.U32)
-    return tuple(map(_block, blocks)), tuple(chain.from_iterable(duplicates))
+    return _blocks(blocks), tuple(chain.from_iterable(duplicates))
+
+
+def _blocks(pairs: Iterator[tuple[int, ...]]) -> tuple[v.GapAckBlock, ...]:
+    # (`_make` calls the same, one by one)
+    return tuple(map(tuple.__new__, repeat(v.GapAckBlock), pairs))  # type: ignore[arg-type]
 
 
 def _shutdown(data: bytes, chunk: c.Chunk) -> v.Shutdown | None:
@@ -457,7 +464,6 @@ _BLOCK, _TSN = struct.Struct(">HH"), struct.Struct(">I")
 # The bits U, B, E and I of user data, by its flags.
 _BITS = [(bool(it & 4), bool(it & 2), bool(it & 1), bool(it & 8)) for it in range(16)]
 _new: Any = object.__new__
-_block: Any = partial(tuple.__new__, v.GapAckBlock)
 
 
 def _of_packet(data: bytes, count: int) -> tuple[v.Chunk, ...]:
@@ -500,7 +506,7 @@ def _sack_of(data: bytes, at: int, end: int, flags: int) -> v.Sack:
     it: v.Sack = _new(v.Sack)
     it.cumulative_tsn_ack, it.a_rwnd, block_count, duplicate_count = _SACK.unpack_from(data, at)
     middle = at + 16 + 4 * block_count
-    it.blocks = tuple(map(_block, _BLOCK.iter_unpack(data[at + 16 : middle])))
+    it.blocks = _blocks(_BLOCK.iter_unpack(data[at + 16 : middle]))
     it.duplicates = tuple(chain.from_iterable(_TSN.iter_unpack(data[middle : middle + 4 * duplicate_count])))
     it.offset = at
     return it

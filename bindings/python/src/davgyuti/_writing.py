@@ -2,10 +2,10 @@
 """Writing packets."""
 
 import struct
+import sys
 import threading
-import time
 from collections.abc import Callable, Iterable, Sequence
-from ctypes import byref, c_char, c_size_t, c_uint16, c_uint32, c_uint64
+from ctypes import addressof, byref, c_char, c_size_t, c_uint16, c_uint32, c_uint64
 from functools import partial
 from ipaddress import IPv4Address, IPv6Address
 from itertools import accumulate, chain, count
@@ -19,6 +19,9 @@ from ._library import bare, functions
 from ._reading import _FIRST_CHUNK, Buffer, chunk_at, fast, number, read, size, start_of, to_bytes
 
 _SMALL = 2048
+# Whether the functions of _calls.c write: without the module, and where each call of them is one step.
+_has_lock = sys.implementation.name == "cpython" and getattr(sys, "_is_gil_enabled", lambda: True)()
+_by_calls = fast is None and _has_lock
 # Places for a packet that is sealed, of those that nobody uses now.
 _outputs: list[Any] = []
 # The numbers of headers that are begun.
@@ -117,7 +120,7 @@ _REST: dict[str, Callable[[Any], bytes]] = {
 # ---- what is plain, as records for _calls.c, which has these kinds; what raises is left to others
 
 CHUNK, DATA, I_DATA, INIT, INIT_ACK, SACK, PARAMETER, NUMBER = range(8)
-_BEGIN = struct.Struct("@QI12xHH4x").pack
+_HEADER = struct.Struct("@PQIHH").pack
 _CHUNK = struct.Struct("@I3B25x").pack
 _DATA = struct.Struct("@IB3xII8xHH????").pack
 _I_DATA = struct.Struct("@IB3x4IH2x????").pack
@@ -282,7 +285,8 @@ class PacketBuilder:
     no other may add to the packet, or take a chunk back, until it is complete. `add` writes a whole list in one call."""
 
     __slots__ = (
-        *("__dict__", "__weakref__", "_at", "_begun", "_end", "_is_taken", "_last", "_limit", "_lock", "_packet", "_size", "_start"),
+        *("__dict__", "__weakref__", "_address", "_end", "_header", "_is_taken", "_last", "_limit", "_lock", "_packet", "_size", "_start"),
+        "_state",
     )
 
     def __init__(
@@ -299,23 +303,25 @@ class PacketBuilder:
         self._last: object = None
         # (What takes several steps has to be alone with the packet and its size.)
         self._lock, self._is_taken = threading.RLock(), False
-        # What _calls.c keeps, without the module, while nobody is alone with the packet; and the header, which the next call writes.
-        self._at, self._begun = byref((c_uint64 * 5)()), _BEGIN(0, 0, 0, 0)
-        if fast is None:
+        # What _calls.c keeps while nobody is alone with the packet; and the header, which the next call writes.
+        self._state = (c_uint64 * 5)()
+        self._address = addressof(self._state)
+        self._header = _HEADER(self._address, 0, 0, 0, 0)
+        if _by_calls:
             self._give()
         self.reset(source_port, destination_port, verification_tag)
 
     def reset(self, source_port: int, destination_port: int, verification_tag: int) -> None:
         """Begins another packet in the memory of the one before, which is gone, as is what was written to it; with the same
         limit. One builder for many packets takes less time than one for each."""
-        if fast is None:
+        if _by_calls:
             try:
                 if self._limit >= _FIRST_CHUNK:
-                    self._begun = _BEGIN(_next(), verification_tag, source_port, destination_port)
+                    self._header = _HEADER(self._address, _next(), verification_tag, source_port, destination_port)
                     return
             except struct.error:  # (not all have a place: what is raised says which)
                 pass
-        elif fast.begin(self, source_port, destination_port, verification_tag):
+        elif fast is not None and fast.begin(self, source_port, destination_port, verification_tag):
             return
         self._call(
             bare.dcsctp_begin,
@@ -326,7 +332,7 @@ class PacketBuilder:
 
     def _give(self) -> None:
         """Has _calls.c go on where this is."""
-        bare.davgyuti_give(self._at, self._place()[0], len(self._packet), self._size)
+        bare.davgyuti_give(self._header, self._place()[0], len(self._packet), self._size)
 
     def _place(self) -> tuple[Any, ...]:
         if self._start is None:
@@ -373,7 +379,7 @@ class PacketBuilder:
 
     def __len__(self) -> int:
         """The number of bytes."""
-        if fast is None and (length := _add_records(self._at, self._begun, b"", 0)):
+        if _by_calls and (length := _add_records(self._header, b"", 0)):
             return int(length)
         return self._size
 
@@ -384,15 +390,16 @@ class PacketBuilder:
 
     def seal(self) -> bytes:
         """Returns the packet, with its CRC32c (RFC 9260 section 6.8). More may be added, and sealed again."""
-        if fast is None:
+        sealed: bytes | None = None
+        if _by_calls:
             try:
                 output = _outputs.pop()
             except IndexError:
                 output = (c_char * _SMALL)()
-            end = _seal_into(self._at, self._begun, output, _SMALL)
-            sealed: bytes | None = output[:end] if end else None
+            if end := _seal_into(self._header, output, _SMALL):
+                sealed = output[:end]
             _outputs.append(output)
-        else:
+        elif fast is not None:
             sealed = fast.sealed(self)
         return seal(bytes(self)) if sealed is None else sealed
 
@@ -409,15 +416,15 @@ class PacketBuilder:
 
     def add(self, chunk: v.Chunk) -> None:
         """Adds a chunk of any kind, with its parameters or error causes: all of it, or nothing."""
-        if fast is None:
+        if _by_calls:
             try:
                 record = _RECORDS[type(chunk)](chunk)
             except Exception:  # (what isn't plain is left to what is below, from its beginning)
                 pass
             else:
-                if _add_records(self._at, self._begun, record, len(record)):
+                if _add_records(self._header, record, len(record)):
                     return
-        elif fast.add(self, chunk):
+        elif fast is not None and fast.add(self, chunk):
             return
         with _Alone(self):
             start, last = self._size, self._last
@@ -650,17 +657,16 @@ class _Alone:
         builder = self._builder
         builder._lock.acquire()
         self._before, builder._is_taken = builder._is_taken, True
-        if fast is None and not self._before:
-            while not (taken := bare.davgyuti_take(builder._at, builder._begun)):
-                time.sleep(0)  # (Python has no lock, and a call isn't over)
-            builder._size = taken >> 2
-            if taken & 2:
+        if _by_calls and not self._before:
+            taken = bare.davgyuti_take(builder._header)
+            builder._size = taken >> 1
+            if taken & 1:
                 builder._last = None
 
     def __exit__(self, *_: object) -> None:
         builder = self._builder
         builder._is_taken = self._before
-        if fast is None and not self._before:
+        if _by_calls and not self._before:
             builder._give()
         builder._lock.release()
 
