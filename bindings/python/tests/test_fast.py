@@ -198,6 +198,29 @@ class Module(unittest.TestCase):
             for limit in (65532, 12, 11, -1):
                 self.both(lambda it: bytes(it.PacketBuilder(*numbers, limit=limit)))
 
+    def test_steps(self) -> None:
+        def begun_again(package: ModuleType, writes: Callable[[Any, Any], object]) -> object:
+            builder = package.PacketBuilder(1, 2, 3)
+            builder.add(package.Shutdown(9))
+            error = builder.error()
+            try:
+                writes(builder, package)
+                error.cause(package.NoUserData(1))
+            except package.BadPlace as raised:
+                return str(raised), builder.seal(), len(builder)
+            return builder.seal(), bytes(builder), len(builder)
+
+        for writes in (
+            lambda builder, it: None,
+            lambda builder, it: len(builder),
+            lambda builder, it: builder.reset(4, 5, 6),
+            lambda builder, it: builder.add(it.CookieAck()),
+            lambda builder, it: builder.add(it.OperationError(())),
+            lambda builder, it: (builder.reset(4, 5, 6), builder.reset(7, 8, 9), builder.add(it.CookieAck())),
+            lambda builder, it: (builder.reset(4, 5, 6), builder.add(it.CookieEcho(bytes(3000)))),
+        ):
+            self.both(lambda it: begun_again(it, writes))
+
     def test_misused(self) -> None:
         fast: Any = _reading.fast
         for wrong in (lambda: fast.read(b""), lambda: fast.add(1), lambda: fast.begin(1), lambda: fast.chunks("a")):
