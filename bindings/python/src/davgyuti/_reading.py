@@ -512,6 +512,12 @@ def _sack_of(data: bytes, at: int, end: int, flags: int) -> v.Sack:
     return it
 
 
+def _list_of(kind: Any, data: bytes, at: int, end: int, flags: int) -> v.Heartbeat | v.HeartbeatAck | v.ReConfig:
+    it: v.Heartbeat | v.HeartbeatAck | v.ReConfig = _new(kind)
+    it.offset, it.parameters = at, _parameters_of(data, at + 4, end)
+    return it
+
+
 def _cookie_ack_of(data: bytes, at: int, end: int, flags: int) -> v.CookieAck:
     it: v.CookieAck = _new(v.CookieAck)
     it.offset = at
@@ -539,7 +545,10 @@ _OF_PACKET: dict[int, Callable[[bytes, int, int, int], v.Chunk]] = {
     v.ChunkType.INIT: partial(_init_of, v.Init),
     v.ChunkType.INIT_ACK: partial(_init_of, v.InitAck),
     v.ChunkType.SACK: _sack_of,
+    v.ChunkType.HEARTBEAT: partial(_list_of, v.Heartbeat),
+    v.ChunkType.HEARTBEAT_ACK: partial(_list_of, v.HeartbeatAck),
     v.ChunkType.COOKIE_ACK: _cookie_ack_of,
+    v.ChunkType.RE_CONFIG: partial(_list_of, v.ReConfig),
 }
 
 # ---- parameters and error causes

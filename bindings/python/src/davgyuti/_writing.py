@@ -856,12 +856,9 @@ def _not_last() -> v.BadPlace:
 
 def bytes_of(part: Any) -> bytes:
     """A chunk, a parameter or an error cause as it is written, without padding."""
-    builder = PacketBuilder(0, 0, 0)
-    add: Any = builder.add
+    builder, start = PacketBuilder(0, 0, 0), _FIRST_CHUNK
     if not isinstance(part, v._ChunkPart):
-        chunk = builder.chunk(0)
-        add = chunk.parameter if isinstance(part, v._ParameterPart) else chunk.cause
-    start = len(builder)
-    add(part)
+        part, start = (v.Heartbeat if isinstance(part, v._ParameterPart) else v.Abort)((part,)), start + 4
+    builder.add(part)
     data = bytes(builder)[start:]
     return data[: int.from_bytes(data[2:4], "big")]
