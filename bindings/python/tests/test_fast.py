@@ -179,6 +179,8 @@ class Module(unittest.TestCase):
             lambda it: it.Heartbeat((it.HeartbeatInfo(b"a"), it.RawParameter(2**16 - 1, b"abcde"), it.ZeroChecksumAcceptable(1))),
             lambda it: it.HeartbeatAck(iter((it.HeartbeatInfo(b"a"), it.HeartbeatInfo(b"bc")))),
             lambda it: it.RawChunk(255, 129, bytes(range(256))),
+            lambda it: it.Heartbeat((it.RawParameter(9),) * 16000),
+            lambda it: it.Heartbeat((it.RawParameter(9),) * 40000),
             lambda it: it.CookieEcho(bytes(3000)),
             lambda it: it.CookieEcho(bytes(65532)),
             lambda it: it.Init(1, 2, 3, 4, 5, [it.SsnTsnReset(7), it.StateCookie(b"abc")]),

@@ -128,6 +128,8 @@ _INIT = struct.Struct("@4xB3x3I4xHH4x").pack
 _SACK = struct.Struct("@IB3x4I8x").pack
 _PARAMETER = struct.Struct("@IB19xH6x").pack
 _NUMBER = struct.Struct("@4xB3xI12xH6x").pack
+# (a packet has room for fewer bytes of them)
+_MOST_RECORDS = 1 << 20
 _FILLING = b"", bytes(3), bytes(2), bytes(1)
 
 
@@ -422,7 +424,7 @@ class PacketBuilder:
             except Exception:  # (what isn't plain is left to what is below, from its beginning)
                 pass
             else:
-                if _add_records(self._header, record, len(record)):
+                if (length := len(record)) <= _MOST_RECORDS and _add_records(self._header, record, length):
                     return
         elif fast is not None and fast.add(self, chunk):
             return
