@@ -1,4 +1,4 @@
-use Rattle.std.{proofs.Common.{◌≡◌, ◌+◌, ◌/◌, [], ◌∷◌, ◌++◌, ◌∙◌, refl, arith, ap, ℕ, List, length, length-append}, specs.Int.{w16, w32}, specs.List.{flat_map}}
+use Rattle.std.{proofs.Common.{◌≡◌, ◌/◌, [], ◌∷◌, ◌++◌, ◌∙◌, refl, arith, ap, ℕ, List, length, length-append}, specs.Int.{w16, w32}, specs.List.{flat_map}}
 use Rattle.dcsctp_tlv.{specs.Image.{put}, specs.Length.{length-each}, specs.Number.{numbers}, proofs.Lengths.{length-numbers}}
 use Rattle.dcsctp_chunk.specs.Sack.{block_bytes}
 use Rattle.dcsctp_registry.proofs.registered_chunk.put_nr_sack.Goals as goal

@@ -1,6 +1,6 @@
 use Rattle.std.proofs.{Common.{◌*◌, length, refl, ◌==◌, drop-drop}, lemmas.List.{take_rest}}
 use Rattle.dcsctp_tlv.{specs.Fault.{Length}, proofs.Readings.{ok_passed}}
-use Rattle.dcsctp_chunk.specs.Sack.{numbers_at, size_of_value, read}
+use Rattle.dcsctp_chunk.specs.Sack.{numbers_at, size_of_value}
 use Rattle.dcsctp_borrowed.proofs.sack_ref.SackRef.of_checked.Goals as goal
 
 pub returns : goal.returns

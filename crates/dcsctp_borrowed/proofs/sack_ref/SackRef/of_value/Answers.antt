@@ -1,5 +1,5 @@
 use Rattle.std.proofs.Common.{length, refl, ap, ◌∙◌, eq-eqb}
-use Rattle.dcsctp_chunk.specs.Sack.{numbers_at, size_of_value, read}
+use Rattle.dcsctp_chunk.specs.Sack.{numbers_at, size_of_value}
 use Rattle.dcsctp_borrowed.proofs.sack_ref.SackRef.of_value.Goals as goal
 
 pub of_checked-requires : goal.of_checked-requires
