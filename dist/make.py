@@ -6,7 +6,8 @@ Makes the files of dist/ that take the toolchain: the LLVM modules of the C libr
 of these, by texts.py, assembly text for each system; with them copies of the headers, LICENSE and NOTICE, and MANIFEST. Whoever has the
 texts needs a C compiler and nothing else (dist/README.md).
 
-  --compare      makes them in a folder of its own, and fails where one isn't what lies in dist/, and names it
+  --compare      makes them in a folder of its own, and fails where one isn't what lies in dist/, and names it; where another
+                 toolchain of the same logic made dist/, it compares the sums of the sources alone
   --copies       makes the packages' copies of texts and other files alone, for which no toolchain is needed
   --into FOLDER  the folder, in place of dist/
   --jobs N       how many processors a proof may take, and how many texts are made at once; 1 if left out
@@ -49,6 +50,8 @@ ROOT = os.path.dirname(os.path.dirname(os.path.abspath(__file__)))
 # What `rt version` has to say. How clang is called, and what rtlib has, isn't promised for another toolchain: see
 # there whether it is as this script takes it, and then change this line.
 LOGIC = "logic dac8208d650f15bf"
+# How the line of MANIFEST begins that says which toolchain made the texts.
+TOOLCHAIN = "# toolchain "
 
 # The crate of each module.
 CRATES = {"dcsctp": "dcsctp_c", "sctp_dump": "sctp_dump", "sctp_show": "sctp_show"}
@@ -375,7 +378,7 @@ def manifest_head(tools):
     """What the texts are made from: the version, the toolchain, and the sources of each crate in them."""
     version = re.search(r'^#define DCSCTP_VERSION "(.*)"$', read(f"{ROOT}/include/dcsctp.h").decode(), re.M)[1]
     crates = {it.name: it.folder for name in CRATES.values() for it in (*tools.crates[name].below(), tools.crates[name])}
-    head = f"# dcsctp {version}; dist/README.md says how to check this\n# toolchain {tools.version}\n"
+    head = f"# dcsctp {version}; dist/README.md says how to check this\n{TOOLCHAIN}{tools.version}\n"
     return head + "".join(f"# source {source_sum(crates[it])} {it}\n" for it in sorted(crates))
 
 
@@ -397,7 +400,7 @@ def on_library(tools, name, old, logs, is_compared):
     crate = tools.crates[name]
     sources = [f"# source {source_sum(it.folder)} {it.name}" for it in (*crate.below(), crate)]
     kept, lines = verdicts_of(old, name), old.splitlines()
-    if kept and all(it in lines for it in (f"# toolchain {tools.version}", *sources)):
+    if kept and all(it in lines for it in (f"{TOOLCHAIN}{tools.version}", *sources)):
         return kept
     return fail(f"MANIFEST has no verdict on {name}; run dist/make.py") if is_compared else tools.check(name)
 
@@ -482,12 +485,18 @@ def package(is_compared):
 def make(tools, given, fresh):
     os.makedirs(fresh)
     head = manifest_head(tools)
-    if given.compare and not given.names and os.path.isfile(f"{given.into}/MANIFEST"):
+    if given.compare and os.path.isfile(f"{given.into}/MANIFEST"):
         # What needs no build comes first.
         old = read(f"{given.into}/MANIFEST").decode().splitlines()
-        changed = [it.split()[-1] if it.startswith("# source") else it[2:] for it in head.splitlines() if it not in old]
-        if changed:
+        kit = next((it[len(TOOLCHAIN):] for it in old if it.startswith(TOOLCHAIN)), None)
+        changed = [it.split()[-1] if it.startswith("# source") else it[2:] for it in head.splitlines()
+                   if it not in old and not it.startswith(TOOLCHAIN)]
+        if changed and not given.names:
             fail(f"changed since dist/ was made: {', '.join(changed)}; run dist/make.py")
+        if kit != tools.version:
+            # (another kit of the same logic proves the same, and may compile otherwise)
+            print(f"dist/make.py: the texts: left out, since they were made by {kit}, and this is {tools.version}")
+            return
     said, built = {} if given.names else on_libraries(tools, given), {}
     modules = {name: neutral(tools, name) for name in given.names or CRATES}
     for name, module in modules.items():
