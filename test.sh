@@ -7,7 +7,8 @@ usage='usage: ./test.sh [library | --quick]
 
 Runs the gate: the files that have to agree are compared; `rt ci` proves everything, and runs each program and test; each
 request for memory of what it built is refused; sctp_show is run over its rows, and sctp_dump with each option; the library
-that it proved is tried from C; the texts in dist/ are made anew, compared and tried; the commands of the pages are run; and so is
+that it proved is tried from C; the texts in dist/ are tried, and, by the toolchain that MANIFEST names alone, made anew and
+compared; the commands of the pages are run; and so is
 the page for browsers. Peers of WebRTC talk, and their packets are read. The last line is that of `rt ci`.
 
   library  what a user of the library depends on, alone: the gate without sctp_dump and the page. `rt ci` proves and tries the C

@@ -5,11 +5,3 @@ use Rattle.dcsctp_tlv.proofs.parameter.Parameter.read.Goals as goal
 pub returns-in_err-check_value-clause-answer : goal.returns-in_err-check_value-clause-answer
 returns-in_err-check_value-clause-answer c =
     row_exactly (row_lawful c.args.typ) _ c.type_inv.value (search rules)
-
-pub returns-in_err-build-clause-answer : goal.returns-in_err-build-clause-answer
-returns-in_err-build-clause-answer c =
-    row_exactly (row_lawful c.args.typ) _ c.type_inv.value (search rules)
-
-pub returns-clause-answer : goal.returns-clause-answer
-returns-clause-answer c =
-    row_exactly (row_lawful c.args.typ) _ c.type_inv.value (search rules)
