@@ -11,7 +11,7 @@ ghost use Rattle.dcsctp_borrowed.specs.declared.canonical.CanonicalError.TheVari
 use crate::laws::has_canonical;
 use crate::packet_ref::SctpPacketRef;
 use dcsctp_tlv::frame::{
-    MAX_VALUE_SIZE, TLV_HEADER_SIZE, put_bytes, put_header, put_solid, split_frame,
+    MAX_VALUE_SIZE, TLV_HEADER_SIZE, item_size, put_bytes, put_header, put_solid, split_frame,
 };
 use dcsctp_tlv::number::{read_u16_be, round_up_to_4};
 use dcsctp_wire::packet::init_chunk::InitNumbers;
@@ -158,17 +158,6 @@ fn length_field(bytes: &[u8]) -> u16
     ensures { result ≡ frame_length bytes.now }
 {
     read_u16_be(&bytes[2..])
-}
-
-/// Returns the size of an item whose value has this size; `None` if and only if two bytes can't
-/// hold it.
-fn item_size(value_size: usize) -> Option<usize>
-    ensures { Sizes result (4 + value_size < 2 ^ 16) (4 + value_size) }
-{
-    if value_size > MAX_VALUE_SIZE {
-        return None;
-    }
-    Some(TLV_HEADER_SIZE + value_size)
 }
 
 /// Returns the size of an item with a list after `leading`; `None` if and only if two bytes can't

@@ -4,7 +4,7 @@ ghost use Rattle.dcsctp_wire.specs.Chunk.{CookieEcho};
 
 use crate::widths::bytes_in_width;
 use crate::writable_chunk::WritableChunk;
-use dcsctp_tlv::frame::{MAX_VALUE_SIZE, TLV_HEADER_SIZE, put_solid};
+use dcsctp_tlv::frame::{item_size, put_solid};
 use dcsctp_wire::packet::cookie_echo_chunk::CHUNK_TYPE;
 
 /// COOKIE ECHO (RFC 9260 section 3.3.11) to be written. A reader refuses one without a cookie.
@@ -18,10 +18,7 @@ impl WritableChunk for BorrowedCookieEcho<'_> {
     ghost tree = { λ c. CookieEcho c.cookie.now };
 
     fn written_size(&self) -> Option<usize> {
-        if self.cookie.len() > MAX_VALUE_SIZE {
-            return None;
-        }
-        Some(TLV_HEADER_SIZE + self.cookie.len())
+        item_size(self.cookie.len())
     }
 
     fn write_to(&self, output: &mut [u8]) {

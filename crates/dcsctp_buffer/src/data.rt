@@ -1,7 +1,7 @@
 //! DATA, whose payload lies anywhere.
 
 ghost use Rattle.std.specs.Prelude.{◌≡◌, ◌≤◌, ◌<◌, ◌+◌, ◌^◌, ◌++◌, length};
-ghost use Rattle.dcsctp_tlv.specs.{Format.{flagged_tlv}, Image.{Sizes}};
+ghost use Rattle.dcsctp_tlv.specs.Format.{flagged_tlv};
 ghost use Rattle.dcsctp_chunk.specs.{Data.{IsInWidth}, DataChunk.{fixed as fixed_bytes}};
 ghost use Rattle.dcsctp_wire.specs.Chunk.{Data as DataTree};
 ghost use Rattle.dcsctp_buffer.specs.{Buffer.{with_item}, Data.{view}};
@@ -9,10 +9,10 @@ ghost use Rattle.dcsctp_buffer.specs.{Buffer.{with_item}, Data.{view}};
 use crate::widths::bytes_in_width;
 use crate::writable_chunk::WritableChunk;
 use dcsctp_chunk::flags::four_flags;
-use dcsctp_tlv::frame::{MAX_VALUE_SIZE, TLV_HEADER_SIZE, put_fixed_and_rest};
+use dcsctp_tlv::frame::{item_size, put_fixed_and_rest};
 use dcsctp_types::api::PpId;
 use dcsctp_types::types::{Ssn, StreamKey, Tsn};
-use dcsctp_wire::packet::data_chunk::{CHUNK_TYPE, DataNumbers, HEADER_SIZE};
+use dcsctp_wire::packet::data_chunk::{CHUNK_TYPE, DataNumbers};
 
 /// DATA (RFC 9260 section 3.3.1) to be written: a message, or a fragment of one.
 #[derive(Clone, Copy, Debug)]
@@ -57,7 +57,7 @@ impl WritableChunk for BorrowedData<'_> {
     ghost tree = { λ d. DataTree (view d) };
 
     fn written_size(&self) -> Option<usize> {
-        data_size(HEADER_SIZE, self.payload)
+        item_size(DataNumbers::SIZE + self.payload.len())
     }
 
     fn write_to(&self, output: &mut [u8]) {
@@ -72,19 +72,6 @@ impl WritableChunk for BorrowedData<'_> {
 }
 
 // ---- what DATA and I-DATA have in common
-
-/// Returns how many bytes a chunk has with a header of `header_size` bytes before its payload;
-/// `None` if two bytes can't hold this number.
-pub(crate) fn data_size(header_size: usize, payload: &[u8]) -> Option<usize>
-    requires { header_size < 2 ^ 16 }
-    ensures { Sizes result (header_size + length payload.now < 2 ^ 16)
-        (header_size + length payload.now) }
-{
-    if payload.len() > MAX_VALUE_SIZE + TLV_HEADER_SIZE - header_size {
-        return None;
-    }
-    Some(header_size + payload.len())
-}
 
 /// Writes a chunk whose value is a fixed part, and after it the payload; the bytes after it stay.
 pub(crate) fn put_data(typ: u8, flags: u8, fixed: &[u8], payload: &[u8], output: &mut [u8])

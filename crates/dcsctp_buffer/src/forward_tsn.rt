@@ -8,7 +8,7 @@ ghost use Rattle.dcsctp_buffer.specs.ForwardTsn.{view, chunk_type as type_of, st
 use crate::writable_chunk::WritableChunk;
 use dcsctp_chunk::skipped_streams::stream_has_widths;
 use dcsctp_tlv::fields::Field;
-use dcsctp_tlv::frame::{MAX_VALUE_SIZE, TLV_HEADER_SIZE, put_bytes, put_header};
+use dcsctp_tlv::frame::{TLV_HEADER_SIZE, fields_item_size, put_bytes, put_header};
 use dcsctp_tlv::skipped_stream::SkippedStream;
 use dcsctp_types::types::Tsn;
 use dcsctp_wire::packet::forward_tsn_chunk::{self, ForwardTsnNumbers, SsnStreamField};
@@ -56,11 +56,8 @@ impl<S: AsSkippedStream> WritableChunk for BorrowedForwardTsn<'_, S> {
         if !are_by_mid(self.by_mid, self.skipped_streams) {
             return None;
         }
-        let size = stream_size(self.by_mid).saturating_mul(self.skipped_streams.len());
-        if size > MAX_VALUE_SIZE - ForwardTsnNumbers::SIZE {
-            return None;
-        }
-        Some(TLV_HEADER_SIZE + ForwardTsnNumbers::SIZE + size)
+        let size = stream_size(self.by_mid);
+        fields_item_size(ForwardTsnNumbers::SIZE, size, self.skipped_streams.len())
     }
 
     fn write_to(&self, output: &mut [u8]) {

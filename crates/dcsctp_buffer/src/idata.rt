@@ -5,13 +5,14 @@ ghost use Rattle.dcsctp_chunk.specs.{Data.{IsInWidth}, IDataChunk.{fixed as fixe
 ghost use Rattle.dcsctp_wire.specs.Chunk.{IData as IDataTree};
 ghost use Rattle.dcsctp_buffer.specs.IData.{view};
 
-use crate::data::{data_size, put_data};
+use crate::data::put_data;
 use crate::widths::bytes_in_width;
 use crate::writable_chunk::WritableChunk;
 use dcsctp_chunk::flags::four_flags;
+use dcsctp_tlv::frame::item_size;
 use dcsctp_types::api::PpId;
 use dcsctp_types::types::{Fsn, Mid, StreamKey, Tsn};
-use dcsctp_wire::packet::idata_chunk::{CHUNK_TYPE, HEADER_SIZE, IDataNumbers};
+use dcsctp_wire::packet::idata_chunk::{CHUNK_TYPE, IDataNumbers};
 
 /// I-DATA (RFC 8260 section 2.1) to be written: a message, or a fragment of one.
 #[derive(Clone, Copy, Debug)]
@@ -58,7 +59,7 @@ impl WritableChunk for BorrowedIData<'_> {
     ghost tree = { λ d. IDataTree (view d) };
 
     fn written_size(&self) -> Option<usize> {
-        data_size(HEADER_SIZE, self.payload)
+        item_size(IDataNumbers::SIZE + self.payload.len())
     }
 
     fn write_to(&self, output: &mut [u8]) {

@@ -4,17 +4,14 @@ ghost use Rattle.std.specs.Prelude.{◌≡◌, ◌≤◌, ◌<◌, ◌+◌, ◌^
 ghost use Rattle.dcsctp_tlv.specs.Image.{Sizes, listed_tlv, typed_tlv};
 ghost use Rattle.dcsctp_buffer.specs.Buffer.{with_item};
 
-use dcsctp_tlv::frame::{MAX_VALUE_SIZE, TLV_HEADER_SIZE, put_header, put_parameter};
+use dcsctp_tlv::frame::{TLV_HEADER_SIZE, item_size, put_header, put_parameter};
 
 /// Returns how many bytes a chunk with one item has, with its header; `None` if two bytes can't
 /// hold this number.
 pub(crate) fn one_item_size(item_value: &[u8]) -> Option<usize>
     ensures { Sizes result (8 + length item_value.now < 2 ^ 16) (8 + length item_value.now) }
 {
-    if item_value.len() > MAX_VALUE_SIZE - TLV_HEADER_SIZE {
-        return None;
-    }
-    Some(2 * TLV_HEADER_SIZE + item_value.len())
+    item_size(TLV_HEADER_SIZE + item_value.len())
 }
 
 /// Writes such a chunk, with an item of this type; the bytes after it stay.

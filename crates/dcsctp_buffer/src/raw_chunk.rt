@@ -5,7 +5,7 @@ ghost use Rattle.dcsctp_wire.specs.Chunk.{Unknown};
 use crate::widths::bytes_in_width;
 use crate::writable_chunk::WritableChunk;
 use dcsctp_chunk::raw_chunk::RawChunk;
-use dcsctp_tlv::frame::{MAX_VALUE_SIZE, TLV_HEADER_SIZE, put_solid};
+use dcsctp_tlv::frame::{item_size, put_solid};
 
 /// A chunk of any type (RFC 9260 section 3.2), named or not: its flags and its value are written as
 /// they are.
@@ -13,10 +13,7 @@ impl WritableChunk for RawChunk<'_> {
     ghost tree = { λ r. Unknown (record { typ = r.typ; flags = r.flags; value = r.value.now }) };
 
     fn written_size(&self) -> Option<usize> {
-        if self.value.len() > MAX_VALUE_SIZE {
-            return None;
-        }
-        Some(TLV_HEADER_SIZE + self.value.len())
+        item_size(self.value.len())
     }
 
     fn write_to(&self, output: &mut [u8]) {

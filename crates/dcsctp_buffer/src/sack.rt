@@ -8,12 +8,9 @@ ghost use Rattle.dcsctp_buffer.specs.Sack.{view};
 use crate::widths::{blocks_in_width, words_in_width};
 use crate::writable_chunk::WritableChunk;
 use dcsctp_tlv::fields::put_fields;
-use dcsctp_tlv::frame::{MAX_VALUE_SIZE, TLV_HEADER_SIZE, put_bytes, put_header};
+use dcsctp_tlv::frame::{TLV_HEADER_SIZE, fields_item_size, put_bytes, put_header};
 use dcsctp_types::types::Tsn;
 use dcsctp_wire::packet::sack_chunk::{CHUNK_TYPE, GapAckBlock, SackNumbers};
-
-/// The most blocks and duplicates that two bytes of length have room for.
-const MAX_COUNT: usize = (MAX_VALUE_SIZE - SackNumbers::SIZE) / 4;
 
 /// A SACK (RFC 9260 section 3.3.4) to be written. Its blocks and duplicates are written as they
 /// are, in any order.
@@ -55,10 +52,7 @@ impl WritableChunk for BorrowedSack<'_> {
     fn written_size(&self) -> Option<usize> {
         let blocks = self.gap_ack_blocks.len();
         let duplicates = self.duplicate_tsns.len();
-        if blocks.saturating_add(duplicates) > MAX_COUNT {
-            return None;
-        }
-        Some(TLV_HEADER_SIZE + SackNumbers::SIZE + 4 * blocks + 4 * duplicates)
+        fields_item_size(SackNumbers::SIZE, 4, blocks.saturating_add(duplicates))
     }
 
     fn write_to(&self, output: &mut [u8]) {

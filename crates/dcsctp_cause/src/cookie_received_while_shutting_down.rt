@@ -13,7 +13,7 @@ ghost use Rattle.dcsctp_tlv.specs.Reading.{Exactly, reading, checking, Tested};
 ghost use Rattle.dcsctp_cause.specs.CookieReceivedWhileShuttingDown as kind;
 
 use dcsctp_tlv::error::ChunkParseError;
-use dcsctp_tlv::frame::put_parameter;
+use dcsctp_tlv::frame::{item_size, put_parameter};
 use dcsctp_tlv::parameter::raw_parameter::RawParameter;
 use dcsctp_tlv::tlv::SerializableTlv;
 use std::fmt;
@@ -69,12 +69,8 @@ impl SerializableTlv for CookieReceivedWhileShuttingDownErrorCause {
         put_parameter(CAUSE_CODE, &[], output);
     }
 
-    fn value_size(&self) -> usize {
-        0
-    }
-
-    fn encodable(&self) -> bool {
-        true
+    fn encoded_size(&self) -> Option<usize> {
+        item_size(0)
     }
 
     fn has_widths(&self) {}

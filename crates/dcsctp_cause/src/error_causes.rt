@@ -179,14 +179,6 @@ impl SerializableTlv for ErrorCause {
         kinds!(each_arms, ErrorCause, self, c => c.serialize_to(output))
     }
 
-    fn value_size(&self) -> usize {
-        kinds!(each_arms, ErrorCause, self, c => c.value_size())
-    }
-
-    fn encodable(&self) -> bool {
-        kinds!(each_arms, ErrorCause, self, c => c.encodable())
-    }
-
     fn encoded_size(&self) -> Option<usize> {
         kinds!(each_arms, ErrorCause, self, c => c.encoded_size())
     }

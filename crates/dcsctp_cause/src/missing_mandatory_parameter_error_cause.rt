@@ -19,7 +19,7 @@ ghost use Rattle.dcsctp_cause.specs.MissingMandatoryParameter as kind;
 use dcsctp_tlv::copy::copied;
 use dcsctp_tlv::error::ChunkParseError;
 use dcsctp_tlv::fields::{fields_from_bytes, put_parameter_fields};
-use dcsctp_tlv::frame::MAX_VALUE_SIZE;
+use dcsctp_tlv::frame::fields_item_size;
 use dcsctp_tlv::number::read_u32_be;
 use dcsctp_tlv::parameter::raw_parameter::RawParameter;
 use dcsctp_tlv::text::write_joined;
@@ -123,12 +123,8 @@ impl SerializableTlv for MissingMandatoryParameterErrorCause {
         put_parameter_fields::<u16>(CAUSE_CODE, &leading, types, output);
     }
 
-    fn value_size(&self) -> usize {
-        FIXED_SIZE + 2 * self.missing_parameters.len()
-    }
-
-    fn encodable(&self) -> bool {
-        self.missing_parameters.len() <= (MAX_VALUE_SIZE - FIXED_SIZE) / 2
+    fn encoded_size(&self) -> Option<usize> {
+        fields_item_size(FIXED_SIZE, 2, self.missing_parameters.len())
     }
 
     fn has_widths(&self) {

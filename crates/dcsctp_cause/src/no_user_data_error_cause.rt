@@ -15,7 +15,7 @@ ghost use Rattle.dcsctp_tlv.specs.Reading.{Exactly, reading, checking, Tested};
 ghost use Rattle.dcsctp_cause.specs.NoUserData as kind;
 
 use dcsctp_tlv::error::ChunkParseError;
-use dcsctp_tlv::frame::put_parameter;
+use dcsctp_tlv::frame::{item_size, put_parameter};
 use dcsctp_tlv::number::read_u32_be;
 use dcsctp_tlv::parameter::raw_parameter::RawParameter;
 use dcsctp_tlv::tlv::SerializableTlv;
@@ -79,12 +79,8 @@ impl SerializableTlv for NoUserDataErrorCause {
         put_parameter(CAUSE_CODE, &self.tsn.0.to_be_bytes(), output);
     }
 
-    fn value_size(&self) -> usize {
-        4
-    }
-
-    fn encodable(&self) -> bool {
-        true
+    fn encoded_size(&self) -> Option<usize> {
+        item_size(4)
     }
 
     fn has_widths(&self) {

@@ -17,7 +17,7 @@ ghost use Rattle.dcsctp_cause.specs.ProtocolViolation as kind;
 use crate::text::{is_text, text_or};
 use dcsctp_tlv::copy::copied_text;
 use dcsctp_tlv::error::ChunkParseError;
-use dcsctp_tlv::frame::{MAX_VALUE_SIZE, put_parameter};
+use dcsctp_tlv::frame::{item_size, put_parameter};
 use dcsctp_tlv::parameter::raw_parameter::RawParameter;
 use dcsctp_tlv::tlv::SerializableTlv;
 use std::alloc::{AllocError, Global};
@@ -82,12 +82,8 @@ impl SerializableTlv for ProtocolViolationErrorCause {
         put_parameter(CAUSE_CODE, self.information.as_bytes(), output);
     }
 
-    fn value_size(&self) -> usize {
-        self.information.len()
-    }
-
-    fn encodable(&self) -> bool {
-        self.information.len() <= MAX_VALUE_SIZE
+    fn encoded_size(&self) -> Option<usize> {
+        item_size(self.information.len())
     }
 
     fn has_widths(&self) {

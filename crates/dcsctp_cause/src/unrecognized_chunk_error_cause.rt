@@ -17,7 +17,7 @@ ghost use Rattle.dcsctp_cause.specs.UnrecognizedChunk as kind;
 
 use dcsctp_tlv::copy::copied;
 use dcsctp_tlv::error::ChunkParseError;
-use dcsctp_tlv::frame::{MAX_VALUE_SIZE, put_parameter};
+use dcsctp_tlv::frame::{item_size, put_parameter};
 use dcsctp_tlv::parameter::raw_parameter::RawParameter;
 use dcsctp_tlv::tlv::SerializableTlv;
 use dcsctp_tlv::widths::are_bytes;
@@ -71,12 +71,8 @@ impl SerializableTlv for UnrecognizedChunkErrorCause {
         put_parameter(CAUSE_CODE, &self.chunk, output);
     }
 
-    fn value_size(&self) -> usize {
-        self.chunk.len()
-    }
-
-    fn encodable(&self) -> bool {
-        self.chunk.len() <= MAX_VALUE_SIZE
+    fn encoded_size(&self) -> Option<usize> {
+        item_size(self.chunk.len())
     }
 
     fn has_widths(&self) {

@@ -17,7 +17,7 @@ ghost use Rattle.dcsctp_cause.specs.UserInitiatedAbort as kind;
 use crate::text::{is_text, text_or};
 use dcsctp_tlv::copy::copied_text;
 use dcsctp_tlv::error::ChunkParseError;
-use dcsctp_tlv::frame::{MAX_VALUE_SIZE, put_parameter};
+use dcsctp_tlv::frame::{item_size, put_parameter};
 use dcsctp_tlv::parameter::raw_parameter::RawParameter;
 use dcsctp_tlv::tlv::SerializableTlv;
 use std::alloc::{AllocError, Global};
@@ -80,12 +80,8 @@ impl SerializableTlv for UserInitiatedAbortErrorCause {
         put_parameter(CAUSE_CODE, self.reason.as_bytes(), output);
     }
 
-    fn value_size(&self) -> usize {
-        self.reason.len()
-    }
-
-    fn encodable(&self) -> bool {
-        self.reason.len() <= MAX_VALUE_SIZE
+    fn encoded_size(&self) -> Option<usize> {
+        item_size(self.reason.len())
     }
 
     fn has_widths(&self) {

@@ -28,7 +28,7 @@ use crate::flags::is_set;
 use crate::raw_chunk::RawChunk;
 use dcsctp_tlv::copy::copied;
 use dcsctp_tlv::error::ChunkParseError;
-use dcsctp_tlv::frame::{MAX_VALUE_SIZE, TLV_HEADER_SIZE, put_fixed_and_rest};
+use dcsctp_tlv::frame::{TLV_HEADER_SIZE, item_size, put_fixed_and_rest};
 use dcsctp_tlv::number::{put_u16, put_u32, read_u16_be, read_u32_be};
 use dcsctp_tlv::tlv::SerializableTlv;
 use dcsctp_types::api::{PpId, StreamId};
@@ -229,12 +229,8 @@ impl SerializableTlv for IDataChunk {
         );
     }
 
-    fn value_size(&self) -> usize {
-        IDataNumbers::SIZE + self.user_data.payload.len()
-    }
-
-    fn encodable(&self) -> bool {
-        self.user_data.payload.len() <= MAX_VALUE_SIZE - IDataNumbers::SIZE
+    fn encoded_size(&self) -> Option<usize> {
+        item_size(IDataNumbers::SIZE + self.user_data.payload.len())
     }
 
     fn has_widths(&self) {

@@ -26,7 +26,7 @@ use crate::raw_chunk::RawChunk;
 use crate::skipped_streams::{are_by_mid, streams_have_widths};
 use dcsctp_tlv::error::ChunkParseError;
 use dcsctp_tlv::fields::{Field, fields_from_bytes, put_numbers_and_fields};
-use dcsctp_tlv::frame::MAX_VALUE_SIZE;
+use dcsctp_tlv::frame::fields_item_size;
 use dcsctp_tlv::number::{put_u16, put_u32, read_u16_be, read_u32_be, write_u16_be};
 use dcsctp_tlv::skipped_stream::SkippedStream;
 use dcsctp_tlv::tlv::SerializableTlv;
@@ -167,15 +167,11 @@ impl SerializableTlv for IForwardTsnChunk {
         );
     }
 
-    fn value_size(&self) -> usize {
-        ForwardTsnNumbers::SIZE + 8 * self.skipped_streams.len()
-    }
-
-    fn encodable(&self) -> bool {
+    fn encoded_size(&self) -> Option<usize> {
         if !are_by_mid(true, &self.skipped_streams) {
-            return false;
+            return None;
         }
-        self.skipped_streams.len() <= (MAX_VALUE_SIZE - ForwardTsnNumbers::SIZE) / 8
+        fields_item_size(ForwardTsnNumbers::SIZE, 8, self.skipped_streams.len())
     }
 
     fn has_widths(&self) {

@@ -25,7 +25,7 @@ ghost use Rattle.dcsctp_chunk.specs.Sack as kind;
 use crate::raw_chunk::RawChunk;
 use dcsctp_tlv::error::ChunkParseError;
 use dcsctp_tlv::fields::{Field, fields_from_bytes, put_fields};
-use dcsctp_tlv::frame::{MAX_VALUE_SIZE, TLV_HEADER_SIZE, put_bytes, put_header};
+use dcsctp_tlv::frame::{TLV_HEADER_SIZE, fields_item_size, put_bytes, put_header};
 use dcsctp_tlv::number::{put_u16, put_u32, read_u32_be, write_u16_be};
 use dcsctp_tlv::tlv::SerializableTlv;
 use dcsctp_tlv::widths::{Widths, are_in_width};
@@ -282,14 +282,10 @@ impl SerializableTlv for SackChunk {
         put_fields::<Tsn>(output, after_blocks, &self.duplicate_tsns);
     }
 
-    fn value_size(&self) -> usize {
-        SackNumbers::SIZE + 4 * self.gap_ack_blocks.len() + 4 * self.duplicate_tsns.len()
-    }
-
-    fn encodable(&self) -> bool {
+    fn encoded_size(&self) -> Option<usize> {
         let blocks = self.gap_ack_blocks.len();
         let duplicates = self.duplicate_tsns.len();
-        blocks.saturating_add(duplicates) <= (MAX_VALUE_SIZE - SackNumbers::SIZE) / 4
+        fields_item_size(SackNumbers::SIZE, 4, blocks.saturating_add(duplicates))
     }
 
     fn has_widths(&self) {

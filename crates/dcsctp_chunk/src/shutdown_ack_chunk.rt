@@ -14,7 +14,7 @@ ghost use Rattle.dcsctp_chunk.specs.ShutdownAck as kind;
 
 use crate::raw_chunk::RawChunk;
 use dcsctp_tlv::error::ChunkParseError;
-use dcsctp_tlv::frame::put_solid;
+use dcsctp_tlv::frame::{item_size, put_solid};
 use dcsctp_tlv::tlv::SerializableTlv;
 use std::fmt;
 
@@ -69,12 +69,8 @@ impl SerializableTlv for ShutdownAckChunk {
         put_solid(CHUNK_TYPE, 0, &[], output);
     }
 
-    fn value_size(&self) -> usize {
-        0
-    }
-
-    fn encodable(&self) -> bool {
-        true
+    fn encoded_size(&self) -> Option<usize> {
+        item_size(0)
     }
 
     fn has_widths(&self) {}

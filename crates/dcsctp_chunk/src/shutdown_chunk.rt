@@ -16,7 +16,7 @@ ghost use Rattle.dcsctp_chunk.specs.Shutdown as kind;
 
 use crate::raw_chunk::RawChunk;
 use dcsctp_tlv::error::ChunkParseError;
-use dcsctp_tlv::frame::put_solid;
+use dcsctp_tlv::frame::{item_size, put_solid};
 use dcsctp_tlv::number::read_u32_be;
 use dcsctp_tlv::tlv::SerializableTlv;
 use dcsctp_tlv::widths::Widths;
@@ -84,12 +84,8 @@ impl SerializableTlv for ShutdownChunk {
         );
     }
 
-    fn value_size(&self) -> usize {
-        4
-    }
-
-    fn encodable(&self) -> bool {
-        true
+    fn encoded_size(&self) -> Option<usize> {
+        item_size(4)
     }
 
     fn has_widths(&self) {

@@ -15,7 +15,7 @@ ghost use Rattle.dcsctp_chunk.specs.ShutdownComplete as kind;
 use crate::flags::{is_set, one_flag};
 use crate::raw_chunk::RawChunk;
 use dcsctp_tlv::error::ChunkParseError;
-use dcsctp_tlv::frame::put_solid;
+use dcsctp_tlv::frame::{item_size, put_solid};
 use dcsctp_tlv::tlv::SerializableTlv;
 use std::fmt;
 
@@ -80,12 +80,8 @@ impl SerializableTlv for ShutdownCompleteChunk {
         put_solid(CHUNK_TYPE, one_flag(self.tag_reflected), &[], output);
     }
 
-    fn value_size(&self) -> usize {
-        0
-    }
-
-    fn encodable(&self) -> bool {
-        true
+    fn encoded_size(&self) -> Option<usize> {
+        item_size(0)
     }
 
     fn has_widths(&self) {}

@@ -17,7 +17,7 @@ ghost use Rattle.dcsctp_chunk.specs.Unknown as kind;
 use crate::raw_chunk::RawChunk;
 use dcsctp_tlv::copy::copied;
 use dcsctp_tlv::error::ChunkParseError;
-use dcsctp_tlv::frame::{MAX_VALUE_SIZE, put_solid};
+use dcsctp_tlv::frame::{item_size, put_solid};
 use dcsctp_tlv::tlv::SerializableTlv;
 use dcsctp_tlv::widths::are_bytes;
 use std::alloc::{AllocError, Global};
@@ -66,12 +66,8 @@ impl SerializableTlv for UnknownChunk {
         put_solid(self.typ, self.flags, &self.value, output);
     }
 
-    fn value_size(&self) -> usize {
-        self.value.len()
-    }
-
-    fn encodable(&self) -> bool {
-        self.value.len() <= MAX_VALUE_SIZE
+    fn encoded_size(&self) -> Option<usize> {
+        item_size(self.value.len())
     }
 
     fn has_widths(&self) {

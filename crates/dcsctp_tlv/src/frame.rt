@@ -1,7 +1,7 @@
 //! The frame of an item: a header of four bytes, and a value (RFC 9260 section 3.2).
 
-ghost use Rattle.std.specs.Prelude.{◌≡◌, ◌≤◌, ◌<◌, ◌+◌, ◌^◌, ◌++◌, ◌↔◌, length, drop, IsOk, IfOk, IfErr};
-ghost use Rattle.dcsctp_tlv.specs.{Frame.{padding_size, are_zeros as are_zero_bytes, first_nonzero as first_nonzero_byte, header, BeginsWithFrame, frame_length, frame_value, frame_padding, frame_rest}, Format.{flagged_tlv}, Image.{put, solid_tlv, typed_tlv, image_of, written}, declared.error.ChunkParseError.TheVariants.{InvalidLength}};
+ghost use Rattle.std.specs.Prelude.{◌≡◌, ◌≤◌, ◌<◌, ◌+◌, ◌*◌, ◌^◌, ◌++◌, ◌↔◌, length, drop, IsOk, IfOk, IfErr};
+ghost use Rattle.dcsctp_tlv.specs.{Frame.{padding_size, are_zeros as are_zero_bytes, first_nonzero as first_nonzero_byte, header, BeginsWithFrame, frame_length, frame_value, frame_padding, frame_rest}, Format.{flagged_tlv}, Image.{Sizes, put, solid_tlv, typed_tlv, image_of, written}, declared.error.ChunkParseError.TheVariants.{InvalidLength}};
 
 use crate::error::ChunkParseError;
 use crate::number::{read_u16_be, round_up_to_4, write_u16_be};
@@ -93,6 +93,32 @@ pub fn padding_fault(bytes: &[u8]) -> usize
 {
     let (_, there) = padding_parts(bytes);
     frame_length(bytes) + first_nonzero(there)
+}
+
+/// Returns the size in bytes of an item whose value has this size; `None` if and only if two bytes
+/// can't hold it.
+pub fn item_size(value_size: usize) -> Option<usize>
+    ensures { Sizes result (4 + value_size < 2 ^ 16) (4 + value_size) }
+{
+    if value_size > MAX_VALUE_SIZE {
+        return None;
+    }
+    Some(TLV_HEADER_SIZE + value_size)
+}
+
+/// Returns the size in bytes of an item whose value is `leading` bytes, and after them `count`
+/// fields of `size` bytes each; `None` if and only if two bytes can't hold it.
+#[inline(always)]
+pub fn fields_item_size(leading: usize, size: usize, count: usize) -> Option<usize>
+    requires { leading ≤ 65531 }
+    ensures { Sizes result (4 + (leading + size * count) < 2 ^ 16)
+        (4 + (leading + size * count)) }
+{
+    let fields = size.saturating_mul(count);
+    if fields > MAX_VALUE_SIZE - leading {
+        return None;
+    }
+    Some(TLV_HEADER_SIZE + leading + fields)
 }
 
 /// Writes a header into the first four bytes; the bytes after them stay.

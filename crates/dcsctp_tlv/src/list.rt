@@ -4,7 +4,7 @@
 ghost use Rattle.std.specs.Prelude.{◌≡◌, ◌≤◌, ◌<◌, ◌+◌, ◌^◌, ◌↔◌, length, map, IsTrue};
 ghost use Rattle.dcsctp_tlv.specs.{Format.{tlv_by}, Image.{written, image_of, size_of, IsEncodable, Sizes, list_image, list_size, listed_tlv, IsListEncodable}};
 
-use crate::frame::{MAX_VALUE_SIZE, TLV_HEADER_SIZE, frame_length, put_header};
+use crate::frame::{MAX_VALUE_SIZE, TLV_HEADER_SIZE, frame_length, item_size, put_header};
 use crate::number::round_up_to_4;
 use crate::tlv::{ListedTlv, SerializableTlv};
 
@@ -39,11 +39,7 @@ pub fn list_size<T: SerializableTlv>(list: &[T]) -> usize
     requires { IsListEncodable (tlv_by T.format) T.placed list.now }
     ensures { result ≡ list_size (tlv_by T.format) list.now }
 {
-    let mut size: usize = 0;
-    for item in list {
-        size = round_up_to_4(size) + item.serialized_size();
-    }
-    size
+    encoded_list_size(list).unwrap()
 }
 
 /// Writes the list at the front of `output`, and returns its bytes. The bytes between items, and
@@ -65,22 +61,6 @@ pub fn put_list<T: SerializableTlv>(list: &[T], output: &mut [u8]) -> usize
     end
 }
 
-/// Returns whether the list can be written in one value after `leading` bytes.
-pub fn listed_encodable<T: ListedTlv>(leading: usize, list: &[T]) -> bool
-    requires { leading ≤ MAX_VALUE_SIZE }
-    ensures { IsTrue result ↔ 4 + (leading + list_size T.tree_tlv (map T.view list.now)) < 2 ^ 16 }
-{
-    listed_encoded_size(leading, list).is_some()
-}
-
-/// Returns the size in bytes of a value with the list after `leading` bytes.
-pub fn listed_size<T: ListedTlv>(leading: usize, list: &[T]) -> usize
-    requires { 4 + (leading + list_size T.tree_tlv (map T.view list.now)) < 2 ^ 16 }
-    ensures { result ≡ leading + list_size T.tree_tlv (map T.view list.now) }
-{
-    leading + list_size(list)
-}
-
 /// Returns the size in bytes of an item whose value is the list after `leading` bytes; `None` if it
 /// can't be written.
 pub fn listed_encoded_size<T: ListedTlv>(leading: usize, list: &[T]) -> Option<usize>
@@ -88,13 +68,10 @@ pub fn listed_encoded_size<T: ListedTlv>(leading: usize, list: &[T]) -> Option<u
     ensures { Sizes result (4 + (leading + list_size T.tree_tlv (map T.view list.now)) < 2 ^ 16)
         (4 + (leading + list_size T.tree_tlv (map T.view list.now))) }
 {
-    let Some(size) = encoded_list_size(list) else {
-        return None;
-    };
-    if size > MAX_VALUE_SIZE - leading {
-        return None;
+    match encoded_list_size(list) {
+        Some(size) => item_size(leading + size),
+        None => None,
     }
-    Some(TLV_HEADER_SIZE + leading + size)
 }
 
 /// Writes an item whose value begins with these bytes, and after them is the list.

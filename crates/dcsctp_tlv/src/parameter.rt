@@ -236,14 +236,6 @@ impl SerializableTlv for Parameter {
         kinds!(each_arms, Parameter, self, p => p.serialize_to(output))
     }
 
-    fn value_size(&self) -> usize {
-        kinds!(each_arms, Parameter, self, p => p.value_size())
-    }
-
-    fn encodable(&self) -> bool {
-        kinds!(each_arms, Parameter, self, p => p.encodable())
-    }
-
     fn encoded_size(&self) -> Option<usize> {
         kinds!(each_arms, Parameter, self, p => p.encoded_size())
     }

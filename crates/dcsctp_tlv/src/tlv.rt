@@ -3,6 +3,8 @@
 ghost use Rattle.std.specs.Prelude.{◌≡◌, ◌≤◌, ◌+◌, ◌↔◌, length, IsTrue};
 ghost use Rattle.dcsctp_tlv.specs.{Format.{Format}, Image.{Tlv, size_of, image_of, IsEncodable, Sizes, written}};
 
+use crate::frame::TLV_HEADER_SIZE;
+
 /// A chunk, a parameter or an error cause that can be sized and written.
 ///
 /// No call takes memory or is refused.
@@ -22,11 +24,19 @@ pub trait SerializableTlv {
         requires room { size_of (format self.now).tlv ≤ length output.old }
         ensures { output.new ≡ written (image_of (format self.now).tlv) output.old };
 
-    /// Returns how many bytes its value has.
-    fn value_size(&self) -> usize
-        requires placed { placed self.now }
-        requires encodable { IsEncodable (format self.now).tlv }
-        ensures { 4 + result ≡ size_of (format self.now).tlv };
+    /// Returns how many bytes its header and its value have, without padding after it; `None` if it
+    /// can't be written: one of its fields has no place, or two bytes can't hold its size.
+    fn encoded_size(&self) -> Option<usize>
+        ensures { Sizes result (placed self.now × IsEncodable (format self.now).tlv)
+            (size_of (format self.now).tlv) };
+
+    /// Returns whether it can be written: each of its fields has a place, and two bytes can hold
+    /// its size.
+    fn encodable(&self) -> bool
+        ensures { IsTrue result ↔ (placed self.now × IsEncodable (format self.now).tlv) }
+    {
+        self.encoded_size().is_some()
+    }
 
     /// Returns how many bytes its header and its value have, without padding after it.
     fn serialized_size(&self) -> usize
@@ -34,23 +44,16 @@ pub trait SerializableTlv {
         requires encodable { IsEncodable (format self.now).tlv }
         ensures { result ≡ size_of (format self.now).tlv }
     {
-        4 + self.value_size()
+        self.encoded_size().unwrap()
     }
 
-    /// Returns whether it can be written: each of its fields has a place, and two bytes can hold
-    /// its size.
-    fn encodable(&self) -> bool
-        ensures { IsTrue result ↔ (placed self.now × IsEncodable (format self.now).tlv) };
-
-    /// Returns its `serialized_size` if it is `encodable`, else `None`.
-    fn encoded_size(&self) -> Option<usize>
-        ensures { Sizes result (placed self.now × IsEncodable (format self.now).tlv)
-            (size_of (format self.now).tlv) }
+    /// Returns how many bytes its value has.
+    fn value_size(&self) -> usize
+        requires placed { placed self.now }
+        requires encodable { IsEncodable (format self.now).tlv }
+        ensures { 4 + result ≡ size_of (format self.now).tlv }
     {
-        if !self.encodable() {
-            return None;
-        }
-        Some(self.serialized_size())
+        self.serialized_size() - TLV_HEADER_SIZE
     }
 
     /// Proves that every number lies in its field's width, and every text is UTF-8, by their types.

@@ -18,7 +18,7 @@ ghost use Rattle.dcsctp_tlv.specs.AddStreamsRequest as request;
 ghost use Rattle.dcsctp_tlv.specs.AddOutgoingStreamsRequest as kind;
 
 use crate::error::ChunkParseError;
-use crate::frame::put_parameter;
+use crate::frame::{item_size, put_parameter};
 use crate::parameter::add_streams_request::AddStreamsNumbers;
 use crate::parameter::raw_parameter::RawParameter;
 use crate::tlv::SerializableTlv;
@@ -89,12 +89,8 @@ impl SerializableTlv for AddOutgoingStreamsRequestParameter {
         put_parameter(PARAMETER_TYPE, &numbers.bytes(), output);
     }
 
-    fn value_size(&self) -> usize {
-        AddStreamsNumbers::SIZE
-    }
-
-    fn encodable(&self) -> bool {
-        true
+    fn encoded_size(&self) -> Option<usize> {
+        item_size(AddStreamsNumbers::SIZE)
     }
 
     fn has_widths(&self) {

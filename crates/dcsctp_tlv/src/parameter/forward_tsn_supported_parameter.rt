@@ -13,7 +13,7 @@ ghost use Rattle.dcsctp_tlv.specs.Reading.{Exactly, reading, checking, Tested};
 ghost use Rattle.dcsctp_tlv.specs.ForwardTsnSupported as kind;
 
 use crate::error::ChunkParseError;
-use crate::frame::put_parameter;
+use crate::frame::{item_size, put_parameter};
 use crate::parameter::raw_parameter::RawParameter;
 use crate::tlv::SerializableTlv;
 use std::fmt;
@@ -70,12 +70,8 @@ impl SerializableTlv for ForwardTsnSupportedParameter {
         put_parameter(PARAMETER_TYPE, &[], output);
     }
 
-    fn value_size(&self) -> usize {
-        0
-    }
-
-    fn encodable(&self) -> bool {
-        true
+    fn encoded_size(&self) -> Option<usize> {
+        item_size(0)
     }
 
     fn has_widths(&self) {}

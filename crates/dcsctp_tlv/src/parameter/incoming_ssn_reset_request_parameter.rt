@@ -18,7 +18,7 @@ ghost use Rattle.dcsctp_tlv.specs.IncomingSsnResetRequest as kind;
 
 use crate::error::ChunkParseError;
 use crate::fields::{fields_from_bytes, put_parameter_fields};
-use crate::frame::MAX_VALUE_SIZE;
+use crate::frame::fields_item_size;
 use crate::parameter::raw_parameter::RawParameter;
 use crate::parameter::request_numbers::RequestNumbers;
 use crate::tlv::SerializableTlv;
@@ -99,12 +99,8 @@ impl SerializableTlv for IncomingSsnResetRequestParameter {
         put_parameter_fields::<StreamId>(PARAMETER_TYPE, &words, &self.streams, output);
     }
 
-    fn value_size(&self) -> usize {
-        RequestNumbers::SIZE + 2 * self.streams.len()
-    }
-
-    fn encodable(&self) -> bool {
-        self.streams.len() <= (MAX_VALUE_SIZE - RequestNumbers::SIZE) / 2
+    fn encoded_size(&self) -> Option<usize> {
+        fields_item_size(RequestNumbers::SIZE, 2, self.streams.len())
     }
 
     fn has_widths(&self) {

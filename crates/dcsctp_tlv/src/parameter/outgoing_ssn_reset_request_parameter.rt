@@ -22,7 +22,7 @@ ghost use Rattle.dcsctp_tlv.specs.OutgoingSsnResetRequest as kind;
 
 use crate::error::ChunkParseError;
 use crate::fields::{fields_from_bytes, put_parameter_fields};
-use crate::frame::MAX_VALUE_SIZE;
+use crate::frame::fields_item_size;
 use crate::number::read_u32_be;
 use crate::parameter::raw_parameter::RawParameter;
 use crate::tlv::SerializableTlv;
@@ -172,12 +172,8 @@ impl SerializableTlv for OutgoingSsnResetRequestParameter {
         put_parameter_fields::<StreamId>(PARAMETER_TYPE, &leading, &self.streams, output);
     }
 
-    fn value_size(&self) -> usize {
-        OutgoingSsnResetRequestNumbers::SIZE + 2 * self.streams.len()
-    }
-
-    fn encodable(&self) -> bool {
-        self.streams.len() <= (MAX_VALUE_SIZE - OutgoingSsnResetRequestNumbers::SIZE) / 2
+    fn encoded_size(&self) -> Option<usize> {
+        fields_item_size(OutgoingSsnResetRequestNumbers::SIZE, 2, self.streams.len())
     }
 
     fn has_widths(&self) {

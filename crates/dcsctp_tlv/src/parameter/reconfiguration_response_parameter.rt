@@ -22,6 +22,7 @@ ghost use Rattle.dcsctp_tlv.specs.ReconfigurationResponse as kind;
 
 use crate::error::ChunkParseError;
 use crate::fields::put_parameter_fields;
+use crate::frame::item_size;
 use crate::number::read_u32_be;
 use crate::parameter::raw_parameter::RawParameter;
 use crate::tlv::SerializableTlv;
@@ -235,15 +236,11 @@ impl SerializableTlv for ReconfigurationResponseParameter {
         }
     }
 
-    fn value_size(&self) -> usize {
+    fn encoded_size(&self) -> Option<usize> {
         match (self.sender_next_tsn, self.receiver_next_tsn) {
-            (Some(_), Some(_)) => ReconfigurationResponseNumbers::SIZE_WITH_NEXT_TSNS,
-            _ => ReconfigurationResponseNumbers::SIZE,
+            (Some(_), Some(_)) => item_size(ReconfigurationResponseNumbers::SIZE_WITH_NEXT_TSNS),
+            _ => item_size(ReconfigurationResponseNumbers::SIZE),
         }
-    }
-
-    fn encodable(&self) -> bool {
-        true
     }
 
     fn has_widths(&self) {

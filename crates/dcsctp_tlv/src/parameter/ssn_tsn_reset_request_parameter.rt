@@ -15,7 +15,7 @@ ghost use Rattle.dcsctp_tlv.specs.Reading.{Exactly, reading, checking, Tested};
 ghost use Rattle.dcsctp_tlv.specs.SsnTsnResetRequest as kind;
 
 use crate::error::ChunkParseError;
-use crate::frame::put_parameter;
+use crate::frame::{item_size, put_parameter};
 use crate::parameter::raw_parameter::RawParameter;
 use crate::parameter::request_numbers::RequestNumbers;
 use crate::tlv::SerializableTlv;
@@ -78,12 +78,8 @@ impl SerializableTlv for SsnTsnResetRequestParameter {
         put_parameter(PARAMETER_TYPE, &self.request_seq_nbr.to_be_bytes(), output);
     }
 
-    fn value_size(&self) -> usize {
-        RequestNumbers::SIZE
-    }
-
-    fn encodable(&self) -> bool {
-        true
+    fn encoded_size(&self) -> Option<usize> {
+        item_size(RequestNumbers::SIZE)
     }
 
     fn has_widths(&self) {

@@ -16,7 +16,7 @@ ghost use Rattle.dcsctp_tlv.specs.StateCookie as kind;
 
 use crate::copy::copied;
 use crate::error::ChunkParseError;
-use crate::frame::{MAX_VALUE_SIZE, put_parameter};
+use crate::frame::{item_size, put_parameter};
 use crate::parameter::raw_parameter::RawParameter;
 use crate::tlv::SerializableTlv;
 use crate::widths::are_bytes;
@@ -71,12 +71,8 @@ impl SerializableTlv for StateCookieParameter {
         put_parameter(PARAMETER_TYPE, &self.cookie, output);
     }
 
-    fn value_size(&self) -> usize {
-        self.cookie.len()
-    }
-
-    fn encodable(&self) -> bool {
-        self.cookie.len() <= MAX_VALUE_SIZE
+    fn encoded_size(&self) -> Option<usize> {
+        item_size(self.cookie.len())
     }
 
     fn has_widths(&self) {

@@ -16,7 +16,7 @@ ghost use Rattle.dcsctp_tlv.specs.SupportedExtensions as kind;
 
 use crate::copy::copied;
 use crate::error::ChunkParseError;
-use crate::frame::{MAX_VALUE_SIZE, put_parameter};
+use crate::frame::{item_size, put_parameter};
 use crate::parameter::raw_parameter::RawParameter;
 use crate::text::write_joined;
 use crate::tlv::SerializableTlv;
@@ -72,12 +72,8 @@ impl SerializableTlv for SupportedExtensionsParameter {
         put_parameter(PARAMETER_TYPE, &self.chunk_types, output);
     }
 
-    fn value_size(&self) -> usize {
-        self.chunk_types.len()
-    }
-
-    fn encodable(&self) -> bool {
-        self.chunk_types.len() <= MAX_VALUE_SIZE
+    fn encoded_size(&self) -> Option<usize> {
+        item_size(self.chunk_types.len())
     }
 
     fn has_widths(&self) {

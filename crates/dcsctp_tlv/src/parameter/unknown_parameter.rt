@@ -16,7 +16,7 @@ ghost use Rattle.dcsctp_tlv.specs.UnknownParameter as kind;
 
 use crate::copy::copied;
 use crate::error::ChunkParseError;
-use crate::frame::{MAX_VALUE_SIZE, put_parameter};
+use crate::frame::{item_size, put_parameter};
 use crate::parameter::raw_parameter::RawParameter;
 use crate::tlv::SerializableTlv;
 use crate::widths::are_bytes;
@@ -72,12 +72,8 @@ impl SerializableTlv for UnknownParameter {
         put_parameter(self.typ, &self.value, output);
     }
 
-    fn value_size(&self) -> usize {
-        self.value.len()
-    }
-
-    fn encodable(&self) -> bool {
-        self.value.len() <= MAX_VALUE_SIZE
+    fn encoded_size(&self) -> Option<usize> {
+        item_size(self.value.len())
     }
 
     fn has_widths(&self) {

@@ -15,7 +15,7 @@ ghost use Rattle.dcsctp_tlv.specs.Reading.{Exactly, reading, checking, Tested};
 ghost use Rattle.dcsctp_tlv.specs.ZeroChecksumAcceptable as kind;
 
 use crate::error::ChunkParseError;
-use crate::frame::put_parameter;
+use crate::frame::{item_size, put_parameter};
 use crate::number::read_u32_be;
 use crate::parameter::raw_parameter::RawParameter;
 use crate::tlv::SerializableTlv;
@@ -79,12 +79,8 @@ impl SerializableTlv for ZeroChecksumAcceptableParameter {
         put_parameter(PARAMETER_TYPE, &self.method.0.to_be_bytes(), output);
     }
 
-    fn value_size(&self) -> usize {
-        4
-    }
-
-    fn encodable(&self) -> bool {
-        true
+    fn encoded_size(&self) -> Option<usize> {
+        item_size(4)
     }
 
     fn has_widths(&self) {

@@ -21,7 +21,7 @@ use dcsctp_chunk::flags::{is_set, one_flag};
 use dcsctp_chunk::raw_chunk::RawChunk;
 use dcsctp_tlv::error::{ChunkParseError, LocatedFault};
 use dcsctp_tlv::kind::Kind;
-use dcsctp_tlv::list::{listed_encodable, listed_encoded_size, listed_size, put_listed};
+use dcsctp_tlv::list::{listed_encoded_size, put_listed};
 use dcsctp_tlv::reader::listed_check;
 use dcsctp_tlv::tlv::SerializableTlv;
 use dcsctp_tlv::widths::are_in_width;
@@ -113,14 +113,6 @@ impl SerializableTlv for AbortChunk {
     fn serialize_to(&self, output: &mut [u8]) {
         let flags = one_flag(self.tag_reflected);
         put_listed(CHUNK_TYPE, flags, &[], &self.error_causes, output);
-    }
-
-    fn value_size(&self) -> usize {
-        listed_size(0, &self.error_causes)
-    }
-
-    fn encodable(&self) -> bool {
-        listed_encodable(0, &self.error_causes)
     }
 
     fn encoded_size(&self) -> Option<usize> {

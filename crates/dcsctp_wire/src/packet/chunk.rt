@@ -227,7 +227,6 @@ impl Chunk {
     }
 
     /// Appends a chunk with a list, or an unknown one.
-    #[tactic(auto, using(crate::proofs::Filled::filled))]
     fn other_onto(
         list: &mut Vec<Self>,
         alloc: Global,
@@ -328,14 +327,6 @@ impl SerializableTlv for Chunk {
     #[inline(never)]
     fn serialize_to(&self, output: &mut [u8]) {
         kinds!(each_arms, Chunk, self, c => c.serialize_to(output))
-    }
-
-    fn value_size(&self) -> usize {
-        kinds!(each_arms, Chunk, self, c => c.value_size())
-    }
-
-    fn encodable(&self) -> bool {
-        kinds!(each_arms, Chunk, self, c => c.encodable())
     }
 
     fn encoded_size(&self) -> Option<usize> {

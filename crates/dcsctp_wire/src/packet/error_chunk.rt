@@ -19,7 +19,7 @@ use dcsctp_cause::error_causes::{ErrorCause, error_cause_fill};
 use dcsctp_chunk::raw_chunk::RawChunk;
 use dcsctp_tlv::error::{ChunkParseError, LocatedFault};
 use dcsctp_tlv::kind::Kind;
-use dcsctp_tlv::list::{listed_encodable, listed_encoded_size, listed_size, put_listed};
+use dcsctp_tlv::list::{listed_encoded_size, put_listed};
 use dcsctp_tlv::reader::listed_check;
 use dcsctp_tlv::tlv::SerializableTlv;
 use dcsctp_tlv::widths::are_in_width;
@@ -109,14 +109,6 @@ impl SerializableTlv for ErrorChunk {
 
     fn serialize_to(&self, output: &mut [u8]) {
         put_listed(CHUNK_TYPE, 0, &[], &self.error_causes, output);
-    }
-
-    fn value_size(&self) -> usize {
-        listed_size(0, &self.error_causes)
-    }
-
-    fn encodable(&self) -> bool {
-        listed_encodable(0, &self.error_causes)
     }
 
     fn encoded_size(&self) -> Option<usize> {

@@ -19,7 +19,7 @@ use crate::packet::parameter_list::parameter_list_check;
 use dcsctp_chunk::raw_chunk::RawChunk;
 use dcsctp_tlv::error::{ChunkParseError, LocatedFault};
 use dcsctp_tlv::kind::Kind;
-use dcsctp_tlv::list::{listed_encodable, listed_encoded_size, listed_size, put_listed};
+use dcsctp_tlv::list::{listed_encoded_size, put_listed};
 use dcsctp_tlv::parameter::{Parameter, parameters_fill};
 use dcsctp_tlv::tlv::SerializableTlv;
 use dcsctp_tlv::widths::are_in_width;
@@ -100,14 +100,6 @@ impl SerializableTlv for HeartbeatRequestChunk {
 
     fn serialize_to(&self, output: &mut [u8]) {
         put_listed(CHUNK_TYPE, 0, &[], &self.parameters, output);
-    }
-
-    fn value_size(&self) -> usize {
-        listed_size(0, &self.parameters)
-    }
-
-    fn encodable(&self) -> bool {
-        listed_encodable(0, &self.parameters)
     }
 
     fn encoded_size(&self) -> Option<usize> {

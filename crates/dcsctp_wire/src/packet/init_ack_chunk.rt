@@ -27,7 +27,7 @@ use crate::packet::init_chunk::{InitNumbers, init_check};
 use dcsctp_chunk::raw_chunk::RawChunk;
 use dcsctp_tlv::error::{ChunkParseError, LocatedFault};
 use dcsctp_tlv::kind::Kind;
-use dcsctp_tlv::list::{listed_encodable, listed_encoded_size, listed_size, put_listed};
+use dcsctp_tlv::list::{listed_encoded_size, put_listed};
 use dcsctp_tlv::parameter::{Parameter, parameters_fill};
 use dcsctp_tlv::tlv::SerializableTlv;
 use dcsctp_tlv::widths::{Widths, are_in_width};
@@ -127,14 +127,6 @@ impl SerializableTlv for InitAckChunk {
         }
         .bytes();
         put_listed(CHUNK_TYPE, 0, &numbers, &self.parameters, output);
-    }
-
-    fn value_size(&self) -> usize {
-        listed_size(InitNumbers::SIZE, &self.parameters)
-    }
-
-    fn encodable(&self) -> bool {
-        listed_encodable(InitNumbers::SIZE, &self.parameters)
     }
 
     fn encoded_size(&self) -> Option<usize> {

@@ -26,7 +26,7 @@ ghost use Rattle.dcsctp_wire.specs.InitFields as init_fields;
 use dcsctp_chunk::raw_chunk::RawChunk;
 use dcsctp_tlv::error::{ChunkParseError, LocatedFault};
 use dcsctp_tlv::kind::Kind;
-use dcsctp_tlv::list::{listed_encodable, listed_encoded_size, listed_size, put_listed};
+use dcsctp_tlv::list::{listed_encoded_size, put_listed};
 use dcsctp_tlv::number::{put_u16, put_u32, read_u16_be, read_u32_be};
 use dcsctp_tlv::parameter::{Parameter, parameters_fill};
 use dcsctp_tlv::reader::listed_check;
@@ -218,14 +218,6 @@ impl SerializableTlv for InitChunk {
         }
         .bytes();
         put_listed(CHUNK_TYPE, 0, &numbers, &self.parameters, output);
-    }
-
-    fn value_size(&self) -> usize {
-        listed_size(InitNumbers::SIZE, &self.parameters)
-    }
-
-    fn encodable(&self) -> bool {
-        listed_encodable(InitNumbers::SIZE, &self.parameters)
     }
 
     fn encoded_size(&self) -> Option<usize> {

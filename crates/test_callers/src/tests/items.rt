@@ -99,12 +99,8 @@ impl SerializableTlv for Number {
         put_parameter(66, &self.0.to_be_bytes(), output);
     }
 
-    fn value_size(&self) -> usize {
-        4
-    }
-
-    fn encodable(&self) -> bool {
-        true
+    fn encoded_size(&self) -> Option<usize> {
+        Some(8)
     }
 
     fn has_widths(&self) {
