@@ -50,7 +50,7 @@ crates/dump_report/src/causes.rt = Protocol Violation = | 13
 crates/dump_report/src/fault.rt = RE-CONFIG = | 130
 crates/dcsctp_receive/src/chunk_test.rt = RE-CONFIG = 130 |
 crates/test_callers/src/tests/facade.rt = INIT = (init_chunk::CHUNK_TYPE, 1),
-crates/test_rows/src/kinds.rt = State Cookie = 7 => write_read(alloc, bytes, StateCookie::try_from(alloc, raw), out),
+crates/test_rows/src/kinds.rt = State Cookie = 7 => write_read(bytes, StateCookie::try_from(alloc, raw), out),
 crates/test_rows/src/in_place.rt = COOKIE ACK = Chunk::CookieAck(_) |
 crates/test_rows/src/buffers.rt = I-DATA = Chunk::IData(c) =>
 tests/c/assertions.c = FORWARD-TSN = VALUE(CHUNK_FORWARD_TSN, 192);

@@ -1,6 +1,7 @@
 //! Packets that are written into buffers of bytes `ee`.
 
-use crate::bytes::{add_words, short_at, word_at, write_digits};
+use crate::answer::{Answer, Digits, from, front, short_at, word_at};
+use crate::captures;
 use crate::values::chunk_of;
 use dcsctp_buffer::abort::BorrowedAbort;
 use dcsctp_buffer::cookie_echo::BorrowedCookieEcho;
@@ -23,7 +24,6 @@ use dcsctp_wire::packet::parameter::Parameter;
 use dcsctp_wire::packet::sack_chunk::SackChunk;
 use dcsctp_wire::packet::{SkippedStream, state_cookie_parameter, supported_extensions_parameter};
 use dcsctp_wire::types::{Ssn, StreamKey, Tsn};
-use std::alloc::{AllocError, Global};
 
 /// Returns whether all bytes are as they were.
 fn are_untouched(bytes: &[u8]) -> bool {
@@ -47,15 +47,26 @@ fn add_data(buffer: &mut [u8], size: &mut usize, chunk: &DataChunk) -> bool {
     add(buffer, size, &borrowed).is_ok()
 }
 
-fn add_sack(
-    alloc: Global,
-    buffer: &mut [u8],
-    size: &mut usize,
-    chunk: &SackChunk,
-) -> Result<bool, AllocError> {
-    let mut duplicates = Vec::new(alloc);
+fn add_idata(buffer: &mut [u8], size: &mut usize, chunk: &IDataChunk) -> bool {
+    let data = &chunk.user_data;
+    let borrowed = BorrowedIData {
+        tsn: chunk.tsn,
+        stream_key: data.stream_key,
+        mid: data.mid,
+        fsn: data.fsn,
+        ppid: data.ppid,
+        payload: &data.payload,
+        is_beginning: data.is_beginning,
+        is_end: data.is_end,
+        immediate_ack: chunk.immediate_ack,
+    };
+    add(buffer, size, &borrowed).is_ok()
+}
+
+fn add_sack(buffer: &mut [u8], size: &mut usize, chunk: &SackChunk, out: &mut Answer) -> bool {
+    let mut duplicates = Vec::new(out.alloc);
     for tsn in &chunk.duplicate_tsns {
-        duplicates.push(tsn.0)?;
+        out.push(&mut duplicates, tsn.0);
     }
     let borrowed = BorrowedSack {
         cumulative_tsn_ack: chunk.cumulative_tsn_ack,
@@ -63,7 +74,7 @@ fn add_sack(
         gap_ack_blocks: &chunk.gap_ack_blocks,
         duplicate_tsns: &duplicates,
     };
-    Ok(add(buffer, size, &borrowed).is_ok())
+    add(buffer, size, &borrowed).is_ok()
 }
 
 /// Adds a heartbeat with the first of these parameters.
@@ -73,13 +84,11 @@ fn add_heartbeat(
     is_ack: bool,
     parameters: &[Parameter],
 ) -> bool {
-    match parameters.first() {
-        Some(Parameter::HeartbeatInfo(parameter)) => {
-            let info = &parameter.info;
-            add(buffer, size, &BorrowedHeartbeat { is_ack, info }).is_ok()
-        }
-        _ => false,
-    }
+    let Some(Parameter::HeartbeatInfo(parameter)) = parameters.first() else {
+        return false;
+    };
+    let info = &parameter.info;
+    add(buffer, size, &BorrowedHeartbeat { is_ack, info }).is_ok()
 }
 
 /// Adds INIT or INIT ACK without parameters, and after it those that are cookies or chunk types.
@@ -105,22 +114,6 @@ fn add_init(
     is_added
 }
 
-fn add_idata(buffer: &mut [u8], size: &mut usize, chunk: &IDataChunk) -> bool {
-    let data = &chunk.user_data;
-    let borrowed = BorrowedIData {
-        tsn: chunk.tsn,
-        stream_key: data.stream_key,
-        mid: data.mid,
-        fsn: data.fsn,
-        ppid: data.ppid,
-        payload: &data.payload,
-        is_beginning: data.is_beginning,
-        is_end: data.is_end,
-        immediate_ack: chunk.immediate_ack,
-    };
-    add(buffer, size, &borrowed).is_ok()
-}
-
 /// Adds FORWARD-TSN, or I-FORWARD-TSN.
 fn add_forward_tsn(
     buffer: &mut [u8],
@@ -139,29 +132,22 @@ fn add_forward_tsn(
 
 /// Adds the reason that the ABORT begins with.
 fn add_abort(buffer: &mut [u8], size: &mut usize, chunk: &AbortChunk) -> bool {
-    match chunk.error_causes.first() {
-        Some(ErrorCause::UserInitiatedAbort(cause)) => {
-            let borrowed = BorrowedAbort {
-                tag_reflected: chunk.tag_reflected,
-                reason: &cause.reason,
-            };
-            add(buffer, size, &borrowed).is_ok()
-        }
-        _ => false,
-    }
+    let Some(ErrorCause::UserInitiatedAbort(cause)) = chunk.error_causes.first() else {
+        return false;
+    };
+    let borrowed = BorrowedAbort {
+        tag_reflected: chunk.tag_reflected,
+        reason: &cause.reason,
+    };
+    add(buffer, size, &borrowed).is_ok()
 }
 
 /// Adds the chunk as one of its kind that borrows what it holds; as it is, where there is no such
 /// kind.
-fn add_borrowed(
-    alloc: Global,
-    buffer: &mut [u8],
-    size: &mut usize,
-    chunk: &Chunk,
-) -> Result<bool, AllocError> {
-    Ok(match chunk {
+fn add_borrowed(buffer: &mut [u8], size: &mut usize, chunk: &Chunk, out: &mut Answer) -> bool {
+    match chunk {
         Chunk::Data(c) => add_data(buffer, size, c),
-        Chunk::Sack(c) => add_sack(alloc, buffer, size, c)?,
+        Chunk::Sack(c) => add_sack(buffer, size, c, out),
         Chunk::HeartbeatRequest(c) => add_heartbeat(buffer, size, false, &c.parameters),
         Chunk::HeartbeatAck(c) => add_heartbeat(buffer, size, true, &c.parameters),
         Chunk::Init(c) => {
@@ -197,16 +183,12 @@ fn add_borrowed(
         Chunk::ShutdownComplete(c) => add(buffer, size, c).is_ok(),
         Chunk::IData(c) => add_idata(buffer, size, c),
         Chunk::ForwardTsn(c) => {
-            add_forward_tsn(
-                buffer,
-                size,
-                false,
-                c.new_cumulative_tsn,
-                &c.skipped_streams,
-            )
+            let (tsn, streams) = (c.new_cumulative_tsn, &c.skipped_streams);
+            add_forward_tsn(buffer, size, false, tsn, streams)
         }
         Chunk::IForwardTsn(c) => {
-            add_forward_tsn(buffer, size, true, c.new_cumulative_tsn, &c.skipped_streams)
+            let (tsn, streams) = (c.new_cumulative_tsn, &c.skipped_streams);
+            add_forward_tsn(buffer, size, true, tsn, streams)
         }
         Chunk::Unknown(c) => {
             let raw = RawChunk {
@@ -217,55 +199,32 @@ fn add_borrowed(
             add(buffer, size, &raw).is_ok()
         }
         _ => add(buffer, size, chunk).is_ok(),
-    })
+    }
 }
 
 // ---- a packet
 
-/// Adds the chunk that the words are, and returns whether it was added.
+/// Adds the chunk at the front, and returns whether it was added.
 fn add_chunk(
-    alloc: Global,
     buffer: &mut [u8],
     size: &mut usize,
-    words: &str,
+    bytes: &[u8],
     is_owned: bool,
-) -> Result<bool, AllocError> {
-    let mut bytes = Vec::new(alloc);
-    add_words(alloc, words, &mut bytes)?;
-    match chunk_of(alloc, &bytes) {
-        Ok(chunk) if is_owned => Ok(add(buffer, size, &chunk).is_ok()),
-        Ok(chunk) => add_borrowed(alloc, buffer, size, &chunk),
-        Err(_) => Ok(false),
+    out: &mut Answer,
+) -> bool {
+    match chunk_of(out.alloc, bytes) {
+        Ok(chunk) if is_owned => add(buffer, size, &chunk).is_ok(),
+        Ok(chunk) => add_borrowed(buffer, size, &chunk, out),
+        Err(_) => false,
     }
-}
-
-/// Writes the packet in the first bytes, sealed; and whether the bytes after it changed.
-fn write_sealed(
-    alloc: Global,
-    buffer: &mut [u8],
-    size: usize,
-    out: &mut String,
-) -> Result<(), AllocError> {
-    let is_sealed = seal(buffer, size).is_ok();
-    write!(out, "{is_sealed}; ")?;
-    write_digits(alloc, buffer.get(..size).unwrap_or(&[]), out)?;
-    if !are_untouched(buffer.get(size..).unwrap_or(&[])) {
-        out.push_str("; bytes after it changed")?;
-    }
-    Ok(())
 }
 
 /// Writes whether a packet begins, whether each chunk is added, and whether it is sealed; and the
-/// packet. The numbers are the buffer's size, of four bytes, both ports and the tag.
-fn write_packet(
-    alloc: Global,
-    numbers: &[u8],
-    chunks: &str,
-    is_owned: bool,
-    out: &mut String,
-) -> Result<(), AllocError> {
+/// packet, and whether the bytes after it changed. The numbers are the buffer's size, of four
+/// bytes, both ports and the tag.
+fn write_packet(numbers: &[u8], chunks: &str, is_owned: bool, out: &mut Answer) {
     let (source, destination) = (short_at(numbers, 4), short_at(numbers, 6));
-    let mut buffer = vec![in alloc; 0xee; word_at(numbers, 0) as usize]?;
+    let mut buffer = out.filled(word_at(numbers, 0) as usize);
     let mut size = 0;
     let begins = begin(
         &mut buffer,
@@ -273,56 +232,52 @@ fn write_packet(
         source,
         destination,
         word_at(numbers, 8),
-    )
-    .is_ok();
-    write!(out, "{begins}, ")?;
+    );
+    write!(out, "{}, ", begins.is_ok());
     for words in chunks.split(" / ").skip(1) {
-        let is_added = add_chunk(alloc, &mut buffer, &mut size, words, is_owned)?;
-        write!(out, "{is_added}, ")?;
+        let bytes = out.bytes_of(words);
+        let is_added = add_chunk(&mut buffer, &mut size, &bytes, is_owned, out);
+        write!(out, "{is_added}, ");
     }
-    write_sealed(alloc, &mut buffer, size, out)
+    let is_sealed = seal(&mut buffer, size).is_ok();
+    write!(out, "{is_sealed}; {}", Digits(front(&buffer, size)));
+    out.unless(
+        are_untouched(from(&buffer, size)),
+        "; bytes after it changed",
+    )
 }
 
 /// Writes the packet of a row: its numbers, and after each slash a chunk. Writes the packet of
 /// chunks that own what they hold too, if it is another.
-pub fn write_filled(alloc: Global, words: &str, out: &mut String) -> Result<(), AllocError> {
+pub fn write_filled(words: &str, out: &mut Answer) {
     let (numbers, _) = words.split_once(" / ").unwrap_or((words, ""));
-    let mut bytes = Vec::new(alloc);
-    if !add_words(alloc, numbers, &mut bytes)? {
-        return out.push_str("no row");
-    }
-    let mut owned = String::new(alloc);
-    write_packet(alloc, &bytes, words, true, &mut owned)?;
-    write_packet(alloc, &bytes, words, false, out)?;
-    if !out.ends_with(owned.as_str()) {
-        write!(out, "; and of chunks that own what they hold {owned}")?;
-    }
-    Ok(())
+    let numbers = out.bytes_of(numbers);
+    let mut owned = out.another();
+    write_packet(&numbers, words, true, &mut owned);
+    write_packet(&numbers, words, false, out);
+    out.add_other("; and of chunks that own what they hold ", &owned)
 }
 
 // ---- at its edges
 
 /// Writes whether a COOKIE ACK is added in a buffer of this size after this number of bytes, and
 /// whether these are sealed. The numbers have four and eight bytes.
-fn write_at(alloc: Global, numbers: &[u8], out: &mut String) -> Result<(), AllocError> {
-    let mut buffer = vec![in alloc; 0xee; word_at(numbers, 0) as usize]?;
+fn write_at(numbers: &[u8], out: &mut Answer) {
+    let mut buffer = out.filled(word_at(numbers, 0) as usize);
     let start = ((word_at(numbers, 4) as usize) << 32) | (word_at(numbers, 8) as usize);
     let mut size = start;
     let is_added = add(&mut buffer, &mut size, &CookieAckChunk).is_ok();
-    if !is_added && (size != start || !are_untouched(&buffer)) {
-        out.push_str("changed, though ")?;
-    }
+    let is_kept = is_added || size == start && are_untouched(&buffer);
+    out.unless(is_kept, "changed, though ");
     let is_sealed = seal(&mut buffer, start).is_ok();
-    write!(out, "{is_added} {is_sealed}")?;
-    if !is_added && !is_sealed && !are_untouched(&buffer) {
-        out.push_str(", but changed")?;
-    }
-    Ok(())
+    write!(out, "{is_added} {is_sealed}");
+    let is_kept = is_added || is_sealed || are_untouched(&buffer);
+    out.unless(is_kept, ", but changed")
 }
 
 /// Writes how many bytes a packet of DATA with this payload has, in a buffer that has room for all.
-fn write_data(alloc: Global, payload: &[u8], out: &mut String) -> Result<(), AllocError> {
-    let mut buffer = vec![in alloc; 0xee; 65600]?;
+fn write_data(payload: &[u8], out: &mut Answer) {
+    let mut buffer = out.filled(65600);
     let mut size = 0;
     let data = BorrowedData {
         tsn: Tsn(1),
@@ -339,17 +294,11 @@ fn write_data(alloc: Global, payload: &[u8], out: &mut String) -> Result<(), All
     write!(out, "{is_added} {size}")
 }
 
-/// Writes the answer, if the call is one of this module.
-pub fn write_answer(
-    alloc: Global,
-    call: &str,
-    bytes: &[u8],
-    out: &mut String,
-) -> Result<bool, AllocError> {
+/// Writes the answer, if the call is one of this module; else the next one does.
+pub fn write_answer(call: &str, bytes: &[u8], other: &[u8], out: &mut Answer) {
     match call {
-        "buffer-at" => write_at(alloc, bytes, out)?,
-        "buffer-data" => write_data(alloc, bytes, out)?,
-        _ => return Ok(false),
+        "buffer-at" => write_at(bytes, out),
+        "buffer-data" => write_data(bytes, out),
+        _ => captures::write_answer(call, bytes, other, out),
     }
-    Ok(true)
 }

@@ -1,10 +1,10 @@
 //! Packets that may be hostile: cut off, and changed.
 
-use crate::bytes::{first, from, short_at};
-use crate::packets::{is_checked_so, packet_of};
+use crate::answer::{Answer, first, flip, from, front, short_at};
+use crate::buffers;
+use crate::packets::{ANY, packet_of, written_over};
 use dcsctp_wire::packet::ChunkParseError;
-use dcsctp_wire::packet::sctp_packet::{ChecksumPolicy, PacketParseError, SctpPacket};
-use std::alloc::{AllocError, Global};
+use dcsctp_wire::packet::sctp_packet::{PacketParseError, SctpPacket};
 
 /// What a packet is answered with, and how many parts it has.
 ///
@@ -15,9 +15,6 @@ use std::alloc::{AllocError, Global};
 /// - `Value`: a result has no meaning.
 /// - `Other`: anything else, and what must not be.
 type Outcome = (&'static str, usize);
-
-/// Checksums aren't looked at.
-const ANY: ChecksumPolicy = ChecksumPolicy::ANY_CHECKSUM;
 
 /// What must not be.
 const OTHER: Outcome = ("Other", 0);
@@ -32,203 +29,133 @@ fn fault_of(error: &PacketParseError) -> Outcome {
     }
 }
 
-/// Returns whether the packet fits, and is written as these bytes.
-fn is_written_so(alloc: Global, packet: &SctpPacket, bytes: &[u8]) -> bool {
-    if !packet.fits() {
-        return false;
-    }
-    match packet.canonical_bytes(alloc) {
-        Ok(canonical) => canonical.as_slice() == bytes,
-        Err(_) => false,
-    }
-}
-
-/// Returns whether bytes that were written are read, have `parts` parts, and are written as
-/// themselves.
-fn reads_back(alloc: Global, bytes: &[u8], parts: usize) -> bool {
-    if SctpPacket::check(bytes, 0, &ANY) != Ok(parts) {
-        return false;
-    }
-    match SctpPacket::from_bytes(alloc, bytes, 0, &ANY) {
-        Ok(packet) => is_written_so(alloc, &packet, bytes),
-        Err(_) => false,
-    }
-}
-
 /// Returns what a packet of `parts` parts is.
-fn read_outcome(alloc: Global, packet: &SctpPacket, parts: usize) -> Result<Outcome, AllocError> {
+fn read_outcome(packet: &SctpPacket, parts: usize, out: &mut Answer) -> Outcome {
     if !packet.fits() {
-        return Ok(("TooLong", parts));
+        return ("TooLong", parts);
     }
-    let canonical = packet.canonical_bytes(alloc)?;
-    Ok(if reads_back(alloc, &canonical, parts) {
+    let canonical = out.list(packet.canonical_bytes(out.alloc));
+    let is_same = written_over(&canonical, out).as_slice() == canonical.as_slice();
+    if is_same && SctpPacket::check(&canonical, 0, &ANY) == Ok(parts) {
         ("Kept", parts)
-    } else {
-        OTHER
-    })
-}
-
-/// Returns the fault of a packet that isn't read, if the check has the same.
-fn refused_outcome(bytes: &[u8], error: &PacketParseError) -> Outcome {
-    if is_checked_so(bytes, 0, &ANY, error) {
-        fault_of(error)
     } else {
         OTHER
     }
 }
 
 /// Returns what the packet is answered with, if the check of the other one agrees.
-fn both_outcomes(alloc: Global, bytes: &[u8], other: &[u8]) -> Result<Outcome, AllocError> {
-    match SctpPacket::from_bytes(alloc, bytes, 0, &ANY) {
-        Ok(packet) => match SctpPacket::check(other, 0, &ANY) {
-            Ok(parts) => read_outcome(alloc, &packet, parts),
-            Err(_) => Ok(OTHER),
+fn outcome_of(bytes: &[u8], other: &[u8], out: &mut Answer) -> Outcome {
+    let checked = SctpPacket::check(other, 0, &ANY);
+    match SctpPacket::from_bytes(out.alloc, bytes, 0, &ANY) {
+        Ok(packet) => match checked {
+            Ok(parts) => read_outcome(&packet, parts, out),
+            Err(_) => OTHER,
         },
-        Err(error) => Ok(refused_outcome(other, &error)),
+        Err(error) => {
+            let outcome = fault_of(&error);
+            if checked == Err(error) {
+                outcome
+            } else {
+                OTHER
+            }
+        }
     }
 }
 
-/// Returns what the packet is answered with.
-fn outcome_of(alloc: Global, bytes: &[u8]) -> Result<Outcome, AllocError> {
-    both_outcomes(alloc, bytes, bytes)
-}
-
 /// Writes an outcome, with its parts if it has any.
-fn write_outcome((word, parts): Outcome, out: &mut String) -> Result<(), AllocError> {
+fn write_outcome((word, parts): Outcome, out: &mut Answer) {
     if parts == 0 {
-        return out.push_str(word);
+        return write!(out, "{word}");
     }
     write!(out, "{word}({parts})")
 }
 
-/// Writes the outcome of the packet of these chunks.
-fn write_outcome_row(
-    alloc: Global,
-    chunks: &[u8],
-    other: &[u8],
-    out: &mut String,
-) -> Result<(), AllocError> {
-    let (bytes, other) = (packet_of(alloc, chunks)?, packet_of(alloc, other)?);
-    write_outcome(both_outcomes(alloc, &bytes, &other)?, out)
+/// How a packet is made of some bytes and a number.
+#[derive(Clone, Copy)]
+enum Making {
+    /// The header and the bytes, cut off after this number.
+    CutOff,
+    /// The header and this number of the bytes, which are a chunk whose length counts them.
+    Shortened,
+    /// The header, the bytes, which are a chunk's front, and an item of this length in so many
+    /// bytes, all zeros but its header. The chunk's own length counts all, where the item isn't the
+    /// chunk.
+    Around(u16),
 }
 
-/// Writes an answer and its size, where it is another than the last, which is none before the
-/// first.
-fn write_run(
-    (word, parts): Outcome,
-    size: usize,
-    outcome: Outcome,
-    out: &mut String,
-) -> Result<(), AllocError> {
-    if outcome.0 == word && outcome.1 == parts {
-        return Ok(());
-    }
-    let mark = if word.is_empty() { "" } else { ", " };
-    write!(out, "{mark}{size} ")?;
-    write_outcome(outcome, out)
-}
-
-/// Writes the answers to the first bytes of the packet, each with the size from which on it is
-/// given.
-fn write_cut_off(alloc: Global, chunks: &[u8], out: &mut String) -> Result<(), AllocError> {
-    let bytes = packet_of(alloc, chunks)?;
-    let mut last = ("", 0);
-    for size in 0..=bytes.len() {
-        let outcome = outcome_of(alloc, bytes.get(..size).unwrap_or(&[]))?;
-        write_run(last, size, outcome, out)?;
-        last = outcome;
-    }
-    Ok(())
-}
-
-/// Returns the outcome of the header, and the first bytes of a chunk, whose length counts them.
-fn shortened(alloc: Global, chunk: &[u8], length: usize) -> Result<Outcome, AllocError> {
-    let mut bytes = packet_of(alloc, chunk.get(..length).unwrap_or(&[]))?;
-    if let Some(byte) = bytes.get_mut(15) {
-        *byte = u8::try_from(length).unwrap_or(0);
-    }
-    outcome_of(alloc, &bytes)
-}
-
-/// Writes the answers to a chunk of each length, each with the length from which on it is given.
-fn write_shortened(alloc: Global, chunk: &[u8], out: &mut String) -> Result<(), AllocError> {
-    let mut last = ("", 0);
-    for length in 0..=chunk.len() {
-        let outcome = shortened(alloc, chunk, length)?;
-        write_run(last, length, outcome, out)?;
-        last = outcome;
-    }
-    Ok(())
-}
-
-/// Counts an answer: packets that are kept, the parts that these have together, packets that are
-/// refused for a length, and those that are answered otherwise.
-fn count(counts: &mut [usize; 4], (word, parts): Outcome) {
-    let place = match word {
-        "Kept" => 0,
-        "Length" => 2,
-        _ => 3,
+/// Returns the packet that is made of the bytes and the number.
+fn made(making: Making, bytes: &[u8], number: usize, out: &mut Answer) -> Vec<u8> {
+    let mut packet = match making {
+        Making::Shortened => packet_of(front(bytes, number), out),
+        _ => packet_of(bytes, out),
     };
-    counts[place] = counts[place].saturating_add(1);
-    counts[1] = counts[1].saturating_add(parts);
-}
-
-/// Counts the answers to a packet, one byte of which has each other value.
-fn count_byte(
-    alloc: Global,
-    bytes: &mut [u8],
-    index: usize,
-    counts: &mut [usize; 4],
-) -> Result<(), AllocError> {
-    for change in 1..=255 {
-        if let Some(byte) = bytes.get_mut(index) {
-            *byte ^= change;
-        }
-        count(counts, outcome_of(alloc, bytes)?);
-        if let Some(byte) = bytes.get_mut(index) {
-            *byte ^= change;
+    let mut length = number;
+    match making {
+        Making::CutOff => packet.truncate(number),
+        Making::Shortened => {}
+        Making::Around(item) => {
+            out.had(packet.extend_from_slice(&item.to_be_bytes()));
+            length = bytes.len().saturating_add(number).saturating_sub(2);
+            out.had(packet.resize(length.saturating_add(12), 0));
         }
     }
-    Ok(())
+    if !matches!(making, Making::CutOff) && bytes.len() > 2 {
+        if let Some(byte) = packet.get_mut(15) {
+            *byte = u8::try_from(length).unwrap_or(0);
+        }
+    }
+    packet
 }
 
-/// Writes the counts of the packet, each byte of which has each other value.
-fn write_changed(alloc: Global, chunks: &[u8], out: &mut String) -> Result<(), AllocError> {
-    let mut bytes = packet_of(alloc, chunks)?;
-    let mut counts = [0; 4];
+/// Writes the answers to the packets that are made of the bytes and these numbers, each with the
+/// number from which on it is given.
+fn write_runs(making: Making, bytes: &[u8], start: usize, end: usize, out: &mut Answer) {
+    let (mut last, mut mark) = (OTHER, "");
+    for number in start..=end {
+        let packet = made(making, bytes, number, out);
+        let outcome = outcome_of(&packet, &packet, out);
+        if mark.is_empty() || outcome.0 != last.0 || outcome.1 != last.1 {
+            write!(out, "{mark}{number} ");
+            write_outcome(outcome, out);
+        }
+        (last, mark) = (outcome, ", ");
+    }
+}
+
+/// Writes the counts of the packet, each byte of which has each other value: packets that are kept,
+/// the parts that these have together, packets that are refused for a length, and those that are
+/// answered otherwise.
+fn write_changed(chunks: &[u8], out: &mut Answer) {
+    let mut bytes = packet_of(chunks, out);
+    let (mut kept, mut parts, mut refused, mut others) = (0usize, 0usize, 0usize, 0usize);
     for index in 0..bytes.len() {
-        count_byte(alloc, bytes.as_mut_slice(), index, &mut counts)?;
+        for bits in 1..=255 {
+            flip(&mut bytes, index, bits);
+            let (word, more) = outcome_of(&bytes, &bytes, out);
+            match word {
+                "Kept" => kept = kept.saturating_add(1),
+                "Length" => refused = refused.saturating_add(1),
+                _ => others = others.saturating_add(1),
+            }
+            parts = parts.saturating_add(more);
+            flip(&mut bytes, index, bits);
+        }
     }
-    let [kept, parts, refused, others] = counts;
-    write!(
-        out,
-        "{kept} kept with {parts} parts, {refused} refused, {others} others"
-    )
+    write!(out, "{:?}", (kept, parts, refused, others))
 }
 
-/// Returns what a chunk of this type and this length field is answered with, with a value of zeros.
-fn outcome_of_length(
-    alloc: Global,
-    typ: u8,
-    length: u16,
-    zeros: usize,
-) -> Result<Outcome, AllocError> {
-    let mut bytes = packet_of(alloc, &[typ, 0])?;
-    bytes.extend_from_slice(&length.to_be_bytes())?;
-    bytes.resize(zeros.saturating_add(16), 0)?;
-    outcome_of(alloc, &bytes)
-}
-
-/// Writes the number of types of which such a chunk is refused for its length.
-fn write_types(
-    alloc: Global,
-    length: u16,
-    zeros: usize,
-    out: &mut String,
-) -> Result<(), AllocError> {
+/// Writes the number of types of which a chunk with this length field and a value of so many zeros
+/// is refused for its length.
+fn write_types(length: u16, zeros: usize, out: &mut Answer) {
     let mut refused = 0usize;
     for typ in 0..=255 {
-        let (word, _) = outcome_of_length(alloc, typ, length, zeros)?;
+        let packet = made(
+            Making::Around(length),
+            &[typ, 0],
+            zeros.saturating_add(4),
+            out,
+        );
+        let (word, _) = outcome_of(&packet, &packet, out);
         if word == "Length" {
             refused = refused.saturating_add(1);
         }
@@ -236,75 +163,36 @@ fn write_types(
     write!(out, "{refused} of 256")
 }
 
-/// Returns what the front of a chunk is answered with, if an item of this length follows in `size`
-/// bytes, all zeros but its header.
-fn outcome_of_item(
-    alloc: Global,
-    front: &[u8],
-    length: u16,
-    size: usize,
-) -> Result<Outcome, AllocError> {
-    let mut bytes = packet_of(alloc, front)?;
-    bytes.extend_from_slice(&length.to_be_bytes())?;
-    bytes.resize(front.len().saturating_add(size).saturating_add(10), 0)?;
-    let own = bytes.len().saturating_sub(12);
-    // the chunk's own length counts all, where the item isn't the chunk
-    if front.len() > 2 {
-        if let Some(byte) = bytes.get_mut(15) {
-            *byte = u8::try_from(own).unwrap_or(0);
-        }
-    }
-    outcome_of(alloc, &bytes)
-}
-
 /// Writes the answers to the chunk's front with items of 4 to 20 bytes after it, for each length
 /// but 4.
-fn write_around(alloc: Global, front: &[u8], out: &mut String) -> Result<(), AllocError> {
+fn write_around(bytes: &[u8], out: &mut Answer) {
     for length in 0..17 {
-        if length == 4 {
-            continue;
+        if length != 4 {
+            out.unless(length == 0, " / ");
+            write!(out, "{length}: ");
+            write_runs(Making::Around(length), bytes, 4, 20, out);
         }
-        let mark = if length > 0 { " / " } else { "" };
-        write!(out, "{mark}{length}: ")?;
-        write_sizes(alloc, front, length, out)?;
     }
-    Ok(())
 }
 
-/// Writes the answers to an item of this length in 4 to 20 bytes.
-fn write_sizes(
-    alloc: Global,
-    front: &[u8],
-    length: u16,
-    out: &mut String,
-) -> Result<(), AllocError> {
-    let mut last = ("", 0);
-    for size in 4..=20usize {
-        let outcome = outcome_of_item(alloc, front, length, size)?;
-        write_run(last, size, outcome, out)?;
-        last = outcome;
-    }
-    Ok(())
-}
-
-/// Writes the answer, if the call is one of this module.
-pub fn write_answer(
-    alloc: Global,
-    call: &str,
-    (bytes, other): (&[u8], &[u8]),
-    out: &mut String,
-) -> Result<bool, AllocError> {
+/// Writes the answer, if the call is one of this module; else the next one does.
+pub fn write_answer(call: &str, bytes: &[u8], other: &[u8], out: &mut Answer) {
     match call {
-        "outcome" => write_outcome_row(alloc, bytes, other, out)?,
-        "cut-off" => write_cut_off(alloc, bytes, out)?,
-        "shortened" => write_shortened(alloc, bytes, out)?,
-        "changed" => write_changed(alloc, bytes, out)?,
-        "around" => write_around(alloc, bytes, out)?,
-        "types" => {
-            let zeros = usize::from(first(from(bytes, 2)));
-            write_types(alloc, short_at(bytes, 0), zeros, out)?;
+        "outcome" => {
+            let (bytes, other) = (packet_of(bytes, out), packet_of(other, out));
+            write_outcome(outcome_of(&bytes, &other, out), out)
         }
-        _ => return Ok(false),
+        "cut-off" => write_runs(
+            Making::CutOff,
+            bytes,
+            0,
+            bytes.len().saturating_add(12),
+            out,
+        ),
+        "shortened" => write_runs(Making::Shortened, bytes, 0, bytes.len(), out),
+        "changed" => write_changed(bytes, out),
+        "around" => write_around(bytes, out),
+        "types" => write_types(short_at(bytes, 0), first(from(bytes, 2)) as usize, out),
+        _ => buffers::write_answer(call, bytes, other, out),
     }
-    Ok(true)
 }

@@ -9,10 +9,10 @@
 //! The table that is printed has to be the table that was read: `stdin` and `stdout` are one text.
 #![tactic(auto)]
 
+mod answer;
 mod auth;
 mod buffers;
 mod built;
-mod bytes;
 mod captures;
 mod checksums;
 mod frames;

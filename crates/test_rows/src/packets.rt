@@ -1,8 +1,9 @@
 //! Packets: read, refused, and written in canonical form.
 
+use crate::answer::{Answer, Change, Digits, flip, from, word_at};
 use crate::built::built_of;
-use crate::bytes::{from, word_at, write_change, write_digits};
 use crate::in_place::{canonical_in_place, mean_alike, write_otherwise};
+use crate::sack;
 use crate::values::{chunk_of, image_of, write_value};
 use dcsctp_borrowed::canonical::CanonicalError;
 use dcsctp_wire::api::ZERO_CHECKSUM_ALTERNATE_ERROR_DETECTION_METHOD_LOWER_LAYER_DTLS as DTLS;
@@ -11,62 +12,37 @@ use dcsctp_wire::packet::sctp_packet::{
     ChecksumPolicy, CommonHeader, FirstFault, PacketParseError, SctpPacket,
 };
 use dcsctp_wire::packet::{ChunkParseError, SerializableTlv};
-use std::alloc::{AllocError, Global};
+use std::fmt::{Debug, Display};
 
 /// Both ports 5000, tag 16909060, checksum 0.
 pub const HEADER: [u8; 12] = [0x13, 0x88, 0x13, 0x88, 1, 2, 3, 4, 0, 0, 0, 0];
 
+/// Checksums aren't looked at.
+pub const ANY: ChecksumPolicy = ChecksumPolicy::ANY_CHECKSUM;
+
 /// Returns the header, and these chunks.
-pub fn packet_of(alloc: Global, chunks: &[u8]) -> Result<Vec<u8>, AllocError> {
-    let mut bytes = Vec::from_slice(alloc, &HEADER)?;
-    bytes.extend_from_slice(chunks)?;
-    Ok(bytes)
+pub fn packet_of(chunks: &[u8], out: &mut Answer) -> Vec<u8> {
+    let mut bytes = out.copy(&HEADER);
+    out.had(bytes.extend_from_slice(chunks));
+    bytes
 }
 
 // ---- what is read
 
-/// Writes what the chunks print, one after the other.
-fn write_texts(chunks: &[Chunk], out: &mut String) -> Result<(), AllocError> {
-    let mut mark = "";
-    for chunk in chunks {
-        write!(out, "{mark}{chunk}")?;
-        mark = " / ";
-    }
-    Ok(())
-}
-
 /// Writes an arrow and the canonical packet, if that is another; without this header, if it has it.
-fn write_canonical(
-    alloc: Global,
-    packet: &SctpPacket,
-    (header, bytes): (&[u8], &[u8]),
-    out: &mut String,
-) -> Result<(), AllocError> {
+fn write_canonical(packet: &SctpPacket, header: &[u8], bytes: &[u8], out: &mut Answer) {
     if !packet.fits() {
-        return out.push_str(" -> none that fits");
+        return out.say(" -> none that fits");
     }
-    let canonical = packet.canonical_bytes(alloc)?;
-    if canonical.as_slice() == bytes {
-        return Ok(());
-    }
-    out.push_str(" -> ")?;
-    match canonical.strip_prefix(header) {
-        Some(chunks) => write_digits(alloc, chunks, out),
-        None => write_digits(alloc, &canonical, out),
-    }
-}
-
-/// Writes the fault, and its place.
-fn write_fault(found: &FirstFault, out: &mut String) -> Result<(), AllocError> {
-    let FirstFault { fault, offset } = found;
-    match fault {
-        PacketParseError::FailedParseChunk(fault) => write!(out, "{fault:?} at {offset}"),
-        fault => write!(out, "{fault:?} at {offset}"),
+    let canonical = out.list(packet.canonical_bytes(out.alloc));
+    if canonical.as_slice() != bytes {
+        let chunks = canonical.strip_prefix(header).unwrap_or(&canonical);
+        write!(out, " -> {}", Digits(chunks))
     }
 }
 
 /// Returns whether the check refuses the packet for this fault.
-pub fn is_checked_so(
+fn is_checked_so(
     bytes: &[u8],
     word: u32,
     policy: &ChecksumPolicy,
@@ -78,88 +54,80 @@ pub fn is_checked_so(
     }
 }
 
-/// Returns whether the reader and the check refuse the packet for this fault.
-fn is_refused(
-    alloc: Global,
+/// Writes the packet's fault and its place, if check and reader of the other bytes answer it too.
+/// Returns whether there is none.
+fn has_no_fault(
     bytes: &[u8],
+    other: &[u8],
     word: u32,
     policy: &ChecksumPolicy,
-    fault: &PacketParseError,
+    out: &mut Answer,
 ) -> bool {
-    match SctpPacket::from_bytes(alloc, bytes, word, policy) {
+    let Some(FirstFault { fault, offset }) = SctpPacket::first_fault(bytes, word, policy) else {
+        return true;
+    };
+    let is_read_so = match SctpPacket::from_bytes(out.alloc, other, word, policy) {
         Ok(_) => false,
-        Err(error) => error == *fault && is_checked_so(bytes, word, policy, fault),
+        Err(error) => error == fault,
+    };
+    if !is_read_so || !is_checked_so(other, word, policy, &fault) {
+        out.say("check or reader answers otherwise");
+    } else if let PacketParseError::FailedParseChunk(fault) = fault {
+        write!(out, "{fault:?} at {offset}");
+    } else {
+        write!(out, "{fault:?} at {offset}");
     }
+    false
 }
 
-/// Writes how many parts the check counts, what the packet prints, and its canonical packet.
-fn write_packet(
-    alloc: Global,
-    bytes: &[u8],
-    policy: &ChecksumPolicy,
-    out: &mut String,
-) -> Result<(), AllocError> {
-    if let Ok(parts) = SctpPacket::check(bytes, 0, policy) {
-        write!(out, "{parts} | ")?;
+/// Writes how many parts the check counts, what the packet prints, and its canonical packet; or its
+/// fault.
+fn write_under(bytes: &[u8], policy: &ChecksumPolicy, out: &mut Answer) {
+    if !has_no_fault(bytes, bytes, 0, policy, out) {
+        return;
     }
-    match SctpPacket::from_bytes(alloc, bytes, 0, policy) {
+    if let Ok(parts) = SctpPacket::check(bytes, 0, policy) {
+        write!(out, "{parts} | ");
+    }
+    match SctpPacket::from_bytes(out.alloc, bytes, 0, policy) {
         Ok(packet) => {
-            write_texts(&packet.chunks, out)?;
-            write_canonical(alloc, &packet, (&HEADER, bytes), out)
+            for (i, chunk) in packet.chunks.iter().enumerate() {
+                out.unless(i == 0, " / ");
+                write!(out, "{chunk}");
+            }
+            write_canonical(&packet, &HEADER, bytes, out)
         }
         Err(error) => write!(out, "{error:?}"),
     }
 }
 
-/// Writes the packet as `write_packet` does, or the fault that check and reader answer too.
-fn write_under(
-    alloc: Global,
-    bytes: &[u8],
-    policy: &ChecksumPolicy,
-    out: &mut String,
-) -> Result<(), AllocError> {
-    match SctpPacket::first_fault(bytes, 0, policy) {
-        Some(found) if is_refused(alloc, bytes, 0, policy, &found.fault) => {
-            write_fault(&found, out)
-        }
-        Some(_) => out.push_str("check or reader answers otherwise"),
-        None => write_packet(alloc, bytes, policy, out),
-    }
-}
-
 /// Writes what the packet is answered with, and after a bar what a strict reader answers, if that
 /// is something else.
-fn write_both(alloc: Global, bytes: &[u8], out: &mut String) -> Result<(), AllocError> {
-    let (mut text, mut strict) = (String::new(alloc), String::new(alloc));
-    write_under(alloc, bytes, &ChecksumPolicy::ANY_CHECKSUM, &mut text)?;
-    write_under(
-        alloc,
-        bytes,
-        &ChecksumPolicy::ANY_CHECKSUM.strict(),
-        &mut strict,
-    )?;
-    out.push_str(&text)?;
-    if strict.as_str() != text.as_str() {
-        write!(out, " | {strict}")?;
-    }
-    Ok(())
+fn write_both(bytes: &[u8], out: &mut Answer) {
+    let mut strict = out.another();
+    write_under(bytes, &ANY, out);
+    write_under(bytes, &ANY.strict(), &mut strict);
+    out.add_other(" | ", &strict)
 }
 
 /// Returns the canonical packet, written over bytes `ee`; nothing if it doesn't fit.
-fn canonical_of(alloc: Global, packet: &SctpPacket) -> Result<Vec<u8>, AllocError> {
+fn canonical_of(packet: &SctpPacket, out: &mut Answer) -> Vec<u8> {
     if !packet.fits() {
-        return Ok(Vec::new(alloc));
+        return Vec::new(out.alloc);
     }
-    let mut output = vec![in alloc; 0xee; packet.canonical_size()]?;
-    packet.write_canonical(&mut output);
-    Ok(output)
+    let size = packet.canonical_size();
+    let mut output = out.filled(size);
+    if output.len() == size {
+        packet.write_canonical(&mut output);
+    }
+    output
 }
 
 /// Returns the canonical packet of the packet that the bytes are, written over bytes `ee`.
-fn written_over(alloc: Global, bytes: &[u8]) -> Result<Vec<u8>, AllocError> {
-    match SctpPacket::from_bytes(alloc, bytes, 0, &ChecksumPolicy::ANY_CHECKSUM) {
-        Ok(packet) => canonical_of(alloc, &packet),
-        Err(_) => Ok(Vec::new(alloc)),
+pub fn written_over(bytes: &[u8], out: &mut Answer) -> Vec<u8> {
+    match SctpPacket::from_bytes(out.alloc, bytes, 0, &ANY) {
+        Ok(packet) => canonical_of(&packet, out),
+        Err(_) => Vec::new(out.alloc),
     }
 }
 
@@ -168,36 +136,21 @@ fn is_end(rest: &str) -> bool {
     rest.is_empty() || rest.starts_with(" -> ") || rest.starts_with(" | ")
 }
 
-/// Returns whether the canonical packet, if there is one, has as many parts, prints the same, is
-/// written as itself, and is answered by a strict reader with the same.
-fn is_kept(alloc: Global, bytes: &[u8], text: &str) -> Result<bool, AllocError> {
-    let canonical = written_over(alloc, bytes)?;
-    let mut same = String::new(alloc);
-    if !canonical.is_empty() {
-        write_both(alloc, &canonical, &mut same)?;
-    }
-    Ok(text.strip_prefix(same.as_str()).is_some_and(is_end) || same.is_empty())
+/// Returns whether the canonical packet has as many parts, prints the same, is written as itself,
+/// and is answered by a strict reader with the same.
+fn is_kept(canonical: &[u8], text: &str, out: &mut Answer) -> bool {
+    let mut same = out.another();
+    write_both(canonical, &mut same);
+    out.end_as(&same);
+    text.strip_prefix(same.text.as_str()).is_some_and(is_end)
 }
 
-/// Adds what a chunk prints to the text, and to the bytes how it is written, with zeros as padding.
-fn add_chunk(
-    alloc: Global,
-    chunk: &Chunk,
-    text: &mut String,
-    written: &mut Vec<u8>,
-) -> Result<(), AllocError> {
-    let mark = if text.is_empty() { "" } else { " / " };
-    write!(text, "{mark}{chunk}")?;
-    written.extend_from_slice(&image_of(alloc, chunk)?)?;
-    written.resize(written.len().wrapping_add(3) / 4 * 4, 0)
-}
-
-/// Adds what all chunks print, and how they are written, each of which begins after the one before.
+/// Adds what all chunks print to the text, and to the bytes how they are written, with zeros as
+/// padding. Each begins after the one before.
 fn add_chunks(
-    alloc: Global,
     chunks: &[u8],
-    text: &mut String,
     written: &mut Vec<u8>,
+    text: &mut Answer,
 ) -> Result<(), ChunkParseError> {
     let mut rest = chunks;
     for _ in 0..chunks.len() {
@@ -205,10 +158,20 @@ fn add_chunks(
             break;
         }
         let (raw, after) = RawChunk::from_bytes(rest)?;
-        add_chunk(alloc, &Chunk::try_from(alloc, raw)?, text, written)?;
+        let chunk = Chunk::try_from(text.alloc, raw)?;
+        add_chunk(&chunk, written, text);
         rest = after;
     }
     Ok(())
+}
+
+fn add_chunk(chunk: &Chunk, written: &mut Vec<u8>, text: &mut Answer) {
+    text.unless(written.is_empty(), " / ");
+    write!(text, "{chunk}");
+    let image = image_of(chunk, text);
+    text.had(written.extend_from_slice(&image));
+    let size = written.len().wrapping_add(3) / 4 * 4;
+    text.had(written.resize(size, 0));
 }
 
 /// Returns whether a packet's answer has this text after the number of parts. A packet that is too
@@ -225,226 +188,153 @@ fn has_chunks(answer: &str, text: &str) -> bool {
 
 /// Returns whether the chunks by themselves are answered as their packet is: they print the same
 /// and are written so, or the first that has a fault has this one.
-fn is_one_by_one(alloc: Global, chunks: &[u8], answer: &str) -> Result<bool, AllocError> {
-    let (mut text, mut written) = (String::new(alloc), Vec::new(alloc));
-    match add_chunks(alloc, chunks, &mut text, &mut written) {
+fn is_one_by_one(chunks: &[u8], answer: &str, out: &mut Answer) -> bool {
+    let (mut text, mut written) = (out.another(), Vec::new(out.alloc));
+    let added = add_chunks(chunks, &mut written, &mut text);
+    out.end_as(&text);
+    match added {
         Ok(()) => {
-            write_change(alloc, chunks, &written, &mut text)?;
-            Ok(has_chunks(answer, &text))
+            write!(text, "{}", Change(chunks, &written));
+            has_chunks(answer, &text.text)
         }
         Err(fault) => {
-            let begin = format!(in alloc; "{fault:?} at ")?;
-            Ok(chunks.len() < 4 || answer.starts_with(begin.as_str()))
+            let mut begin = out.another();
+            write!(begin, "{fault:?} at ");
+            chunks.len() < 4 || answer.starts_with(begin.text.as_str())
         }
     }
 }
 
 /// Returns whether the other packet means the same as the canonical packet, and with a bit changed
 /// in one of its first bytes the same as the packet if and only if both have one canonical packet.
-fn is_compared(alloc: Global, bytes: &[u8], other: &[u8]) -> Result<bool, AllocError> {
-    let canonical = written_over(alloc, bytes)?;
+fn is_compared(bytes: &[u8], other: &[u8], out: &mut Answer) -> bool {
+    let canonical = written_over(bytes, out);
     if canonical.is_empty() || other.len() > 1000 {
-        return Ok(true);
+        return true;
     }
-    let mut changed = Vec::from_slice(alloc, other)?;
+    let mut changed = out.copy(other);
     let mut alike = mean_alike(other, &canonical);
     for i in 0..other.len().min(40) {
-        changed[i] = other[i] ^ 1;
-        let written = written_over(alloc, &changed)?;
+        flip(&mut changed, i, 1);
+        let written = written_over(&changed, out);
         let same = written.as_slice() == canonical.as_slice();
         alike = alike && (written.is_empty() || mean_alike(&changed, bytes) == same);
-        changed[i] = other[i];
+        flip(&mut changed, i, 1);
     }
-    Ok(alike)
+    alike
 }
 
 /// Writes what the packet of these chunks is answered with; and where it is answered otherwise.
-fn write_packet_row(
-    alloc: Global,
-    chunks: &[u8],
-    other: &[u8],
-    out: &mut String,
-) -> Result<(), AllocError> {
-    let (bytes, others) = (packet_of(alloc, chunks)?, packet_of(alloc, other)?);
-    let mut answer = String::new(alloc);
-    write_both(alloc, &bytes, &mut answer)?;
-    out.push_str(&answer)?;
-    if !is_kept(alloc, &others, &answer)? {
-        out.push_str("; the canonical packet is answered otherwise")?;
-    }
-    if written_over(alloc, &others)?.as_slice() != canonical_in_place(alloc, &others)?.as_slice() {
-        out.push_str("; the canonical packet is written otherwise in place")?;
-    }
-    if !is_compared(alloc, &bytes, &others)? {
-        out.push_str("; it is compared otherwise in place")?;
-    }
-    if !is_one_by_one(alloc, other, &answer)? {
-        out.push_str("; the chunks by themselves are answered otherwise")?;
-    }
-    write_otherwise(alloc, &bytes, &others, out)
+fn write_packet_row(chunks: &[u8], other: &[u8], out: &mut Answer) {
+    let (bytes, others) = (packet_of(chunks, out), packet_of(other, out));
+    let mut answer = out.another();
+    write_both(&bytes, &mut answer);
+    out.add(&answer);
+    let canonical = written_over(&others, out);
+    let is_so = canonical.is_empty() || is_kept(&canonical, &answer.text, out);
+    out.unless(is_so, "; the canonical packet is answered otherwise");
+    let is_so = canonical.as_slice() == canonical_in_place(&others, out).as_slice();
+    out.unless(
+        is_so,
+        "; the canonical packet is written otherwise in place",
+    );
+    let is_so = is_compared(&bytes, &others, out);
+    out.unless(is_so, "; it is compared otherwise in place");
+    let is_so = is_one_by_one(other, &answer.text, out);
+    out.unless(is_so, "; the chunks by themselves are answered otherwise");
+    write_otherwise(&bytes, &others, out)
 }
 
 // ---- checksum words
 
 /// Writes the header's numbers.
-pub fn write_header(header: &CommonHeader, out: &mut String) -> Result<(), AllocError> {
+pub fn write_header(header: &CommonHeader, out: &mut Answer) {
     let (source, destination) = (header.source_port, header.destination_port);
     let (tag, checksum) = (header.verification_tag, header.checksum);
-    write!(out, "{source} {destination} {tag} {checksum}")
+    write!(out, "{:?}", (source, destination, tag, checksum))
 }
 
 /// Writes the numbers of the header at the front.
-fn write_front(bytes: &[u8], out: &mut String) -> Result<(), AllocError> {
+fn write_front(bytes: &[u8], out: &mut Answer) {
     match CommonHeader::from_bytes(bytes) {
         Some(header) => write_header(&header, out),
-        None => out.push_str("none"),
+        None => out.say("none"),
     }
 }
 
-/// Writes the header's numbers, the chunks, and the canonical packet; and that the check refuses
-/// it, if it does.
-fn write_accepted(
-    alloc: Global,
-    (bytes, other): (&[u8], &[u8]),
-    word: u32,
-    policy: &ChecksumPolicy,
-    out: &mut String,
-) -> Result<(), AllocError> {
-    match SctpPacket::from_bytes(alloc, bytes, word, policy) {
-        Ok(packet) => {
-            write_header(&packet.common_header, out)?;
-            write!(out, " {:?}", packet.chunks)?;
-            write_canonical(alloc, &packet, (&[], bytes), out)?;
-            if SctpPacket::check(other, word, policy).is_err() {
-                out.push_str("; the check refuses it")?;
-            }
-            Ok(())
-        }
-        Err(error) => write!(out, "{error:?}"),
-    }
-}
-
-/// Writes what the packet is read as if this word is expected, or its fault.
-fn write_verified(
-    alloc: Global,
-    (bytes, other): (&[u8], &[u8]),
-    word: u32,
-    policy: &ChecksumPolicy,
-    out: &mut String,
-) -> Result<(), AllocError> {
-    match SctpPacket::first_fault(bytes, word, policy) {
-        Some(found) if is_refused(alloc, other, word, policy, &found.fault) => {
-            write_fault(&found, out)
-        }
-        Some(_) => out.push_str("check or reader answers otherwise"),
-        None => write_accepted(alloc, (bytes, other), word, policy, out),
-    }
-}
-
-/// Writes what a packet is read as. The bytes are the expected word, a byte that accepts the word 0
-/// too if it is 1, and the packet.
-fn write_verified_row(
-    alloc: Global,
-    bytes: &[u8],
-    other: &[u8],
-    out: &mut String,
-) -> Result<(), AllocError> {
+/// Writes what a packet is read as: the header's numbers, the chunks, and the canonical packet; and
+/// that the check of the other one refuses it, if it does; or its fault. The bytes are the expected
+/// word, a byte that accepts the word 0 too if it is 1, and the packet.
+fn write_verified(bytes: &[u8], other: &[u8], out: &mut Answer) {
     let mut policy = ChecksumPolicy::default();
     if bytes.get(4) == Some(&1) {
         policy.zero_checksum_alternate_error_detection_method = DTLS;
     }
-    let packets = (from(bytes, 5), from(other, 5));
-    write_verified(alloc, packets, word_at(bytes, 0), &policy, out)
+    let (word, bytes, other) = (word_at(bytes, 0), from(bytes, 5), from(other, 5));
+    if !has_no_fault(bytes, other, word, &policy, out) {
+        return;
+    }
+    match SctpPacket::from_bytes(out.alloc, bytes, word, &policy) {
+        Ok(packet) => {
+            write_header(&packet.common_header, out);
+            write!(out, " {:?}", packet.chunks);
+            write_canonical(&packet, &[], bytes, out);
+            out.unless(
+                SctpPacket::check(other, word, &policy).is_ok(),
+                "; the check refuses it",
+            )
+        }
+        Err(error) => write!(out, "{error:?}"),
+    }
 }
 
 // ---- a chunk alone in a packet
 
 /// Writes the packet's first chunk, as the row of these bytes shows it.
-fn write_first(
-    alloc: Global,
-    bytes: &[u8],
-    policy: &ChecksumPolicy,
-    chunk: &[u8],
-    out: &mut String,
-) -> Result<(), AllocError> {
-    match SctpPacket::from_bytes(alloc, bytes, 0, policy) {
+fn write_first(bytes: &[u8], policy: &ChecksumPolicy, chunk: &[u8], out: &mut Answer) {
+    match SctpPacket::from_bytes(out.alloc, bytes, 0, policy) {
         Ok(packet) => match packet.chunks.first() {
-            Some(first) => write_value(alloc, chunk, first, out),
-            None => out.push_str("no chunk"),
+            Some(first) => write_value(chunk, first, out),
+            None => out.say("no chunk"),
         },
         Err(error) => write!(out, "{error:?}"),
     }
 }
 
-/// Returns whether the chunk is the same once it was built; one with a fault isn't.
-fn is_built_so(alloc: Global, chunk: &[u8], text: &str) -> Result<bool, AllocError> {
-    let built = built_of(alloc, chunk)?;
-    if built.is_empty() {
-        return Ok(!text.contains("; "));
-    }
-    let mut first = String::new(alloc);
-    write_first(
-        alloc,
-        &built,
-        &ChecksumPolicy::ANY_CHECKSUM.strict(),
-        chunk,
-        &mut first,
-    )?;
-    Ok(first.as_str() == text)
-}
-
 /// Writes where the chunk is another one: in the packet of it alone, in the packet that is built of
-/// it; and where that packet is answered otherwise.
-pub fn write_packed(
-    alloc: Global,
-    chunk: &[u8],
-    text: &str,
-    out: &mut String,
-) -> Result<(), AllocError> {
-    let bytes = packet_of(alloc, chunk)?;
-    let (mut first, mut answer) = (String::new(alloc), String::new(alloc));
-    write_first(
-        alloc,
-        &bytes,
-        &ChecksumPolicy::ANY_CHECKSUM,
-        chunk,
-        &mut first,
-    )?;
-    if !first.contains(text) {
-        out.push_str("; in a packet it is another one")?;
-    }
-    if !is_built_so(alloc, chunk, text)? {
-        out.push_str("; in a packet that is built it is another one")?;
-    }
-    write_packet_row(alloc, chunk, chunk, &mut answer)?;
-    if answer.contains("otherwise") {
-        write!(out, "; {answer}")?;
-    }
-    Ok(())
+/// it, in which one with a fault isn't; and where that packet is answered otherwise.
+pub fn write_packed(chunk: &[u8], text: &str, out: &mut Answer) {
+    let (bytes, built) = (packet_of(chunk, out), built_of(chunk, out));
+    let (mut first, mut second) = (out.another(), out.another());
+    write_first(&bytes, &ANY, chunk, &mut first);
+    out.end_as(&first);
+    out.unless(first.text.contains(text), "; in a packet it is another one");
+    write_first(&built, &ANY.strict(), chunk, &mut second);
+    out.end_as(&second);
+    out.unless(
+        second.text.as_str() == text || built.is_empty() && !text.contains("; "),
+        "; in a packet that is built it is another one",
+    );
+    let mut answer = out.another();
+    write_packet_row(chunk, chunk, &mut answer);
+    let is_so = !answer.text.contains("otherwise");
+    out.add_unless(is_so, "; ", &answer)
 }
 
 // ---- sizes
 
-/// Writes how many chunks there are, whether each can be written, the size of the canonical packet,
-/// and whether that is the packet itself.
-fn write_packet_sizes(
-    alloc: Global,
-    packet: &SctpPacket,
-    bytes: &[u8],
-    out: &mut String,
-) -> Result<(), AllocError> {
-    let is_encodable = packet.chunks.iter().all(|chunk| chunk.encodable());
-    let canonical = canonical_of(alloc, packet)?;
-    let (count, size) = (packet.chunks.len(), canonical.len());
-    let is_same = canonical.as_slice() == bytes;
-    write!(out, "{count} {is_encodable}, {size} {is_same}")
-}
-
-/// Writes how many chunks the packet of these chunks has, and its sizes; or its fault.
-fn write_sizes(alloc: Global, chunks: &[u8], out: &mut String) -> Result<(), AllocError> {
-    let bytes = packet_of(alloc, chunks)?;
-    match SctpPacket::from_bytes(alloc, &bytes, 0, &ChecksumPolicy::ANY_CHECKSUM) {
-        Ok(packet) => write_packet_sizes(alloc, &packet, &bytes, out),
+/// Writes of the packet of these chunks how many chunks there are, whether each can be written, the
+/// size of the canonical packet, and whether that is the packet itself; or its fault.
+fn write_sizes(chunks: &[u8], out: &mut Answer) {
+    let bytes = packet_of(chunks, out);
+    match SctpPacket::from_bytes(out.alloc, &bytes, 0, &ANY) {
+        Ok(packet) => {
+            let is_encodable = packet.chunks.iter().all(|chunk| chunk.encodable());
+            let canonical = canonical_of(&packet, out);
+            let (count, size) = (packet.chunks.len(), canonical.len());
+            let is_same = canonical.as_slice() == bytes.as_slice();
+            write!(out, "{:?}", (count, is_encodable, size, is_same))
+        }
         Err(error) => write!(out, "{error:?}"),
     }
 }
@@ -469,56 +359,44 @@ const ERRORS: [PacketParseError; 4] = [
 ];
 
 /// Writes each error's text.
-fn write_errors(out: &mut String) -> Result<(), AllocError> {
-    for error in &CHUNK_ERRORS {
-        write!(out, "{error:?}: {error}; ")?;
+fn write_texts<E: Debug + Display>(errors: &[E], out: &mut Answer) {
+    for error in errors {
+        write!(out, "{error:?}: {error}; ");
     }
-    for error in &ERRORS {
-        write!(out, "{error:?}: {error}; ")?;
-    }
-    for error in &[CanonicalError::DoesNotFit, CanonicalError::NoRoom] {
-        write!(out, "{error:?}: {error}; ")?;
-    }
-    Ok(())
+}
+
+fn write_errors(out: &mut Answer) {
+    write_texts(&CHUNK_ERRORS, out);
+    write_texts(&ERRORS, out);
+    write_texts(&[CanonicalError::DoesNotFit, CanonicalError::NoRoom], out)
 }
 
 // ---- over other bytes
 
-/// Writes a chunk as it is written over bytes `ee`, four more than it has.
-fn write_chunk_over(alloc: Global, chunk: &Chunk, out: &mut String) -> Result<(), AllocError> {
-    if !chunk.encodable() {
-        return out.push_str("none");
+/// Writes the chunk at the front as it is written over bytes `ee`, four more than it has.
+fn write_over(bytes: &[u8], out: &mut Answer) {
+    if let Ok(chunk) = chunk_of(out.alloc, bytes) {
+        if chunk.encodable() {
+            let size = chunk.serialized_size();
+            let mut output = out.filled(size.saturating_add(4));
+            if output.len() >= size {
+                chunk.serialize_to(&mut output);
+            }
+            return write!(out, "{size} {}", Digits(&output));
+        }
     }
-    let size = chunk.serialized_size();
-    let mut output = vec![in alloc; 0xee; size.saturating_add(4)]?;
-    chunk.serialize_to(&mut output);
-    write!(out, "{size} ")?;
-    write_digits(alloc, &output, out)
+    out.say("none")
 }
 
-/// Writes the chunk at the front as it is written over bytes `ee`.
-fn write_over(alloc: Global, bytes: &[u8], out: &mut String) -> Result<(), AllocError> {
-    match chunk_of(alloc, bytes) {
-        Ok(chunk) => write_chunk_over(alloc, &chunk, out),
-        Err(_) => out.push_str("none"),
-    }
-}
-
-/// Writes the answer, if the call is one of this module.
-pub fn write_answer(
-    alloc: Global,
-    call: &str,
-    (bytes, other): (&[u8], &[u8]),
-    out: &mut String,
-) -> Result<bool, AllocError> {
+/// Writes the answer, if the call is one of this module; else the next one does.
+pub fn write_answer(call: &str, bytes: &[u8], other: &[u8], out: &mut Answer) {
     match call {
-        "packet" => write_packet_row(alloc, bytes, other, out)?,
-        "packet-sizes" => write_sizes(alloc, bytes, out)?,
-        "header" => write_front(bytes, out)?,
-        "errors" => write_errors(out)?,
-        "over" => write_over(alloc, bytes, out)?,
-        "verified" => write_verified_row(alloc, bytes, other, out)?,
-        _ => return Ok(false),
+        "packet" => write_packet_row(bytes, other, out),
+        "packet-sizes" => write_sizes(bytes, out),
+        "header" => write_front(bytes, out),
+        "errors" => write_errors(out),
+        "over" => write_over(bytes, out),
+        "verified" => write_verified(bytes, other, out),
+        _ => sack::write_answer(call, bytes, other, out),
     }
-    Ok(true)
 }

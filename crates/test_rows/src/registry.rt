@@ -1,9 +1,9 @@
 //! Chunks, parameters and error causes that have a name in IANA's registry alone, where they lie.
 
-use crate::bytes::{short_at, write_digits};
+use crate::answer::{Answer, Change, Digits, from, front, short_at};
+use crate::receive;
 use dcsctp_borrowed::numbers::Numbers;
 use dcsctp_buffer::{add, begin};
-use dcsctp_registry::address::Address;
 use dcsctp_registry::raw_items::RawItems;
 use dcsctp_registry::registered_cause::{RegisteredCause, add_cause};
 use dcsctp_registry::registered_chunk::RegisteredChunk;
@@ -12,52 +12,35 @@ use dcsctp_wire::packet::chunk::RawChunk;
 use dcsctp_wire::packet::parameter::RawParameter;
 use dcsctp_wire::packet::sack_chunk::GapAckBlock;
 use dcsctp_wire::types::Tsn;
-use std::alloc::{AllocError, Global};
 
 /// Of items in one another, how many are opened.
 const MOST: usize = 4;
 
-// ---- one item: each writes it, and returns the items in it, and whether these are error causes
+/// Items in one, and whether these are error causes.
+type Inner<'a> = Option<(bool, RawItems<'a>)>;
+
+// ---- one item: each writes it, and returns the items in it
 
 /// Writes an item that isn't read.
-fn write_bytes(alloc: Global, typ: u16, value: &[u8], out: &mut String) -> Result<(), AllocError> {
-    write!(out, "{typ:04x}: ")?;
-    write_digits(alloc, value, out)
-}
-
-/// Writes the address as std prints it, if the parameter is one.
-fn write_address(raw: &RawParameter, out: &mut String) -> Result<(), AllocError> {
-    if let Some(address) = Address::from_raw(raw) {
-        let ip = address.ip();
-        write!(out, " {ip}")?;
-    }
-    Ok(())
+fn write_bytes(typ: u16, value: &[u8], out: &mut Answer) {
+    write!(out, "{typ:04x}: {}", Digits(value))
 }
 
 /// Writes the numbers of a kind after its name.
-fn write_numbers(
-    alloc: Global,
-    name: &str,
-    numbers: &Numbers,
-    out: &mut String,
-) -> Result<(), AllocError> {
-    let mut list = Vec::new(alloc);
+fn write_numbers(name: &str, numbers: &Numbers, out: &mut Answer) {
+    let mut list = Vec::new(out.alloc);
     for i in 0..numbers.count() {
-        list.push(numbers.number(i))?;
+        out.push(&mut list, numbers.number(i));
     }
     write!(out, "{name}({list:?})")
 }
 
-fn write_parameter<'a>(
-    alloc: Global,
-    raw: &RawParameter<'a>,
-    out: &mut String,
-) -> Result<Option<(bool, RawItems<'a>)>, AllocError> {
+fn write_parameter<'a>(raw: &RawParameter<'a>, out: &mut Answer) -> Inner<'a> {
     match RegisteredParameter::from_raw(raw) {
-        None => write_bytes(alloc, raw.typ, raw.value, out)?,
+        None => write_bytes(raw.typ, raw.value, out),
         Some(RegisteredParameter::UnrecognizedParameter(parameters)) => {
-            out.push_str("UnrecognizedParameter")?;
-            return Ok(Some((false, parameters)));
+            out.say("UnrecognizedParameter");
+            return Some((false, parameters));
         }
         Some(
             RegisteredParameter::ErrorCauseIndication {
@@ -65,86 +48,68 @@ fn write_parameter<'a>(
                 causes,
             },
         ) => {
-            write!(out, "ErrorCauseIndication {{ correlation_id: {id} }}")?;
-            return Ok(Some((true, causes)));
+            write!(out, "ErrorCauseIndication {{ correlation_id: {id} }}");
+            return Some((true, causes));
         }
         Some(RegisteredParameter::SupportedAddressTypes(types)) => {
-            write_numbers(alloc, "SupportedAddressTypes", &types, out)?
+            write_numbers("SupportedAddressTypes", &types, out)
         }
         Some(RegisteredParameter::RequestedHmacAlgorithm(ids)) => {
-            write_numbers(alloc, "RequestedHmacAlgorithm", &ids, out)?
+            write_numbers("RequestedHmacAlgorithm", &ids, out)
         }
-        Some(parameter) => {
-            write!(out, "{parameter:?}")?;
-            write_address(raw, out)?;
+        Some(RegisteredParameter::Address(address)) => {
+            // the address as std prints it, too
+            write!(out, "Address({address:?}) {}", address.ip())
         }
+        Some(parameter) => write!(out, "{parameter:?}"),
     }
-    Ok(None)
+    None
 }
 
-/// Returns the parameters in a cause after the name of its kind; or the cause, if it has no list.
-fn parameters_in(cause: RegisteredCause) -> Result<(&'static str, RawItems), RegisteredCause> {
-    match cause {
-        RegisteredCause::UnresolvableAddress(p) => Ok(("UnresolvableAddress", p)),
-        RegisteredCause::UnrecognizedParameters(p) => Ok(("UnrecognizedParameters", p)),
-        RegisteredCause::RestartWithNewAddresses(p) => Ok(("RestartWithNewAddresses", p)),
-        RegisteredCause::DeleteLastRemainingIpAddress(p) => Ok(("DeleteLastRemainingIpAddress", p)),
-        RegisteredCause::OperationRefused(p) => Ok(("OperationRefused", p)),
-        RegisteredCause::DeleteSourceIpAddress(p) => Ok(("DeleteSourceIpAddress", p)),
-        RegisteredCause::RequestRefused(p) => Ok(("RequestRefused", p)),
-        cause => Err(cause),
-    }
-}
-
-fn write_cause<'a>(
-    alloc: Global,
-    raw: &RawParameter<'a>,
-    out: &mut String,
-) -> Result<Option<(bool, RawItems<'a>)>, AllocError> {
-    let Some(cause) = RegisteredCause::from_raw(raw) else {
-        write_bytes(alloc, raw.typ, raw.value, out)?;
-        return Ok(None);
+fn write_cause<'a>(raw: &RawParameter<'a>, out: &mut Answer) -> Inner<'a> {
+    let (name, parameters) = match RegisteredCause::from_raw(raw) {
+        None => {
+            write_bytes(raw.typ, raw.value, out);
+            return None;
+        }
+        Some(RegisteredCause::UnresolvableAddress(p)) => ("UnresolvableAddress", p),
+        Some(RegisteredCause::UnrecognizedParameters(p)) => ("UnrecognizedParameters", p),
+        Some(RegisteredCause::RestartWithNewAddresses(p)) => ("RestartWithNewAddresses", p),
+        Some(RegisteredCause::DeleteLastRemainingIpAddress(p)) => (
+            "DeleteLastRemainingIpAddress",
+            p,
+        ),
+        Some(RegisteredCause::OperationRefused(p)) => ("OperationRefused", p),
+        Some(RegisteredCause::DeleteSourceIpAddress(p)) => ("DeleteSourceIpAddress", p),
+        Some(RegisteredCause::RequestRefused(p)) => ("RequestRefused", p),
+        Some(cause) => {
+            write!(out, "{cause:?}");
+            return None;
+        }
     };
-    match parameters_in(cause) {
-        Ok((name, parameters)) => {
-            out.push_str(name)?;
-            Ok(Some((false, parameters)))
-        }
-        Err(cause) => {
-            write!(out, "{cause:?}")?;
-            Ok(None)
-        }
-    }
+    write!(out, "{name}");
+    Some((false, parameters))
 }
 
-fn write_item<'a>(
-    alloc: Global,
-    is_cause: bool,
-    raw: &RawParameter<'a>,
-    out: &mut String,
-) -> Result<Option<(bool, RawItems<'a>)>, AllocError> {
+fn write_item<'a>(is_cause: bool, raw: &RawParameter<'a>, out: &mut Answer) -> Inner<'a> {
     if is_cause {
-        write_cause(alloc, raw, out)
+        write_cause(raw, out)
     } else {
-        write_parameter(alloc, raw, out)
+        write_parameter(raw, out)
     }
 }
 
-fn write_chunk<'a>(
-    alloc: Global,
-    raw: &RawChunk<'a>,
-    out: &mut String,
-) -> Result<Option<(bool, RawItems<'a>)>, AllocError> {
+fn write_chunk<'a>(raw: &RawChunk<'a>, out: &mut Answer) -> Inner<'a> {
     match RegisteredChunk::from_raw(raw) {
-        None => write_bytes(alloc, raw.typ as u16, raw.value, out)?,
+        None => write_bytes(raw.typ as u16, raw.value, out),
         Some(
             RegisteredChunk::AsconfAck {
                 sequence_number: number,
                 parameters,
             },
         ) => {
-            write!(out, "AsconfAck {{ sequence_number: {number} }}")?;
-            return Ok(Some((false, parameters)));
+            write!(out, "AsconfAck {{ sequence_number: {number} }}");
+            return Some((false, parameters));
         }
         Some(
             RegisteredChunk::Asconf {
@@ -154,8 +119,8 @@ fn write_chunk<'a>(
             },
         ) => {
             let ip = address.ip();
-            write!(out, "Asconf {{ sequence_number: {number}, address: {ip} }}")?;
-            return Ok(Some((false, parameters)));
+            write!(out, "Asconf {{ sequence_number: {number}, address: {ip} }}");
+            return Some((false, parameters));
         }
         Some(
             RegisteredChunk::NrSack {
@@ -166,16 +131,15 @@ fn write_chunk<'a>(
                 duplicate_tsns,
             },
         ) => {
-            let blocks: Vec<GapAckBlock> = gap_ack_blocks.collect(alloc)?;
-            let nr_blocks: Vec<GapAckBlock> = nr_gap_ack_blocks.collect(alloc)?;
-            let duplicates: Vec<Tsn> = duplicate_tsns.collect(alloc)?;
-            write!(out, "NrSack {{ cumulative_tsn_ack: {tsn}, a_rwnd: {room}, ")?;
-            write!(out, "gap_ack_blocks: {blocks:?}, nr_gap_ack_blocks: ")?;
-            write!(out, "{nr_blocks:?}, duplicate_tsns: {duplicates:?} }}")?;
+            let blocks: Vec<GapAckBlock> = out.list(gap_ack_blocks.collect(out.alloc));
+            let nr_blocks: Vec<GapAckBlock> = out.list(nr_gap_ack_blocks.collect(out.alloc));
+            let duplicates: Vec<Tsn> = out.list(duplicate_tsns.collect(out.alloc));
+            let fields = (tsn, room, blocks, nr_blocks, duplicates);
+            write!(out, "NrSack{fields:?}")
         }
-        Some(chunk) => write!(out, "{chunk:?}")?,
+        Some(chunk) => write!(out, "{chunk:?}"),
     }
-    Ok(None)
+    None
 }
 
 // ---- how it is written
@@ -212,104 +176,70 @@ fn put_chunk(raw: &RawChunk, buffer: &mut [u8]) -> Option<()> {
     add(buffer, &mut size, &chunk).ok()
 }
 
-/// Returns the item or the chunk at the front, without its padding.
-fn front_of(bytes: &[u8]) -> &[u8] {
-    bytes.get(..short_at(bytes, 2) as usize).unwrap_or(&[])
-}
-
 /// Writes what the buffer has from a place up to the end of the chunk, without its padding, after
-/// an arrow; nothing, where it is what was read.
-fn write_again(
-    alloc: Global,
-    place: usize,
-    read: &[u8],
-    buffer: &[u8],
-    out: &mut String,
-) -> Result<(), AllocError> {
+/// an arrow; nothing, where it is what was read, or nothing was put there.
+fn write_again(put: Option<()>, place: usize, bytes: &[u8], buffer: &[u8], out: &mut Answer) {
+    let read = front(bytes, short_at(bytes, 2) as usize);
     let end = CHUNK_PLACE.saturating_add(short_at(buffer, CHUNK_PLACE + 2) as usize);
-    let written = buffer.get(place..end).unwrap_or(&[]);
-    if written != read {
-        out.push_str(" -> ")?;
-        write_digits(alloc, written, out)?;
+    if put.is_some() {
+        write!(out, "{}", Change(read, from(front(buffer, end), place)))
     }
-    Ok(())
 }
 
 // ---- the items in it, the items in these, and so on
 
 /// Writes the items of a list in these bytes, the items in these, and so on, each after how deep it
 /// is. A step writes an item or ends a list, so there are fewer steps than bytes.
-fn write_inner(
-    alloc: Global,
-    bytes: &[u8],
-    list: Option<(bool, RawItems)>,
-    out: &mut String,
-) -> Result<(), AllocError> {
-    let mut lists = Vec::new(alloc);
+fn write_inner(bytes: &[u8], list: Inner, out: &mut Answer) {
+    let mut lists = Vec::new(out.alloc);
     if let Some(list) = list {
-        lists.push(list)?;
+        out.push(&mut lists, list);
     }
     for _ in 0..bytes.len() {
         if let Some((is_cause, mut items)) = lists.pop() {
             if let Some(raw) = items.next() {
-                lists.push((is_cause, items))?;
+                out.push(&mut lists, (is_cause, items));
                 let depth = lists.len();
-                write!(out, "; {depth} ")?;
+                write!(out, "; {depth} ");
                 if depth == MOST {
-                    write_bytes(alloc, raw.typ, raw.value, out)?;
-                } else if let Some(inner) = write_item(alloc, is_cause, &raw, out)? {
-                    lists.push(inner)?;
+                    write_bytes(raw.typ, raw.value, out);
+                } else if let Some(inner) = write_item(is_cause, &raw, out) {
+                    out.push(&mut lists, inner);
                 }
             }
         }
     }
-    Ok(())
 }
 
-/// Writes the parameter or the error cause at the front, and what is in it.
-fn write_item_row(
-    alloc: Global,
-    is_cause: bool,
-    bytes: &[u8],
-    out: &mut String,
-) -> Result<(), AllocError> {
+/// Writes the parameter or the error cause at the front, how it is written, and what is in it.
+fn write_item_row(is_cause: bool, bytes: &[u8], out: &mut Answer) {
     let Ok((raw, _)) = RawParameter::from_bytes(bytes) else {
-        return out.push_str("no item");
+        return out.say("no item");
     };
-    let inner = write_item(alloc, is_cause, &raw, out)?;
-    let mut buffer = vec![in alloc; 0xee; 65532]?;
-    if put_item(is_cause, &raw, &mut buffer).is_some() {
-        write_again(alloc, ITEM_PLACE, front_of(bytes), &buffer, out)?;
-    }
-    write_inner(alloc, bytes, inner, out)
+    let inner = write_item(is_cause, &raw, out);
+    let mut buffer = out.filled(65532);
+    let put = put_item(is_cause, &raw, &mut buffer);
+    write_again(put, ITEM_PLACE, bytes, &buffer, out);
+    write_inner(bytes, inner, out)
 }
 
-/// Writes the chunk at the front, and what is in it.
-fn write_chunk_row(alloc: Global, bytes: &[u8], out: &mut String) -> Result<(), AllocError> {
+/// Writes the chunk at the front, how it is written, and what is in it.
+fn write_chunk_row(bytes: &[u8], out: &mut Answer) {
     let Ok((raw, _)) = RawChunk::from_bytes(bytes) else {
-        return out.push_str("no chunk");
+        return out.say("no chunk");
     };
-    let inner = write_chunk(alloc, &raw, out)?;
-    let mut buffer = vec![in alloc; 0xee; 65532]?;
-    if put_chunk(&raw, &mut buffer).is_some() {
-        write_again(alloc, CHUNK_PLACE, front_of(bytes), &buffer, out)?;
-    }
-    write_inner(alloc, bytes, inner, out)
+    let inner = write_chunk(&raw, out);
+    let mut buffer = out.filled(65532);
+    let put = put_chunk(&raw, &mut buffer);
+    write_again(put, CHUNK_PLACE, bytes, &buffer, out);
+    write_inner(bytes, inner, out)
 }
 
 // ---- hostile nesting
 
-/// Adds this number of Unrecognized Parameters, each in the one before.
-fn add_nested(count: u16, bytes: &mut Vec<u8>) -> Result<(), AllocError> {
-    for i in 0..count {
-        let [high, low] = (count - i).saturating_mul(4).to_be_bytes();
-        bytes.extend_from_slice(&[0, 8, high, low])?;
-    }
-    Ok(())
-}
-
-/// Writes how many of them were opened, and how many bytes are left in the last one.
-fn write_opened(nested: RawItems, out: &mut String) -> Result<(), AllocError> {
+/// Writes how many of Unrecognized Parameters in one another were opened, and how many bytes are
+/// left in the last one.
+fn write_opened(nested: RawItems, out: &mut Answer) {
     let mut items = nested;
     let (mut opened, mut left) = (0, 0);
     for i in 0..MOST {
@@ -324,31 +254,30 @@ fn write_opened(nested: RawItems, out: &mut String) -> Result<(), AllocError> {
             }
         }
     }
-    write!(out, "{opened} opened, {left} bytes left")
+    write!(out, "{:?}", (opened, left))
 }
 
-fn write_nested(alloc: Global, count: u16, out: &mut String) -> Result<(), AllocError> {
-    let mut bytes = Vec::new(alloc);
-    add_nested(count, &mut bytes)?;
+/// Writes what `write_opened` says of this number of Unrecognized Parameters, each in the one
+/// before.
+fn write_nested(count: u16, out: &mut Answer) {
+    let mut bytes = Vec::new(out.alloc);
+    for i in 0..count {
+        let [high, low] = (count - i).saturating_mul(4).to_be_bytes();
+        out.had(bytes.extend_from_slice(&[0, 8, high, low]));
+    }
     match RawItems::from_bytes(&bytes) {
         Some(nested) => write_opened(nested, out),
-        None => out.push_str("no items"),
+        None => out.say("no items"),
     }
 }
 
-/// Writes the answer, if the call is one of this module.
-pub fn write_answer(
-    alloc: Global,
-    call: &str,
-    bytes: &[u8],
-    out: &mut String,
-) -> Result<bool, AllocError> {
+/// Writes the answer, if the call is one of this module; else the next one does.
+pub fn write_answer(call: &str, bytes: &[u8], other: &[u8], out: &mut Answer) {
     match call {
-        "registered-parameter" => write_item_row(alloc, false, bytes, out)?,
-        "registered-cause" => write_item_row(alloc, true, bytes, out)?,
-        "registered-chunk" => write_chunk_row(alloc, bytes, out)?,
-        "nested" => write_nested(alloc, short_at(bytes, 0), out)?,
-        _ => return Ok(false),
+        "registered-parameter" => write_item_row(false, bytes, out),
+        "registered-cause" => write_item_row(true, bytes, out),
+        "registered-chunk" => write_chunk_row(bytes, out),
+        "nested" => write_nested(short_at(bytes, 0), out),
+        _ => receive::write_answer(call, bytes, other, out),
     }
-    Ok(true)
 }

@@ -1,19 +1,22 @@
 //! Values that are read and written again.
 
-use crate::bytes::write_change;
+use crate::answer::{Answer, Change};
 use dcsctp_wire::packet::chunk::{Chunk, RawChunk};
 use dcsctp_wire::packet::{ChunkParseError, SerializableTlv};
-use std::alloc::{AllocError, Global};
+use std::alloc::Global;
 use std::fmt::{Debug, Display};
 
 /// Returns the value as it is written over zeros, or nothing if it can't be written.
-pub fn image_of<T: SerializableTlv>(alloc: Global, value: &T) -> Result<Vec<u8>, AllocError> {
+pub fn image_of<T: SerializableTlv>(value: &T, out: &mut Answer) -> Vec<u8> {
     if !value.encodable() {
-        return Ok(Vec::new(alloc));
+        return Vec::new(out.alloc);
     }
-    let mut output = vec![in alloc; 0; value.serialized_size()]?;
-    value.serialize_to(&mut output);
-    Ok(output)
+    let size = value.serialized_size();
+    let mut image = out.list(vec![in out.alloc; 0; size]);
+    if image.len() == size {
+        value.serialize_to(&mut image);
+    }
+    image
 }
 
 /// Returns the frame at the front of the bytes, without its padding.
@@ -34,37 +37,25 @@ pub fn chunk_of(alloc: Global, bytes: &[u8]) -> Result<Chunk, ChunkParseError> {
     }
 }
 
-/// Writes an arrow and how the value is written, where that isn't the frame at the front.
-pub fn write_image<T: SerializableTlv>(
-    alloc: Global,
-    bytes: &[u8],
-    value: &T,
-    out: &mut String,
-) -> Result<(), AllocError> {
-    let image = image_of(alloc, value)?;
-    write_change(alloc, frame_of(bytes), &image, out)
-}
-
-/// Writes all that a value holds, what it prints, and how it is written.
+/// Writes all that a value holds, what it prints, and how it is written, where that isn't the frame
+/// at the front.
 pub fn write_value<T: SerializableTlv + Debug + Display>(
-    alloc: Global,
     bytes: &[u8],
     value: &T,
-    out: &mut String,
-) -> Result<(), AllocError> {
-    write!(out, "{value:?}; {value}")?;
-    write_image(alloc, bytes, value, out)
+    out: &mut Answer,
+) {
+    let image = image_of(value, out);
+    write!(out, "{value:?}; {value}{}", Change(frame_of(bytes), &image))
 }
 
 /// Writes the value that a reader answered for the bytes, as `write_value` does, or its fault.
 pub fn write_read<T: SerializableTlv + Debug + Display + Drop>(
-    alloc: Global,
     bytes: &[u8],
     answer: Result<T, ChunkParseError>,
-    out: &mut String,
-) -> Result<(), AllocError> {
+    out: &mut Answer,
+) {
     match answer {
-        Ok(value) => write_value(alloc, bytes, &value, out),
+        Ok(value) => write_value(bytes, &value, out),
         Err(fault) => write!(out, "{fault:?}"),
     }
 }
