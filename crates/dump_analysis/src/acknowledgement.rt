@@ -10,7 +10,7 @@ use dcsctp_wire::packet::sack_chunk::SackNumbers;
 use dcsctp_wire::packet::{read_u16_be, read_u32_be};
 
 /// The TSNs that a chunk acknowledges, as far as it was captured.
-#[derive(Clone, Copy, Debug)]
+#[derive(Clone, Copy)]
 pub struct Acknowledgement<'a> {
     /// The Cumulative TSN Ack: it, and all before it.
     pub cumulative: u32,

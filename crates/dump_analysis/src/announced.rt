@@ -32,7 +32,7 @@ const SEQUENCE_NUMBER_SIZE: usize = 4;
 const CORRELATION_ID_SIZE: usize = 4;
 
 /// By what an ASCONF ACK answers a request.
-#[derive(Clone, Copy, Debug)]
+#[derive(Clone, Copy)]
 pub struct RequestId {
     /// The Sequence Number of its ASCONF (RFC 5061 section 4.1.1).
     pub sequence_number: u32,
@@ -41,7 +41,7 @@ pub struct RequestId {
 }
 
 /// What an ASCONF ACK says of a request.
-#[derive(Clone, Copy, Debug)]
+#[derive(Clone, Copy)]
 pub enum Answer {
     /// It succeeded: the number of the ASCONF ACK's packet.
     Accepted(PacketNumber),
@@ -53,7 +53,7 @@ pub enum Answer {
 }
 
 /// Where an end said something of an address of its own.
-#[derive(Clone, Copy, Debug)]
+#[derive(Clone, Copy)]
 pub struct Statement {
     /// The type of the chunk: INIT, INIT ACK or ASCONF.
     pub chunk: u8,
@@ -87,7 +87,7 @@ impl Statement {
 }
 
 /// What an end says of an address of its own.
-#[derive(Clone, Copy, Debug)]
+#[derive(Clone, Copy)]
 enum Topic {
     /// It has it: in INIT or INIT ACK, or by Add IP Address (RFC 5061 section 4.2.1).
     Added,
@@ -98,7 +98,7 @@ enum Topic {
 }
 
 /// An address, and what its end said of it.
-#[derive(Clone, Copy, Debug)]
+#[derive(Clone, Copy)]
 pub struct Announced {
     /// The address.
     pub address: IpAddr,
@@ -224,7 +224,7 @@ fn answered_statement(
 }
 
 /// The addresses of one end of which it said something.
-#[derive(Clone, Debug, Drop)]
+#[derive(Clone, Drop)]
 pub struct Announcements {
     /// The first ones. One that was deleted, and is added once more, is another one.
     pub list: [Option<Announced>; MOST],
@@ -411,7 +411,7 @@ impl Announcements {
 }
 
 /// What an end announced. Memory is taken once it says something of an address: most ends don't.
-#[derive(Debug, Drop)]
+#[derive(Drop)]
 pub struct Announcer(Option<Box<Announcements>>);
 
 impl Announcer {

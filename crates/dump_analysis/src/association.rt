@@ -19,7 +19,7 @@ use dcsctp_borrowed::part::Item;
 use std::alloc::{AllocError, Global};
 
 /// Which end of an association.
-#[derive(Clone, Copy, Debug, PartialEq, Eq)]
+#[derive(Clone, Copy, PartialEq, Eq)]
 pub enum Side {
     /// The one that sent its first packet.
     First,
@@ -40,7 +40,7 @@ impl Side {
 }
 
 /// The first packet of an association.
-#[derive(Clone, Copy, Debug)]
+#[derive(Clone, Copy)]
 pub struct Began {
     /// The packet's number.
     pub packet: PacketNumber,
@@ -51,7 +51,7 @@ pub struct Began {
 }
 
 /// The first packet that shows that an association was established.
-#[derive(Clone, Copy, Debug)]
+#[derive(Clone, Copy)]
 pub struct Established {
     /// The packet's number.
     pub packet: PacketNumber,
@@ -63,7 +63,7 @@ pub struct Established {
 }
 
 /// What ended an association.
-#[derive(Clone, Copy, Debug)]
+#[derive(Clone, Copy)]
 pub struct Ended {
     /// The packet's number.
     pub packet: PacketNumber,
@@ -78,7 +78,7 @@ pub struct Ended {
 }
 
 /// An association, as a capture shows it.
-#[derive(Debug, Drop)]
+#[derive(Drop)]
 pub struct Association {
     /// The association's number: from 1 on, in order of the first packet.
     pub number: u64,

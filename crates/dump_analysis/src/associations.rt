@@ -22,7 +22,7 @@ use std::alloc::{AllocError, Global};
 use std::mem;
 
 /// Whose packet a packet is.
-#[derive(Clone, Copy, Debug)]
+#[derive(Clone, Copy)]
 enum Owner {
     /// It is of an association, and from this end.
     Known(Flow),

@@ -19,7 +19,7 @@ use dcsctp_wire::packet::sctp_packet::CommonHeader;
 const AUTH_SIZE: usize = 8;
 
 /// What is found of an AUTH chunk.
-#[derive(Clone, Copy, Debug, PartialEq, Eq)]
+#[derive(Clone, Copy)]
 pub enum AuthVerdict {
     /// Its HMAC is that of the association shared key.
     Right,
@@ -42,7 +42,7 @@ impl AuthVerdict {
 }
 
 /// What is found of AUTH in a packet.
-#[derive(Clone, Copy, Debug, PartialEq, Eq)]
+#[derive(Clone, Copy)]
 pub struct Authentication {
     /// What is found of its first AUTH chunk, if it has one; a packet has no other (RFC 4895
     /// section 5.1).
@@ -168,7 +168,7 @@ fn is_right(pair_key: &[u8], one: &[u8], other: &[u8], bytes: &[u8]) -> bool
 }
 
 /// How often something was found of AUTH, up to 2^64 - 1 each.
-#[derive(Clone, Copy, Debug)]
+#[derive(Clone, Copy)]
 pub struct AuthenticationCounts {
     /// Packets whose AUTH is right.
     pub right: u64,

@@ -14,7 +14,7 @@ use dcsctp_borrowed::part::Part;
 use dcsctp_wire::packet::read_u16_be;
 
 /// What is counted of the messages that one end sent, up to 2^64 - 1 each.
-#[derive(Clone, Debug, Drop)]
+#[derive(Clone, Drop)]
 pub struct Traffic {
     /// Messages.
     pub messages: u64,
@@ -65,7 +65,7 @@ impl Traffic {
 }
 
 /// What is counted of the messages of both ends.
-#[derive(Clone, Debug, Drop)]
+#[derive(Clone, Drop)]
 pub struct Tally {
     /// Those that the first end sent.
     pub first: Traffic,
@@ -101,7 +101,7 @@ impl Tally {
 }
 
 /// The last request of one end to reset a stream (RFC 6525 section 4.1), and its response.
-#[derive(Clone, Copy, Debug)]
+#[derive(Clone, Copy)]
 pub struct Reset {
     /// The Re-configuration Request Sequence Number.
     pub number: u32,
@@ -169,7 +169,7 @@ pub enum News<'a> {
 /// A channel: a stream, both ways, from its DATA_CHANNEL_OPEN (RFC 8832) on; or where none was
 /// seen, what a stream has of one payload protocol. It ends by a reset of the stream, each way by
 /// itself, or by the next DATA_CHANNEL_OPEN.
-#[derive(Clone, Debug, Drop)]
+#[derive(Clone, Drop)]
 pub struct Channel {
     /// The stream.
     pub stream: u16,

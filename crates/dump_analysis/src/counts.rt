@@ -22,7 +22,7 @@ use dump_capture::line::Direction;
 use std::net::{IpAddr, Ipv4Addr, Ipv6Addr};
 
 /// A packet of a capture.
-#[derive(Clone, Copy, Debug)]
+#[derive(Clone, Copy)]
 pub struct SeenPacket<'a> {
     /// Its number.
     pub number: PacketNumber,
@@ -83,7 +83,7 @@ impl<'a> SeenPacket<'a> {
 }
 
 /// The least window that an end advertised, in bytes, and the first packet that did.
-#[derive(Clone, Copy, Debug, PartialEq, Eq)]
+#[derive(Clone, Copy)]
 pub struct LeastWindow {
     /// The window (RFC 9260 section 3.3.4).
     pub a_rwnd: u32,
@@ -92,7 +92,7 @@ pub struct LeastWindow {
 }
 
 /// What is counted of the packets that one end sent, up to 2^64 - 1 each.
-#[derive(Clone, Copy, Debug)]
+#[derive(Clone, Copy)]
 pub struct Counts {
     /// Packets.
     pub packets: u64,

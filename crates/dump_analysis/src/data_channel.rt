@@ -26,7 +26,7 @@ const ACK: u8 = 2;
 pub const MOST_TEXT: usize = 64;
 
 /// The front of a text of the peer: at most 64 bytes.
-#[derive(Clone, Copy, Debug)]
+#[derive(Clone, Copy)]
 pub struct PeerText {
     bytes: [u8; MOST_TEXT],
     size: usize,
@@ -57,7 +57,7 @@ impl PeerText {
 }
 
 /// A DATA_CHANNEL_OPEN, and its answer.
-#[derive(Clone, Copy, Debug)]
+#[derive(Clone, Copy)]
 pub struct Opened {
     /// Which end sent it.
     pub by: Side,

@@ -29,7 +29,7 @@ use std::net::IpAddr;
 const MOST_ADDRESSES: usize = 4;
 
 /// The last TSN that the other end acknowledged, and the first packet that did.
-#[derive(Clone, Copy, Debug, PartialEq, Eq)]
+#[derive(Clone, Copy)]
 pub struct Acknowledged {
     /// The greatest Cumulative TSN Ack (RFC 9260 sections 3.3.4 and 3.3.8).
     pub tsn: u32,
@@ -39,7 +39,7 @@ pub struct Acknowledged {
 
 /// What an end gave up, and asked the other end not to wait for (RFC 3758 section 3.2, RFC 8260
 /// section 2.3.1).
-#[derive(Clone, Copy, Debug, PartialEq, Eq)]
+#[derive(Clone, Copy)]
 pub struct Skipped {
     /// The greatest new cumulative TSN of its FORWARD-TSNs and I-FORWARD-TSNs.
     pub tsn: u32,
@@ -52,7 +52,7 @@ pub struct Skipped {
 }
 
 /// The packets in which an end had no room.
-#[derive(Clone, Copy, Debug, PartialEq, Eq)]
+#[derive(Clone, Copy)]
 pub struct Closed {
     /// The number of the packet of the first SACK with an a_rwnd of 0.
     pub first: PacketNumber,
@@ -61,7 +61,7 @@ pub struct Closed {
 }
 
 /// One end of an association, and what it sent.
-#[derive(Debug, Drop)]
+#[derive(Drop)]
 pub struct End {
     /// The addresses from which or to which packets went, the first ones of them.
     pub addresses: [Option<IpAddr>; MOST_ADDRESSES],
@@ -105,7 +105,7 @@ pub struct End {
 }
 
 /// What a tag of an end is.
-#[derive(Clone, Copy, Debug, PartialEq, Eq)]
+#[derive(Clone, Copy)]
 pub enum Learned {
     /// It was known.
     Known,

@@ -17,7 +17,7 @@ use dump_capture::frame::{Addresses, FoundPacket};
 use dump_capture::line::Direction;
 
 /// An address of an IP packet, as its octets.
-#[derive(Clone, Copy, Debug, PartialEq, Eq)]
+#[derive(Clone, Copy, PartialEq, Eq)]
 pub enum Host {
     /// Of IPv4 (RFC 791).
     V4([u8; 4]),
@@ -26,7 +26,7 @@ pub enum Host {
 }
 
 /// From or up to which packets are asked for.
-#[derive(Clone, Copy, Debug, PartialEq, Eq)]
+#[derive(Clone, Copy)]
 pub enum Bound {
     /// The number of a packet.
     Number(u64),
@@ -37,7 +37,7 @@ pub enum Bound {
 }
 
 /// When a packet was seen, and which way it went.
-#[derive(Clone, Copy, Debug, PartialEq, Eq)]
+#[derive(Clone, Copy)]
 pub struct Arrival {
     /// Its number.
     pub number: u64,
@@ -56,7 +56,7 @@ pub struct Arrival {
 pub const VALUES: usize = 16;
 
 /// What a packet has to have: one of the values of each kind of which some are asked for.
-#[derive(Clone, Copy, Debug)]
+#[derive(Clone, Copy)]
 pub struct Filter {
     /// The source port or the destination port (RFC 9260 section 3.1).
     pub ports: [Option<u16>; VALUES],

@@ -15,7 +15,7 @@ use dcsctp_wire::packet::idata_chunk::IDataNumbers;
 use dcsctp_wire::packet::{read_u16_be, read_u32_be};
 
 /// Which message of its stream it is.
-#[derive(Clone, Copy, Debug, PartialEq, Eq)]
+#[derive(Clone, Copy, PartialEq, Eq)]
 pub struct MessageKey {
     /// Whether it is of I-DATA.
     pub is_i_data: bool,
@@ -77,7 +77,7 @@ impl Numbers {
 }
 
 /// A fragment that was sent.
-#[derive(Clone, Copy, Debug)]
+#[derive(Clone, Copy)]
 pub struct Fragment {
     /// Its TSN.
     pub tsn: u32,

@@ -18,7 +18,7 @@ use std::net::IpAddr;
 const REFLECTED: u8 = 1;
 
 /// Which end of a log an end is.
-#[derive(Clone, Copy, PartialEq, Eq, Hash, Debug)]
+#[derive(Clone, Copy, PartialEq, Eq, Hash)]
 pub enum Origin {
     /// That isn't known: the packet isn't of a log.
     Unknown,
@@ -42,7 +42,7 @@ impl Origin {
 }
 
 /// An end, as far as it is known without its tag.
-#[derive(Clone, Copy, PartialEq, Eq, Hash, Debug)]
+#[derive(Clone, Copy, PartialEq, Eq, Hash)]
 pub struct Place {
     /// The address, if it is known.
     pub address: Option<IpAddr>,
@@ -53,7 +53,7 @@ pub struct Place {
 }
 
 /// From where to where the first packet of an association went.
-#[derive(Clone, Copy, PartialEq, Eq, Hash, Debug)]
+#[derive(Clone, Copy, PartialEq, Eq, Hash)]
 pub struct Route {
     /// The transport of a log.
     pub transport: TransportKey,
@@ -112,7 +112,7 @@ impl Route {
 }
 
 /// The packets that one end sends to the other: they have these ports and this tag.
-#[derive(Clone, Copy, PartialEq, Eq, Hash, Debug)]
+#[derive(Clone, Copy, PartialEq, Eq, Hash)]
 pub struct FlowKey {
     transport: TransportKey,
     origin: Origin,

@@ -15,7 +15,7 @@ pub const MOST_VECTOR: usize = 320;
 
 /// A key vector: the RANDOM, the Chunk List and the Requested HMAC Algorithm parameter of an INIT
 /// or an INIT ACK, without padding.
-#[derive(Clone, Copy, Debug)]
+#[derive(Clone, Copy)]
 pub struct KeyVector {
     /// The Initiate Tag beside them.
     tag: u32,
@@ -93,7 +93,7 @@ const MOST: usize = 2;
 
 /// The key vectors of an end: those of the INITs and INIT ACKs that it sent, the last two of them
 /// that differ, since an INIT that is sent again may be answered by another INIT ACK.
-#[derive(Clone, Copy, Debug)]
+#[derive(Clone, Copy)]
 pub struct KeyVectors {
     /// Those that are kept, the last one first.
     pub kept: [Option<KeyVector>; MOST],

@@ -7,7 +7,7 @@ use std::alloc::{AllocError, Global};
 use std::collections::HashMap;
 
 /// Whose packets they are: of the association in a slot of the table, and from which end.
-#[derive(Clone, Copy, Debug)]
+#[derive(Clone, Copy)]
 pub struct Flow {
     /// The slot.
     pub slot: usize,

@@ -10,7 +10,7 @@ use std::fmt;
 
 /// How the TSNs of a packet's DATA chunks follow those that its sender sent before, up to 2^64 - 1
 /// each (RFC 9260 sections 2.6 and 3.3.1).
-#[derive(Clone, Copy, Debug, PartialEq, Eq)]
+#[derive(Clone, Copy)]
 pub struct Sequence {
     /// How many were seen before.
     pub repeated: u64,
@@ -43,7 +43,7 @@ impl Sequence {
 }
 
 /// The association of a packet.
-#[derive(Clone, Copy, Debug, PartialEq, Eq)]
+#[derive(Clone, Copy)]
 pub struct Membership {
     /// Its number.
     pub association: u64,

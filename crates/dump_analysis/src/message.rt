@@ -16,7 +16,7 @@ use std::alloc::{AllocError, Global};
 use std::mem;
 
 /// What became of a message.
-#[derive(Clone, Copy, Debug)]
+#[derive(Clone, Copy)]
 pub enum Fate {
     /// All of it was acknowledged, by this packet at last.
     Acknowledged(Moment),
@@ -33,7 +33,7 @@ pub enum Fate {
 }
 
 /// A fragment that was sent again.
-#[derive(Clone, Copy, Debug)]
+#[derive(Clone, Copy)]
 pub struct Again {
     /// Its TSN.
     pub tsn: u32,
@@ -42,7 +42,7 @@ pub struct Again {
 }
 
 /// A user message that one end sent, as far as its fragments were seen, and what became of it.
-#[derive(Clone, Copy, Debug)]
+#[derive(Clone, Copy)]
 pub struct Message {
     /// The association's number.
     pub association: u64,

@@ -21,7 +21,7 @@ use std::collections::HashMap;
 const MOST: usize = 65_536;
 
 /// Which end of which association.
-#[derive(Clone, Copy, Debug, PartialEq, Eq, Hash)]
+#[derive(Clone, Copy, PartialEq, Eq, Hash)]
 struct EndKey {
     association: u64,
     is_first: bool,

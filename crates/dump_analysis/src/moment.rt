@@ -4,7 +4,7 @@ use crate::counts::SeenPacket;
 use crate::packet_number::PacketNumber;
 
 /// A packet, and when it was captured.
-#[derive(Clone, Copy, Debug, PartialEq, Eq)]
+#[derive(Clone, Copy)]
 pub struct Moment {
     /// The packet's number.
     pub packet: PacketNumber,

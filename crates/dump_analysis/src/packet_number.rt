@@ -4,7 +4,7 @@ use dump_report::json_text::JsonText;
 use std::fmt;
 
 /// A packet's number.
-#[derive(Clone, Copy, Debug, PartialEq, Eq)]
+#[derive(Clone, Copy, PartialEq, Eq)]
 pub struct PacketNumber {
     /// The place of its file in the list of inputs, from 0 on.
     pub file: u32,

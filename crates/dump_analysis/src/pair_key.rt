@@ -8,7 +8,7 @@ pub const MOST_KEY: usize = 128;
 
 /// An endpoint pair shared key of up to 128 bytes, and the Shared Key Identifier that AUTH names it
 /// by.
-#[derive(Clone, Copy, Debug)]
+#[derive(Clone, Copy)]
 pub struct PairKey {
     /// The Shared Key Identifier (RFC 4895 section 5.1): 0 of ends that have no key of their own,
     /// where the key is empty.

@@ -13,7 +13,7 @@ use crate::unanswered::Unanswered;
 use std::net::IpAddr;
 
 /// Which path a packet takes.
-#[derive(Clone, Copy, Debug, PartialEq, Eq)]
+#[derive(Clone, Copy, PartialEq, Eq)]
 pub struct Way {
     /// The end that sends on it.
     pub sender: Side,
@@ -35,7 +35,7 @@ impl Way {
 
 /// A path: what one end sent from one of its addresses to one of the other end's. (In RFC 9260
 /// section 1.3 a path is a destination address alone, whichever the source is.)
-#[derive(Debug, Drop)]
+#[derive(Drop)]
 pub struct Path {
     /// Whose path it is, and between which addresses.
     pub way: Way,

@@ -10,7 +10,7 @@ use std::collections::HashMap;
 const MOST: usize = 16_777_216;
 
 /// Which fragment.
-#[derive(Clone, Copy, Debug, PartialEq, Eq, Hash)]
+#[derive(Clone, Copy, PartialEq, Eq, Hash)]
 struct Key {
     association: u64,
     is_of_first: bool,

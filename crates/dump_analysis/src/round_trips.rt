@@ -16,7 +16,7 @@ const MOST: usize = 16;
 /// A TSN that was sent again is no sample (Karn's rule, RFC 9260 section 6.3.1), nor is one that a
 /// FORWARD-TSN skips. At most 16 TSNs are waited for at a time; those that are sent meanwhile are
 /// no samples either.
-#[derive(Clone, Debug, Drop)]
+#[derive(Clone, Drop)]
 pub struct RoundTrips {
     /// Those that were measured.
     pub delays: Delays,
@@ -24,7 +24,7 @@ pub struct RoundTrips {
 }
 
 /// A TSN that was sent, and when.
-#[derive(Clone, Copy, Debug)]
+#[derive(Clone, Copy)]
 struct Sent {
     tsn: u32,
     is_waiting: bool,

@@ -47,7 +47,7 @@ struct First {
 }
 
 /// A TSN that was sent before.
-#[derive(Clone, Copy, Debug, PartialEq, Eq)]
+#[derive(Clone, Copy)]
 pub struct Resent {
     /// The TSN.
     pub tsn: u32,

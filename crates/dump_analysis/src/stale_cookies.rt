@@ -13,7 +13,7 @@ use dcsctp_wire::packet::read_u32_be;
 const STALE_COOKIE: u8 = 3;
 
 /// The Stale Cookie causes of ERRORs (RFC 9260 section 3.3.10.3).
-#[derive(Clone, Copy, Debug)]
+#[derive(Clone, Copy)]
 pub struct StaleCookies {
     /// How many there were, up to 2^64 - 1.
     pub count: u64,

@@ -15,7 +15,7 @@ const DAY: u64 = 86_400;
 const BEFORE_2000: u64 = 10_957;
 
 /// How a time is written.
-#[derive(Clone, Copy, Debug, PartialEq, Eq)]
+#[derive(Clone, Copy)]
 pub enum TimeForm {
     /// Seconds since 1970-01-01 00:00:00 UTC, as `1718195696.000120`.
     Seconds,
@@ -29,7 +29,7 @@ pub enum TimeForm {
 }
 
 /// How the times of a capture are written.
-#[derive(Clone, Copy, Debug, PartialEq, Eq)]
+#[derive(Clone, Copy)]
 pub struct TimeStyle {
     /// The form of a time.
     pub form: TimeForm,
@@ -57,7 +57,7 @@ impl TimeStyle {
 }
 
 /// A time, as text.
-#[derive(Clone, Copy, Debug)]
+#[derive(Clone, Copy)]
 pub struct TimeReport {
     /// Nanoseconds since 1970-01-01 00:00:00 UTC.
     pub nanoseconds: u64,
@@ -104,7 +104,7 @@ impl fmt::Display for TimeReport {
 }
 
 /// A time as a value of JSON: a number of seconds; a string where it is a date or a time of day.
-#[derive(Clone, Copy, Debug)]
+#[derive(Clone, Copy)]
 pub struct TimeJson(pub TimeReport);
 
 impl fmt::Display for TimeJson {
@@ -132,7 +132,7 @@ pub fn write_time_key<W: fmt::Write>(
 }
 
 /// A span of time in seconds, as `0.000210`.
-#[derive(Clone, Copy, Debug)]
+#[derive(Clone, Copy)]
 pub struct SecondsReport {
     /// Nanoseconds.
     pub nanoseconds: u64,

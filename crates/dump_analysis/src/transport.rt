@@ -14,7 +14,7 @@ const LONGEST: usize = 64;
 const MOST: usize = 1_024;
 
 /// The transport of an association, as a log names it.
-#[derive(Clone, Copy, PartialEq, Eq, Debug)]
+#[derive(Clone, Copy)]
 pub enum Transport {
     /// It has no name.
     Unnamed,
@@ -26,7 +26,7 @@ pub enum Transport {
 }
 
 /// The name of a transport: at most 64 bytes of printable ASCII.
-#[derive(Clone, Copy, PartialEq, Eq, Hash, Debug)]
+#[derive(Clone, Copy, PartialEq, Eq, Hash)]
 pub struct TransportName {
     bytes: [u8; LONGEST],
     size: usize,
@@ -67,7 +67,7 @@ impl TransportName {
 
 /// Which transport it is: of those without a name, of those whose names aren't kept, or of one
 /// name.
-#[derive(Clone, Copy, PartialEq, Eq, Hash, Debug)]
+#[derive(Clone, Copy, PartialEq, Eq, Hash)]
 pub enum TransportKey {
     /// Any without a name.
     Unnamed,

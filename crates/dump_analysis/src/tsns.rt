@@ -15,7 +15,7 @@ const WINDOW: u32 = 2_048;
 const WORDS: usize = 32;
 
 /// The TSNs that one end sent (RFC 9260 sections 2.6 and 3.3.1), with counts up to 2^64 - 1.
-#[derive(Clone, Debug, Drop)]
+#[derive(Clone, Drop)]
 pub struct Tsns {
     span: Option<Span>,
     /// How many were seen again. One that comes 2,048 TSNs late, or later, counts as such.
@@ -31,14 +31,14 @@ pub struct Tsns {
 }
 
 /// The first TSN of the sequence and the last one.
-#[derive(Clone, Copy, Debug)]
+#[derive(Clone, Copy)]
 struct Span {
     first: u32,
     last: u32,
 }
 
 /// How a TSN follows those that an end sent before.
-#[derive(Clone, Copy, Debug, PartialEq, Eq)]
+#[derive(Clone, Copy, PartialEq, Eq)]
 pub enum Step {
     /// It is the first one, or is beyond the greatest one.
     Ahead {

@@ -12,7 +12,7 @@ use crate::event::Sink;
 pub const MOST_KEPT: usize = 262_144;
 
 /// How far an item reaches that is too long to be kept.
-#[derive(Clone, Copy, Debug, PartialEq, Eq)]
+#[derive(Clone, Copy)]
 pub enum Extent {
     /// As many bytes, more than are in memory.
     Bytes(usize),
@@ -21,7 +21,7 @@ pub enum Extent {
 }
 
 /// What the bytes in memory begin with.
-#[derive(Clone, Copy, Debug, PartialEq, Eq)]
+#[derive(Clone, Copy)]
 pub enum Next {
     /// Less than an item: more bytes are needed, or to know that there are none.
     More,
@@ -36,7 +36,7 @@ pub enum Next {
 }
 
 /// Why a capture can't be read further.
-#[derive(Clone, Copy, Debug, PartialEq, Eq)]
+#[derive(Clone, Copy, PartialEq, Eq)]
 pub enum Fault {
     /// It doesn't begin as a file of its format.
     NotCapture,

@@ -9,7 +9,7 @@ use crate::pcap::Resolution;
 use crate::stamp::Stamp;
 
 /// When a frame was seen, as its capture says it.
-#[derive(Clone, Debug, Drop)]
+#[derive(Clone, Drop)]
 pub enum Time<'a> {
     /// No time is known.
     Unknown,
@@ -47,7 +47,7 @@ pub enum Time<'a> {
 }
 
 /// A part of a capture.
-#[derive(Clone, Copy, Debug, PartialEq, Eq)]
+#[derive(Clone, Copy)]
 pub enum Part {
     /// A record of a file.
     Record,
@@ -58,7 +58,7 @@ pub enum Part {
 }
 
 /// Where and when a frame was seen.
-#[derive(Clone, Debug, Drop)]
+#[derive(Clone, Drop)]
 pub struct Seen<'a> {
     /// Its number among the frames of a text, or the number of its record in a file, from 1.
     pub number: u64,
@@ -71,7 +71,7 @@ pub struct Seen<'a> {
 }
 
 /// Why a record or a line holds no frame.
-#[derive(Clone, Copy, Debug, PartialEq, Eq)]
+#[derive(Clone, Copy)]
 pub enum Skipped {
     /// A header says a length that can't be.
     Malformed,

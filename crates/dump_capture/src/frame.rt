@@ -81,7 +81,7 @@ pub enum Addresses {
 }
 
 /// The ports of a UDP datagram.
-#[derive(Clone, Copy, Debug, PartialEq, Eq)]
+#[derive(Clone, Copy, Debug)]
 pub struct UdpPorts {
     pub source: u16,
     pub destination: u16,
@@ -102,7 +102,7 @@ pub struct FoundPacket<'a> {
 }
 
 /// Why a frame has no packet that can be read.
-#[derive(Clone, Copy, Debug, PartialEq, Eq)]
+#[derive(Clone, Copy, Debug)]
 pub enum NoPacket {
     /// Frames of its link type aren't read.
     LinkType,

@@ -32,7 +32,7 @@ pub struct LoggedPacket<'a> {
 }
 
 /// A form of dump.
-#[derive(Clone, Copy, Debug, PartialEq, Eq)]
+#[derive(Clone, Copy, Debug)]
 pub enum DumpForm {
     /// Of `xxd`: `00000010: 1388 1388 ..`. Nothing says what the bytes are.
     Xxd,
@@ -77,7 +77,7 @@ pub enum Line<'a> {
 }
 
 /// Where the bytes of a line of a dump belong.
-#[derive(Clone, Copy, Debug, PartialEq, Eq)]
+#[derive(Clone, Copy, Debug)]
 pub enum Place {
     /// They begin a packet.
     Begins,

@@ -12,7 +12,7 @@ pub const FILE_HEADER_SIZE: usize = 24;
 pub const RECORD_HEADER_SIZE: usize = 16;
 
 /// The byte order of the numbers in a file, which is that of the machine that wrote it.
-#[derive(Clone, Copy, Debug, PartialEq, Eq)]
+#[derive(Clone, Copy, Debug)]
 pub enum ByteOrder {
     /// Most significant byte first.
     BigEndian,
@@ -21,7 +21,7 @@ pub enum ByteOrder {
 }
 
 /// The unit of a record's fraction of a second.
-#[derive(Clone, Copy, Debug, PartialEq, Eq)]
+#[derive(Clone, Copy, Debug)]
 pub enum Resolution {
     /// Magic a1b2c3d4.
     Microseconds,
@@ -30,7 +30,7 @@ pub enum Resolution {
 }
 
 /// What the magic of a file says.
-#[derive(Clone, Copy, Debug, PartialEq, Eq)]
+#[derive(Clone, Copy, Debug)]
 pub struct PcapFormat {
     /// The byte order of all numbers in headers.
     pub order: ByteOrder,
@@ -39,7 +39,7 @@ pub struct PcapFormat {
 }
 
 /// A kind of input, known by its first four bytes.
-#[derive(Clone, Copy, Debug, PartialEq, Eq)]
+#[derive(Clone, Copy, Debug)]
 pub enum InputKind {
     /// A pcap file.
     Pcap(PcapFormat),
@@ -50,7 +50,7 @@ pub enum InputKind {
 }
 
 /// The header of a pcap file.
-#[derive(Clone, Copy, Debug, PartialEq, Eq)]
+#[derive(Clone, Copy, Debug)]
 pub struct FileHeader {
     /// What the magic says.
     pub format: PcapFormat,
@@ -65,7 +65,7 @@ pub struct FileHeader {
 }
 
 /// The header of a record.
-#[derive(Clone, Copy, Debug, PartialEq, Eq)]
+#[derive(Clone, Copy, Debug)]
 pub struct RecordHeader {
     /// Seconds since 1970-01-01 00:00:00 UTC.
     pub seconds: u32,

@@ -16,7 +16,7 @@ use crate::pcap::{
 };
 
 /// Finds the events of a pcap file. It says what comes next: it begins before the file header.
-#[derive(Clone, Copy, Debug, PartialEq, Eq)]
+#[derive(Clone, Copy)]
 pub enum PcapDecoder {
     /// The file header.
     FileHeader,

@@ -28,7 +28,7 @@ pub const ENHANCED_PACKET: u32 = 6;
 pub const LEAST_BLOCK_SIZE: usize = 12;
 
 /// The first fields of a block.
-#[derive(Clone, Copy, Debug, PartialEq, Eq)]
+#[derive(Clone, Copy)]
 pub struct BlockHeader {
     /// The order of the block's numbers.
     pub order: ByteOrder,
@@ -39,7 +39,7 @@ pub struct BlockHeader {
 }
 
 /// An interface that packets were captured on.
-#[derive(Clone, Copy, Debug, PartialEq, Eq)]
+#[derive(Clone, Copy)]
 pub struct Interface {
     /// The link type of its frames; see `crate::frame`.
     pub link_type: u16,

@@ -6,7 +6,7 @@ ghost use Rattle.dump_capture.specs.Stamp.{IsInRange};
 use crate::parts::after;
 
 /// A date without its year, and a time of day.
-#[derive(Clone, Copy, Debug, PartialEq, Eq)]
+#[derive(Clone, Copy, Debug)]
 pub struct Stamp {
     /// From 1 to 12.
     pub month: u8,

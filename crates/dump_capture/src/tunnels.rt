@@ -15,7 +15,7 @@ use crate::tunnel::{GRE_PROTOCOL, GTP_PORT, VXLAN_PORT, is_tunnel};
 use std::marker::Model;
 
 /// What a tunnel is.
-#[derive(Clone, Copy, Debug, PartialEq, Eq)]
+#[derive(Clone, Copy, Debug)]
 pub enum TunnelKind {
     /// IP in IP (RFC 2003, RFC 2473, RFC 4213).
     Ip,
@@ -32,7 +32,7 @@ pub enum TunnelKind {
 }
 
 /// A tunnel that a packet is in.
-#[derive(Clone, Copy, Debug, PartialEq, Eq)]
+#[derive(Clone, Copy, Debug)]
 pub struct Tunnel {
     /// What it is.
     pub kind: TunnelKind,

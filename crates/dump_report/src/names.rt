@@ -4,7 +4,7 @@ use crate::registry::{address_name, cause_name, chunk_name, hmac_name, parameter
 use std::fmt;
 
 /// What an item is.
-#[derive(Clone, Copy, PartialEq, Eq)]
+#[derive(Clone, Copy)]
 pub enum Level {
     Chunk,
     Parameter,

@@ -98,7 +98,7 @@ found a broken rule.
 pub const STANDARD_INPUT: &str = "-";
 
 /// What the program is to do.
-#[derive(Clone, Copy, PartialEq, Eq)]
+#[derive(Clone, Copy)]
 pub enum Action {
     /// Print packets.
     Dump,

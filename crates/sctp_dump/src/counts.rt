@@ -68,7 +68,7 @@ pub struct Judged {
 }
 
 /// Whether a packet was accepted.
-#[derive(Clone, Copy, PartialEq, Eq)]
+#[derive(Clone, Copy)]
 pub enum Verdict {
     /// It was accepted.
     Accepted,

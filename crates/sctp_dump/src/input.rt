@@ -24,7 +24,7 @@ use std::alloc::Global;
 use std::io::Read;
 
 /// What an input is.
-#[derive(Clone, Copy, PartialEq, Eq)]
+#[derive(Clone, Copy)]
 pub enum InputFormat {
     /// A pcap file.
     Pcap,

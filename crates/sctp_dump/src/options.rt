@@ -10,7 +10,7 @@ use dump_analysis::filter::{Filter, VALUES, asks_nothing};
 use dump_capture::frame::UDP_PORT;
 
 /// The form of an input.
-#[derive(Clone, Copy, PartialEq, Eq)]
+#[derive(Clone, Copy)]
 pub enum FormatOption {
     /// What its first bytes say.
     Detected,
@@ -23,7 +23,7 @@ pub enum FormatOption {
 }
 
 /// The form of what is printed.
-#[derive(Clone, Copy, PartialEq, Eq)]
+#[derive(Clone, Copy)]
 pub enum OutputForm {
     /// A block of lines a packet.
     Blocks,
@@ -36,7 +36,7 @@ pub enum OutputForm {
 }
 
 /// The form of times.
-#[derive(Clone, Copy, PartialEq, Eq)]
+#[derive(Clone, Copy)]
 pub enum TimeOption {
     /// As the capture says them: seconds since 1970, or a log's time of day.
     Captured,

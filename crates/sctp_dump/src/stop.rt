@@ -4,7 +4,7 @@ use dump_capture::decoder::Fault;
 use std::alloc::AllocError;
 
 /// Why a capture isn't read further.
-#[derive(Clone, Copy, Debug, PartialEq, Eq)]
+#[derive(Clone, Copy, PartialEq, Eq)]
 pub enum Stop {
     /// A read failed.
     Read,
