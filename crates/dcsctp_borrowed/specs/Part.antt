@@ -45,7 +45,8 @@ first_item p = record {
 abbrev pub after_item : Part → Part
 after_item p = after (round_up_to_4 (length_field p)) p
 
--- The items that lie here one after the other are these.
+-- The items that lie here one after the other are these. They end where a header is missing or a
+-- length is impossible, unlike those of dcsctp_tlv's `AreItems`, which are all the bytes.
 pub data AreItems : Part → List Item → Type 0 where
   none : (p : Part) (items : List Item) → begins_with_item p ≡ false → items ≡ [] → AreItems p items
   next : (p : Part) (items others : List Item) → begins_with_item p ≡ true
