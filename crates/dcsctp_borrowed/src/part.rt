@@ -1,7 +1,8 @@
 //! Bytes of a packet, as far as they were captured, and the items in them: chunks, parameters and
 //! error causes.
 
-ghost use Rattle.std.specs.Prelude.{◌≡◌};
+ghost use Rattle.std.specs.Prelude.{◌≡◌, ◌≤◌, ◌↔◌, ◌∷◌, [], length, IsTrue};
+ghost use Rattle.dcsctp_tlv.specs.Number.{number16};
 ghost use Rattle.dcsctp_borrowed.specs.Part.{part_of, front, after, IsFirst};
 
 use dcsctp_wire::packet::{read_u16_be, round_up_to_4};
@@ -45,7 +46,9 @@ impl<'a> Part<'a> {
     }
 
     /// Returns whether all of it was captured.
-    pub fn is_whole(self) -> bool {
+    pub fn is_whole(self) -> bool
+        ensures { IsTrue result ↔ self.entry.size ≤ length self.entry.bytes.now }
+    {
         self.bytes.len() >= self.size
     }
 
@@ -103,7 +106,9 @@ impl<'a> Part<'a> {
 
 impl<'a> Item<'a> {
     /// Returns a parameter's type, or a cause's code.
-    pub fn code(self) -> u16 {
+    pub fn code(self) -> u16
+        ensures { result ≡ number16 (self.entry.first ∷ self.entry.second ∷ []) }
+    {
         u16::from_be_bytes([self.first, self.second])
     }
 }
