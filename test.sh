@@ -199,7 +199,7 @@ run_quickly() {
     step comparisons compare
     step 'commands of the pages' tools/commands.py
     step 'code of CALLING.md' tools/examples.py --try
-    if command -v node >/dev/null; then step 'scripts of the page' node page/tests/units.mjs; fi
+    with node 'scripts of the page' node page/tests/units.mjs
     finish
     if are_built crates/test_rows/out/test_rows crates/sctp_show/out/sctp_show; then
         step 'refused requests' tests/refusals/test.sh
