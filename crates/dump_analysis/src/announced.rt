@@ -224,7 +224,7 @@ fn answered_statement(
 }
 
 /// The addresses of one end of which it said something.
-#[derive(Clone, Drop)]
+#[derive(Drop)]
 pub struct Announcements {
     /// The first ones. One that was deleted, and is added once more, is another one.
     pub list: [Option<Announced>; MOST],

@@ -14,7 +14,7 @@ use dcsctp_borrowed::part::Part;
 use dcsctp_wire::packet::read_u16_be;
 
 /// What is counted of the messages that one end sent, up to 2^64 - 1 each.
-#[derive(Clone, Drop)]
+#[derive(Drop)]
 pub struct Traffic {
     /// Messages.
     pub messages: u64,
@@ -65,7 +65,7 @@ impl Traffic {
 }
 
 /// What is counted of the messages of both ends.
-#[derive(Clone, Drop)]
+#[derive(Drop)]
 pub struct Tally {
     /// Those that the first end sent.
     pub first: Traffic,
@@ -169,7 +169,7 @@ pub enum News<'a> {
 /// A channel: a stream, both ways, from its DATA_CHANNEL_OPEN (RFC 8832) on; or where none was
 /// seen, what a stream has of one payload protocol. It ends by a reset of the stream, each way by
 /// itself, or by the next DATA_CHANNEL_OPEN.
-#[derive(Clone, Drop)]
+#[derive(Drop)]
 pub struct Channel {
     /// The stream.
     pub stream: u16,

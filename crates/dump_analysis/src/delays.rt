@@ -20,7 +20,7 @@ const BUCKETS: usize = 192;
 
 /// The delays of DATA or of messages, from when they were sent until they were acknowledged, up to
 /// 2^64 - 1 of them.
-#[derive(Clone, Drop)]
+#[derive(Drop)]
 pub struct Delays {
     /// How many there were.
     pub count: u64,

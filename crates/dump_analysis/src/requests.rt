@@ -13,7 +13,7 @@ use dcsctp_wire::packet::reconfiguration_response_parameter::PARAMETER_TYPE as R
 use dcsctp_wire::packet::ssn_tsn_reset_request_parameter::PARAMETER_TYPE as SSN_TSN_RESET;
 
 /// The requests that one end sent in RE-CONFIG chunks.
-#[derive(Clone, Drop)]
+#[derive(Drop)]
 pub struct Requests {
     /// How many there were, up to 2^64 - 1. One with the number of one of the 8 before it is that
     /// one, sent again.

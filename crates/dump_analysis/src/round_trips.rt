@@ -16,7 +16,7 @@ const MOST: usize = 16;
 /// A TSN that was sent again is no sample (Karn's rule, RFC 9260 section 6.3.1), nor is one that a
 /// FORWARD-TSN skips. At most 16 TSNs are waited for at a time; those that are sent meanwhile are
 /// no samples either.
-#[derive(Clone, Drop)]
+#[derive(Drop)]
 pub struct RoundTrips {
     /// Those that were measured.
     pub delays: Delays,

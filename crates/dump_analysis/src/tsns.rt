@@ -15,7 +15,7 @@ const WINDOW: u32 = 2_048;
 const WORDS: usize = 32;
 
 /// The TSNs that one end sent (RFC 9260 sections 2.6 and 3.3.1), with counts up to 2^64 - 1.
-#[derive(Clone, Drop)]
+#[derive(Drop)]
 pub struct Tsns {
     span: Option<Span>,
     /// How many were seen again. One that comes 2,048 TSNs late, or later, counts as such.

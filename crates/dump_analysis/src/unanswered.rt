@@ -13,7 +13,7 @@ const MOST: usize = 8;
 /// The questions of one end that weren't answered, up to 2^64 - 1 of them: its HEARTBEATs (RFC 9260
 /// section 8.3), or its requests to reconfigure streams (RFC 6525 section 3.1). A question and its
 /// answer have the same key; an answer that comes after 8 further questions isn't recognized.
-#[derive(Clone, Drop)]
+#[derive(Drop)]
 pub struct Unanswered {
     /// How many weren't answered.
     pub count: u64,

@@ -9,7 +9,7 @@ use crate::pcap::Resolution;
 use crate::stamp::Stamp;
 
 /// When a frame was seen, as its capture says it.
-#[derive(Clone, Drop)]
+#[derive(Drop)]
 pub enum Time<'a> {
     /// No time is known.
     Unknown,
@@ -58,7 +58,7 @@ pub enum Part {
 }
 
 /// Where and when a frame was seen.
-#[derive(Clone, Drop)]
+#[derive(Drop)]
 pub struct Seen<'a> {
     /// Its number among the frames of a text, or the number of its record in a file, from 1.
     pub number: u64,

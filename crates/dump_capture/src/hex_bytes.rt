@@ -7,7 +7,7 @@ ghost use Rattle.std.specs.Iterator.{at_most};
 /// byte.
 ///
 /// The text was checked, so `next` has no error.
-#[derive(Clone, Debug, Drop)]
+#[derive(Debug, Drop)]
 pub struct HexBytes<'a> {
     text: &'a [u8],
 }

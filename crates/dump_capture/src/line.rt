@@ -19,7 +19,7 @@ pub enum Direction {
 }
 
 /// A packet of a log.
-#[derive(Clone, Debug, Drop)]
+#[derive(Debug, Drop)]
 pub struct LoggedPacket<'a> {
     /// Whether it was received or sent.
     pub direction: Direction,
@@ -47,7 +47,7 @@ pub enum DumpForm {
 }
 
 /// A line of a dump.
-#[derive(Clone, Debug, Drop)]
+#[derive(Debug, Drop)]
 pub struct DumpedBytes<'a> {
     /// What wrote it.
     pub form: DumpForm,
@@ -58,7 +58,7 @@ pub struct DumpedBytes<'a> {
 }
 
 /// What a line says.
-#[derive(Clone, Debug, Drop)]
+#[derive(Debug, Drop)]
 pub enum Line<'a> {
     /// Nothing, or blanks.
     Blank,

@@ -5,7 +5,7 @@ ghost use Rattle.std.specs.Prelude.{◌≡◌, ℕ, List};
 use std::marker::Model;
 
 /// A word of a log's line, as it is written.
-#[derive(Clone, Debug, Drop)]
+#[derive(Debug, Drop)]
 pub struct LogText<'a> {
     text: &'a [u8],
 }

@@ -46,7 +46,7 @@ pub struct Tunnel {
 
 /// The tunnels that a frame's packet is in, outermost first. A contract sees the list of those that
 /// are left.
-#[derive(Clone, Drop)]
+#[derive(Drop)]
 pub struct Tunnels<'a> {
     udp_port: u16,
     left: u32,
