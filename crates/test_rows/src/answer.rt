@@ -37,13 +37,13 @@ pub struct Answer {
 }
 
 impl Answer {
-    /// Returns one without a text.
+    /// Returns an empty answer.
     pub fn new(alloc: Global) -> Answer {
         let (text, end) = (String::new(alloc), End::No);
         Answer { alloc, text, end }
     }
 
-    /// Returns one without a text, to be compared.
+    /// Returns another empty answer, to be compared.
     pub fn another(&self) -> Answer {
         Answer::new(self.alloc)
     }
@@ -212,7 +212,7 @@ pub fn short_at(bytes: &[u8], place: usize) -> u16 {
     }
 }
 
-/// Returns the number of four bytes at this place.
+/// Returns the number of four bytes at this place; 0 if they aren't there.
 pub fn word_at(bytes: &[u8], place: usize) -> u32 {
     match from(bytes, place) {
         [a, b, c, d, ..] => u32::from_be_bytes([*a, *b, *c, *d]),

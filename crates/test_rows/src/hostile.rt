@@ -77,9 +77,9 @@ enum Making {
     CutOff,
     /// The header and this number of the bytes, which are a chunk whose length counts them.
     Shortened,
-    /// The header, the bytes, which are a chunk's front, and an item of this length in so many
-    /// bytes, all zeros but its header. The chunk's own length counts all, where the item isn't the
-    /// chunk.
+    /// The header, the bytes, which are a chunk's front, and an item in this number of bytes, all
+    /// zeros but its header, which has this length. The chunk's own length counts all, where the
+    /// item isn't the chunk.
     Around(u16),
 }
 
@@ -144,8 +144,8 @@ fn write_changed(chunks: &[u8], out: &mut Answer) {
     write!(out, "{:?}", (kept, parts, refused, others))
 }
 
-/// Writes the number of types of which a chunk with this length field and a value of so many zeros
-/// is refused for its length.
+/// Writes of how many types a chunk is refused for its length, which has this length field and a
+/// value of this number of zeros.
 fn write_types(length: u16, zeros: usize, out: &mut Answer) {
     let mut refused = 0usize;
     for typ in 0..=255 {
