@@ -4,7 +4,6 @@ use Rattle.dcsctp_tlv.{specs.Fields.{fields}, specs.Frame.{frame_length}, specs.
 use Rattle.dcsctp_registry.specs.Address as address
 use Rattle.dcsctp_registry.specs.Address.{V4, V6, type_of, octets_of, size_of, whole, read_whole}
 use Rattle.dcsctp_registry.specs.{RawItems.{items}, Shapes.{number_of, short_number_of, short_numbers_of, numbered_items, numbered_address, numbered, padded_short}}
-use Rattle.dcsctp_registry.specs.RegisteredParameter as parameter
 
 -- ---- numbers
 
@@ -87,8 +86,3 @@ pub type_bytes : (a : address.Tree)
     → to_be_bytes w16 (type_of a) ≡ type_of a / 256 ∷ type_of a % 256 ∷ []
 type_bytes (V4 o) = refl
 type_bytes (V6 o) = refl
-
-pub address_reads : (a : address.Tree) → address.read (type_of a) (octets_of a) ≡ Some a
-    → parameter.read (type_of a) (octets_of a) ≡ Some (parameter.Address a)
-address_reads (V4 o) again = ap (option_map parameter.Address) again
-address_reads (V6 o) again = ap (option_map parameter.Address) again

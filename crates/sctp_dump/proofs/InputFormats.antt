@@ -1,7 +1,7 @@
 -- What an input is, and the events that its decoder handed on.
-use Rattle.std.proofs.Common.{◌≡◌, ◌⊎◌, inl, inr, ◌≤◌, ℕ, nat_eq, if◌then◌else◌, List, [], ◌∷◌, ◌++◌, length, take, Option, None, Some, IfSome, Result, Ok, Err, OnOk, IfErr, refl, sym, ap, subst, ◌∙◌, append-nil, arith}
+use Rattle.std.proofs.Common.{◌≡◌, ◌⊎◌, inl, inr, ◌≤◌, ℕ, nat_eq, if◌then◌else◌, List, [], ◌∷◌, ◌++◌, length, take, Option, None, Some, IfSome, Result, Ok, Err, OnOk, IfErr, refl, sym, ap, subst, ◌∙◌, arith}
 use Rattle.std.proofs.lemmas.List.{take-append-le}
-use Rattle.std.specs.Io.KnownBytes.{Keeps, IsAtEnd, prepend_known}
+use Rattle.std.specs.Io.KnownBytes.{Keeps}
 use Rattle.dump_capture.specs.Event.{Event, Hands}
 use Rattle.dump_capture.specs.Decoding.{none}
 use Rattle.std.specs.List.{starts_with}
@@ -48,14 +48,6 @@ format_front form.Detected held rest size =
     ap (λ (k : InputFormat). if starts_with nat_eq (held ++ rest) (0x1f ∷ 0x8b ∷ [])
     then format.Compressed else k) (uncompressed_front held rest size)
     ∙ rw two refl
-
-pub format_known : (f : FormatOption) (held : List ℕ) (remaining : Option (List ℕ)) (k : InputFormat)
-    → k ≡ format_of f held → (4 ≤ length held) ⊎ IsAtEnd remaining
-    → IfSome (prepend_known held remaining) (λ l. k ≡ format_of f l)
-format_known f held None k is enough = tt
-format_known f held (Some rest) k is (inl size) = is ∙ sym (format_front f held rest size)
-format_known f held (Some rest) k is (inr end) =
-    is ∙ ap (format_of f) (sym (ap (λ l. held ++ l) end ∙ append-nil held))
 
 kept : (Q : List ℕ → Type 0) (a b : Option (List ℕ)) → Keeps a b → IfSome b Q → IfSome a Q
 kept Q None b keeps holds = tt

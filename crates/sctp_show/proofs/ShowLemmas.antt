@@ -1,11 +1,11 @@
 -- What was read answers for the input.
-use Rattle.std.proofs.Common.{◌≡◌, ◌<◌, ◌≤◌, inl, inr, ℕ, Bool, true, false, List, [], ◌++◌, length, Option, Some, None, Result, Ok, Err, IsErr, IsErrAnd, IfSome, String, Global, ◌⊎◌, ◌↔◌, refl, sym, subst, ap, ◌∙◌, arith, append-nil, get_or, lit<, take}
+use Rattle.std.proofs.Common.{◌≡◌, ◌<◌, ◌≤◌, inl, inr, ℕ, Bool, true, false, List, [], ◌++◌, length, Option, Some, None, Result, Ok, Err, IsErrAnd, IfSome, String, Global, ◌⊎◌, ◌↔◌, refl, sym, subst, ap, ◌∙◌, arith, append-nil, get_or, lit<, take}
 use Rattle.std.proofs.lemmas.List.{append_cancel_left, take_all, take-append-le, length-take}
 use Rattle.std.proofs.lemmas.Bool.{cases_lt}
 use Rattle.std.specs.Io.KnownBytes.{Consumes, Appends, IsAtEnd}
 use Rattle.hex.specs.Hex.{decode_of}
 use Rattle.sctp_show.specs.declared.failure.Failure.{Failure}
-use Rattle.sctp_show.specs.declared.failure.Failure.TheVariants.{OutOfMemory, Read, NotHexadecimal}
+use Rattle.sctp_show.specs.declared.failure.Failure.TheVariants.{OutOfMemory, Read}
 use Rattle.dcsctp_wire.specs.declared.packet.sctp_packet.PacketParseError.{PacketParseError}
 use Rattle.dcsctp_wire.specs.declared.packet.sctp_packet.SctpPacket.{SctpPacket}
 use Rattle.dcsctp_wire.specs.Packet.{PacketTree, PacketFault, Size, Checksum, Chunk, Answer, packet_view, packet_error_of, packet_reading}
@@ -21,15 +21,6 @@ pub reply_of-err : (r : Result (String Global) Failure) (failure : Failure)
     → IsErrAnd r (λ e. e ≡ failure) → fault (line_of failure) ≡ reply_of r
 reply_of-err (Ok text) failure is = absurd is
 reply_of-err (Err e) failure is = ap (λ (f : Failure). fault (line_of f)) (sym is)
-
--- bytes that aren't hexadecimal, or for which memory ran out
-pub MayShow-no_bytes : (strict : Bool) (input : List ℕ) (e : Failure) → length input ≤ 200000
-    → (e ≡ OutOfMemory) ⊎ ((e ≡ NotHexadecimal) × IsErr (decode_of (without_blanks input)))
-    → MayShow strict input (fault (line_of e))
-MayShow-no_bytes strict input e short (inl memory) =
-    inr (ap (λ (f : Failure). fault (line_of f)) memory)
-MayShow-no_bytes strict input e short (inr (other, bad)) =
-    inl (not_hexadecimal short bad (ap (λ (f : Failure). fault (line_of f)) other))
 
 -- the line of a fault's error is the fault's
 line_of-fault : (e : PacketFault) → fault (packet_error_line (packet_error_of e))

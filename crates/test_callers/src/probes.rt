@@ -159,9 +159,10 @@ fn built_size(alloc: Global, packet: &SctpPacket) -> Result<usize, AllocError>
     builder.write_checksum(false);
     for chunk in &packet.chunks {
         // as a caller has to, who doesn't know that they fit
-        if !chunk.encodable()
-            || round_up_to_4(chunk.serialized_size()) > builder.bytes_remaining()
-        {
+        let Some(size) = chunk.encoded_size() else {
+            return Ok(0);
+        };
+        if round_up_to_4(size) > builder.bytes_remaining() {
             return Ok(0);
         }
         builder.add(chunk)?;

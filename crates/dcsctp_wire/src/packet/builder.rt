@@ -136,7 +136,10 @@ impl SctpPacketBuilder {
         ensures refused { OnErr result (self.new ≡ self.old) }
         ensures succeeds { self.old.bytes ≢ [] → IsOk result }
     {
-        if !chunk.encodable() || round_up_to_4(chunk.serialized_size()) > self.bytes_remaining() {
+        let Some(size) = chunk.encoded_size() else {
+            return Ok(false);
+        };
+        if round_up_to_4(size) > self.bytes_remaining() {
             return Ok(false);
         }
         self.add(chunk)?;

@@ -329,6 +329,8 @@ impl SerializableTlv for Chunk {
         kinds!(each_arms, Chunk, self, c => c.serialize_to(output))
     }
 
+    // Inlined into the loops over a list, which else take 3 to 9 in 100 instructions more.
+    #[inline(always)]
     fn encoded_size(&self) -> Option<usize> {
         kinds!(each_arms, Chunk, self, c => c.encoded_size())
     }
