@@ -7,12 +7,13 @@ use crate::delays::Delays;
 use crate::json::index_of;
 use crate::moment::Moment;
 use crate::packet_number::{PacketNumber, PacketText, write_packet_keys};
+use crate::text::Text;
 use crate::time::{TimeStyle, write_time_key};
-use dump_report::hexadecimal::write_digits;
+use dump_report::hexadecimal::Digits;
 use dump_report::json_text::JsonText;
 use dump_report::printed::Quoted;
 use dump_report::registry::{channel_type_name, payload_protocol, result_name};
-use std::{fmt, str};
+use std::str;
 
 /// A channel as a line, without its line break.
 #[derive(Clone, Copy)]
@@ -30,124 +31,106 @@ pub struct ChannelReport<'a> {
     pub files: &'a [String],
 }
 
-impl<'a> fmt::Display for ChannelReport<'a> {
-    fn fmt<W: fmt::Write>(&self, f: &mut fmt::Formatter<W>) -> fmt::Result {
+impl<'a> ChannelReport<'a> {
+    /// Writes it.
+    pub fn write(&self, out: &mut Text<'_>) {
         let association = self.association;
         match self.channel {
             Some(channel) => {
                 let stream = channel.stream;
-                write!(f, "channel of {association}: stream {stream}")?;
-                self.write_channel(channel, f)?;
+                write!(out, "channel of {association}: stream {stream}");
+                self.write_channel(channel, out);
             }
-            None => write!(f, "other channels of {association}")?,
+            None => write!(out, "other channels of {association}"),
         }
-        f.write_str("; >")?;
-        self.write_traffic(&self.tally.first, f)?;
-        f.write_str("; <")?;
-        self.write_traffic(&self.tally.second, f)
+        out.say("; >");
+        self.write_traffic(&self.tally.first, out);
+        out.say("; <");
+        self.write_traffic(&self.tally.second, out)
     }
-}
 
-impl<'a> ChannelReport<'a> {
     /// Writes how it was opened, or its payload protocol, and how it was closed.
-    fn write_channel<W: fmt::Write>(
-        &self,
-        channel: &Channel,
-        f: &mut fmt::Formatter<W>,
-    ) -> fmt::Result {
+    fn write_channel(&self, channel: &Channel, out: &mut Text<'_>) {
         match &channel.opened {
-            Some(opened) => self.write_opened(opened, f)?,
+            Some(opened) => self.write_opened(opened, out),
             None => {
                 if let Some(ppid) = channel.ppid {
-                    write!(f, ", ppid {ppid}")?;
+                    write!(out, ", ppid {ppid}");
                     if let Some(name) = payload_protocol(ppid) {
-                        write!(f, " ({name})")?;
+                        write!(out, " ({name})");
                     }
                 }
             }
         }
-        self.write_reset("first", &channel.first_reset, f)?;
-        self.write_reset("second", &channel.second_reset, f)
+        self.write_reset("first", &channel.first_reset, out);
+        self.write_reset("second", &channel.second_reset, out)
     }
 
     /// Writes how it was opened.
-    fn write_opened<W: fmt::Write>(
-        &self,
-        opened: &Opened,
-        f: &mut fmt::Formatter<W>,
-    ) -> fmt::Result {
-        f.write_str(", label ")?;
-        write_text(&opened.label, f)?;
-        f.write_str(", protocol ")?;
-        write_text(&opened.protocol, f)?;
+    fn write_opened(&self, opened: &Opened, out: &mut Text<'_>) {
+        out.say(", label ");
+        write_text(&opened.label, out);
+        out.say(", protocol ");
+        write_text(&opened.protocol, out);
         let (typ, reliability, priority) = (opened.typ, opened.reliability, opened.priority);
         match channel_type_name(u32::from(typ)) {
-            Some(name) => write!(f, ", {name}")?,
-            None => write!(f, ", channel type {typ}")?,
+            Some(name) => write!(out, ", {name}"),
+            None => write!(out, ", channel type {typ}"),
         }
         match typ {
             // Of a reliable channel it means nothing.
             0x00 | 0x80 => {}
-            0x02 | 0x82 => write!(f, ", reliability {reliability} ms")?,
-            _ => write!(f, ", reliability {reliability}")?,
+            0x02 | 0x82 => write!(out, ", reliability {reliability} ms"),
+            _ => write!(out, ", reliability {reliability}"),
         }
-        write!(f, ", priority {priority}, opened by the ")?;
-        f.write_str(match opened.by {
+        write!(out, ", priority {priority}, opened by the ");
+        out.say(match opened.by {
             Side::First => "first end",
             Side::Second => "second end",
-        })?;
-        self.write_moment(opened.sent, f)?;
+        });
+        self.write_moment(opened.sent, out);
         if opened.crossed.is_some() {
-            f.write_str(", and by the other one")?;
+            out.say(", and by the other one");
         }
         match opened.acknowledged {
             Some(moment) => {
-                f.write_str(", acknowledged")?;
-                self.write_moment(moment, f)
+                out.say(", acknowledged");
+                self.write_moment(moment, out)
             }
-            None => f.write_str(", not acknowledged"),
+            None => out.say(", not acknowledged"),
         }
     }
 
     /// Writes the last request of an end to reset the stream, if there is one, and its result.
-    fn write_reset<W: fmt::Write>(
-        &self,
-        end: &'static str,
-        reset: &Option<Reset>,
-        f: &mut fmt::Formatter<W>,
-    ) -> fmt::Result {
+    fn write_reset(&self, end: &'static str, reset: &Option<Reset>, out: &mut Text<'_>) {
         let Some(reset) = reset else {
-            return Ok(());
+            return;
         };
         let packet = self.packet(reset.packet);
-        write!(f, ", reset by the {end} end in {packet}")?;
+        write!(out, ", reset by the {end} end in {packet}");
         let Some((code, packet)) = reset.result else {
-            return f.write_str(" (no response)");
+            return out.say(" (no response)");
         };
         match result_name(code) {
-            Some(name) => write!(f, " ({name}")?,
-            None => write!(f, " (result {code}")?,
+            Some(name) => write!(out, " ({name}"),
+            None => write!(out, " (result {code}"),
         }
         let packet = self.packet(packet);
-        write!(f, " in {packet})")
+        write!(out, " in {packet})")
     }
 
     /// Writes what is counted of the messages of an end.
-    fn write_traffic<W: fmt::Write>(
-        &self,
-        traffic: &Traffic,
-        f: &mut fmt::Formatter<W>,
-    ) -> fmt::Result {
+    fn write_traffic(&self, traffic: &Traffic, out: &mut Text<'_>) {
         let (messages, bytes, repeated) = (traffic.messages, traffic.bytes, traffic.repeated);
         let (abandoned, unacknowledged) = (traffic.abandoned, traffic.unacknowledged);
         write!(
-            f,
+            out,
             " messages {messages}, bytes {bytes}, repeated {repeated}, abandoned {abandoned}"
-        )?;
-        write!(f, ", not acknowledged {unacknowledged}")?;
+        );
+        write!(out, ", not acknowledged {unacknowledged}");
         let delays = &traffic.delays;
         if delays.count == 0 {
-            return Ok(());
+            return;
         }
         let (least, median) = (
             self.style.seconds(delays.least),
@@ -155,23 +138,19 @@ impl<'a> ChannelReport<'a> {
         );
         let (greatest, tsn) = (self.style.seconds(delays.greatest), delays.greatest_tsn);
         write!(
-            f,
+            out,
             ", delay least {least} s, median {median} s, greatest {greatest} s (tsn {tsn})"
         )
     }
 
     /// Writes a time, if it is known, and the packet's number.
-    fn write_moment<W: fmt::Write>(
-        &self,
-        moment: Moment,
-        f: &mut fmt::Formatter<W>,
-    ) -> fmt::Result {
+    fn write_moment(&self, moment: Moment, out: &mut Text<'_>) {
         if let Some(nanoseconds) = moment.nanoseconds {
             let time = self.style.time(nanoseconds);
-            write!(f, " {time}")?;
+            write!(out, " {time}");
         }
         let packet = self.packet(moment.packet);
-        write!(f, " ({packet})")
+        write!(out, " ({packet})")
     }
 
     /// Returns a packet's number as text.
@@ -184,51 +163,43 @@ impl<'a> ChannelReport<'a> {
 }
 
 /// Writes a text of the peer, and whether it is longer.
-fn write_text<W: fmt::Write>(text: &PeerText, f: &mut fmt::Formatter<W>) -> fmt::Result {
+fn write_text(text: &PeerText, out: &mut Text<'_>) {
     let quoted = Quoted(text.as_bytes());
-    write!(f, "{quoted}")?;
+    write!(out, "{quoted}");
     if text.is_cut {
-        f.write_str(" ..")?;
+        out.say(" ..");
     }
-    Ok(())
 }
 
 /// A channel as one JSON object (RFC 8259), without blanks and without a line break.
 #[derive(Clone, Copy)]
 pub struct ChannelJson<'a>(pub ChannelReport<'a>);
 
-impl<'a> fmt::Display for ChannelJson<'a> {
-    fn fmt<W: fmt::Write>(&self, f: &mut fmt::Formatter<W>) -> fmt::Result {
-        let association = self.0.association;
-        write!(f, "{{\"channel_of\":{association}")?;
-        match self.0.channel {
-            Some(channel) => self.write_channel(channel, f)?,
-            None => f.write_str(",\"others\":true")?,
-        }
-        f.write_str(",\"ends\":[")?;
-        self.write_traffic(&self.0.tally.first, f)?;
-        f.write_str(",")?;
-        self.write_traffic(&self.0.tally.second, f)?;
-        f.write_str("]}")
-    }
-}
-
 impl<'a> ChannelJson<'a> {
+    /// Writes it.
+    pub fn write(&self, out: &mut Text<'_>) {
+        let association = self.0.association;
+        write!(out, "{{\"channel_of\":{association}");
+        match self.0.channel {
+            Some(channel) => self.write_channel(channel, out),
+            None => out.pair("others", true),
+        }
+        out.say(",\"ends\":[");
+        self.write_traffic(&self.0.tally.first, out);
+        out.say(",");
+        self.write_traffic(&self.0.tally.second, out);
+        out.say("]}")
+    }
+
     /// Writes how it was opened, or its payload protocol, and how it was closed.
-    fn write_channel<W: fmt::Write>(
-        &self,
-        channel: &Channel,
-        f: &mut fmt::Formatter<W>,
-    ) -> fmt::Result {
-        let stream = channel.stream;
-        write!(f, ",\"stream\":{stream}")?;
+    fn write_channel(&self, channel: &Channel, out: &mut Text<'_>) {
+        out.pair("stream", channel.stream);
         if let Some(opened) = &channel.opened {
-            self.write_opened(opened, f)?;
+            self.write_opened(opened, out);
         } else if let Some(ppid) = channel.ppid {
-            write!(f, ",\"ppid\":{ppid}")?;
+            out.pair("ppid", ppid);
             if let Some(name) = payload_protocol(ppid) {
-                let name = JsonText(name);
-                write!(f, ",\"ppid_name\":{name}")?;
+                out.pair("ppid_name", JsonText(name));
             }
         }
         let mut separator = ",\"resets\":[";
@@ -237,151 +208,118 @@ impl<'a> ChannelJson<'a> {
             .enumerate()
         {
             if let Some(reset) = reset {
-                write!(f, "{separator}{{\"end\":{end}")?;
-                self.write_reset(reset, f)?;
+                write!(out, "{separator}{{\"end\":{end}");
+                self.write_reset(reset, out);
                 separator = ",";
             }
         }
         if separator == "," {
-            f.write_str("]")?;
+            out.say("]");
         }
-        Ok(())
     }
 
     /// Writes how it was opened.
-    fn write_opened<W: fmt::Write>(
-        &self,
-        opened: &Opened,
-        f: &mut fmt::Formatter<W>,
-    ) -> fmt::Result {
-        write_text_keys("label", "label_bytes", "label_cut", &opened.label, f)?;
+    fn write_opened(&self, opened: &Opened, out: &mut Text<'_>) {
+        write_text_keys("label", "label_bytes", "label_cut", &opened.label, out);
         write_text_keys(
             "protocol",
             "protocol_bytes",
             "protocol_cut",
             &opened.protocol,
-            f,
-        )?;
-        let (typ, reliability, priority) = (opened.typ, opened.reliability, opened.priority);
-        write!(f, ",\"channel_type\":{typ}")?;
-        if let Some(name) = channel_type_name(u32::from(typ)) {
-            write!(f, ",\"channel_type_name\":\"{name}\"")?;
+            out,
+        );
+        out.pair("channel_type", opened.typ);
+        if let Some(name) = channel_type_name(u32::from(opened.typ)) {
+            out.word("channel_type_name", name);
         }
-        let by = index_of(opened.by);
-        write!(
-            f,
-            ",\"reliability\":{reliability},\"priority\":{priority},\"opened_by\":{by}"
-        )?;
-        write_time_key("opened", opened.sent.nanoseconds, self.0.style, f)?;
+        out.pair("reliability", opened.reliability);
+        out.pair("priority", opened.priority);
+        out.pair("opened_by", index_of(opened.by));
+        write_time_key("opened", opened.sent.nanoseconds, self.0.style, out);
         write_packet_keys(
             ("opened_packet", "opened_file"),
             Some(opened.sent.packet),
             self.0.files,
-            f,
-        )?;
+            out,
+        );
         if opened.crossed.is_some() {
-            f.write_str(",\"opened_by_both\":true")?;
+            out.pair("opened_by_both", true);
         }
         let Some(moment) = opened.acknowledged else {
-            return Ok(());
+            return;
         };
-        write_time_key("acknowledged", moment.nanoseconds, self.0.style, f)?;
+        write_time_key("acknowledged", moment.nanoseconds, self.0.style, out);
         write_packet_keys(
             ("acknowledged_packet", "acknowledged_file"),
             Some(moment.packet),
             self.0.files,
-            f,
+            out,
         )
     }
 
     /// Writes a request to reset the stream, and its result, up to the end of the object.
-    fn write_reset<W: fmt::Write>(&self, reset: &Reset, f: &mut fmt::Formatter<W>) -> fmt::Result {
-        write_packet_keys(("packet", "file"), Some(reset.packet), self.0.files, f)?;
+    fn write_reset(&self, reset: &Reset, out: &mut Text<'_>) {
+        write_packet_keys(("packet", "file"), Some(reset.packet), self.0.files, out);
         if let Some((code, packet)) = reset.result {
-            write!(f, ",\"result\":{code}")?;
+            out.pair("result", code);
             if let Some(name) = result_name(code) {
-                write!(f, ",\"result_name\":\"{name}\"")?;
+                out.word("result_name", name);
             }
             write_packet_keys(
                 ("response_packet", "response_file"),
                 Some(packet),
                 self.0.files,
-                f,
-            )?;
+                out,
+            );
         }
-        f.write_str("}")
+        out.say("}")
     }
 
     /// Writes what is counted of the messages of an end.
-    fn write_traffic<W: fmt::Write>(
-        &self,
-        traffic: &Traffic,
-        f: &mut fmt::Formatter<W>,
-    ) -> fmt::Result {
-        let (messages, bytes, repeated) = (traffic.messages, traffic.bytes, traffic.repeated);
-        let (abandoned, unacknowledged) = (traffic.abandoned, traffic.unacknowledged);
-        write!(
-            f,
-            "{{\"messages\":{messages},\"bytes\":{bytes},\"repeated\":{repeated}"
-        )?;
-        write!(
-            f,
-            ",\"abandoned\":{abandoned},\"unacknowledged\":{unacknowledged}"
-        )?;
+    fn write_traffic(&self, traffic: &Traffic, out: &mut Text<'_>) {
+        let messages = traffic.messages;
+        write!(out, "{{\"messages\":{messages}");
+        out.pair("bytes", traffic.bytes);
+        out.pair("repeated", traffic.repeated);
+        out.pair("abandoned", traffic.abandoned);
+        out.pair("unacknowledged", traffic.unacknowledged);
         if traffic.delays.count > 0 {
-            self.write_delays(&traffic.delays, f)?;
+            self.write_delays(&traffic.delays, out);
         }
-        f.write_str("}")
+        out.say("}")
     }
 
     /// Writes the delays of an end's messages.
-    fn write_delays<W: fmt::Write>(
-        &self,
-        delays: &Delays,
-        f: &mut fmt::Formatter<W>,
-    ) -> fmt::Result {
-        let style = self.0.style;
-        let (count, tsn) = (delays.count, delays.greatest_tsn);
-        let (least, median) = (style.seconds(delays.least), style.seconds(delays.median()));
-        let greatest = style.seconds(delays.greatest);
-        write!(
-            f,
-            ",\"delay\":{{\"count\":{count},\"least\":{least},\"median\":{median}"
-        )?;
-        write!(f, ",\"greatest\":{greatest},\"greatest_tsn\":{tsn}")?;
-        if let Some(packet) = delays.greatest_packet {
-            write_packet_keys(
-                ("greatest_packet", "greatest_file"),
-                Some(packet),
-                self.0.files,
-                f,
-            )?;
-        }
-        f.write_str("}")
+    fn write_delays(&self, delays: &Delays, out: &mut Text<'_>) {
+        let (style, count) = (self.0.style, delays.count);
+        write!(out, ",\"delay\":{{\"count\":{count}");
+        out.pair("least", style.seconds(delays.least));
+        out.pair("median", style.seconds(delays.median()));
+        out.pair("greatest", style.seconds(delays.greatest));
+        out.pair("greatest_tsn", delays.greatest_tsn);
+        write_packet_keys(
+            ("greatest_packet", "greatest_file"),
+            delays.greatest_packet,
+            self.0.files,
+            out,
+        );
+        out.say("}")
     }
 }
 
 /// Writes a text of the peer, or if it isn't UTF-8 its bytes, and whether it is longer.
-fn write_text_keys<W: fmt::Write>(
+fn write_text_keys(
     key: &'static str,
     bytes_key: &'static str,
     cut_key: &'static str,
     text: &PeerText,
-    f: &mut fmt::Formatter<W>,
-) -> fmt::Result {
+    out: &mut Text<'_>,
+) {
     match str::from_utf8(text.as_bytes()) {
-        Ok(text) => {
-            let text = JsonText(text);
-            write!(f, ",\"{key}\":{text}")?;
-        }
-        Err(_) => {
-            write!(f, ",\"{bytes_key}\":\"")?;
-            write_digits(text.as_bytes(), f)?;
-            f.write_str("\"")?;
-        }
+        Ok(text) => out.pair(key, JsonText(text)),
+        Err(_) => out.word(bytes_key, Digits(text.as_bytes())),
     }
     if text.is_cut {
-        write!(f, ",\"{cut_key}\":true")?;
+        out.pair(cut_key, true);
     }
-    Ok(())
 }

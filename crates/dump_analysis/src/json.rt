@@ -10,12 +10,12 @@ use crate::moment::Moment;
 use crate::packet_number::{PacketNumber, file_of, write_packet_keys};
 use crate::path::Path;
 use crate::paths::Paths;
+use crate::text::Text;
 use crate::time::{TimeStyle, write_time_key};
 use crate::transport::Transport;
 use dump_report::json_text::JsonText;
 use dump_report::names::ChunkName;
 use dump_report::registry::cause_name;
-use std::fmt;
 
 /// An association as one JSON object (RFC 8259), without blanks and without a line break.
 #[derive(Clone, Copy)]
@@ -31,374 +31,319 @@ pub struct AssociationJson<'a> {
     pub files: &'a [String],
 }
 
-impl<'a> fmt::Display for AssociationJson<'a> {
-    fn fmt<W: fmt::Write>(&self, f: &mut fmt::Formatter<W>) -> fmt::Result {
+impl<'a> AssociationJson<'a> {
+    /// Writes it.
+    pub fn write(&self, out: &mut Text<'_>) {
         let association = self.association;
         let number = association.number;
-        write!(f, "{{\"association\":{number}")?;
+        write!(out, "{{\"association\":{number}");
         if let Some(other) = association.restart_of {
-            write!(f, ",\"restart_of\":{other}")?;
+            out.pair("restart_of", other);
         }
         if association.has_left {
-            f.write_str(",\"left_table\":true")?;
+            out.pair("left_table", true);
         }
-        write_transport(&association.transport, f)?;
-        f.write_str(",\"ends\":[")?;
-        self.write_end(&association.first, f)?;
-        f.write_str(",")?;
-        self.write_end(&association.second, f)?;
-        f.write_str("]")?;
-        self.write_began(&association.began, f)?;
-        self.write_established(&association.established, f)?;
-        self.write_ended(&association.ended, f)?;
+        write_transport(&association.transport, out);
+        out.say(",\"ends\":[");
+        self.write_end(&association.first, out);
+        out.say(",");
+        self.write_end(&association.second, out);
+        out.say("]");
+        self.write_began(&association.began, out);
+        self.write_established(&association.established, out);
+        self.write_ended(&association.ended, out);
         if let Some(nanoseconds) = association.duration() {
-            self.write_seconds("duration", nanoseconds, f)?;
+            self.write_seconds("duration", nanoseconds, out);
         }
-        let strays = association.out_of_the_blue;
-        if strays > 0 {
-            write!(f, ",\"out_of_the_blue\":{strays}")?;
+        if association.out_of_the_blue > 0 {
+            out.pair("out_of_the_blue", association.out_of_the_blue);
         }
         if let Some(paths) = self.paths {
-            self.write_paths(paths, f)?;
+            self.write_paths(paths, out);
         }
-        f.write_str("}")
+        out.say("}")
     }
-}
 
-impl<'a> AssociationJson<'a> {
     /// Writes what is known of the first packet.
-    fn write_began<W: fmt::Write>(&self, began: &Began, f: &mut fmt::Formatter<W>) -> fmt::Result {
-        f.write_str(",\"began\":{")?;
-        self.write_first(began.packet, began.nanoseconds, f)?;
+    fn write_began(&self, began: &Began, out: &mut Text<'_>) {
+        out.say(",\"began\":{");
+        self.write_first(began.packet, began.nanoseconds, out);
         if let Some(typ) = began.chunk {
-            write_chunk(typ, f)?;
+            write_chunk(typ, out);
         }
-        f.write_str("}")?;
+        out.say("}");
         if self.association.is_midway() {
-            f.write_str(",\"midway\":true")?;
+            out.pair("midway", true);
         }
-        Ok(())
     }
 
     /// Writes when it was established, if that was seen.
-    fn write_established<W: fmt::Write>(
-        &self,
-        established: &Option<Established>,
-        f: &mut fmt::Formatter<W>,
-    ) -> fmt::Result {
+    fn write_established(&self, established: &Option<Established>, out: &mut Text<'_>) {
         let Some(established) = established else {
-            return Ok(());
+            return;
         };
-        f.write_str(",\"established\":{")?;
-        self.write_first(established.packet, established.nanoseconds, f)?;
-        write_chunk(established.chunk, f)?;
+        out.say(",\"established\":{");
+        self.write_first(established.packet, established.nanoseconds, out);
+        write_chunk(established.chunk, out);
         if let Some(nanoseconds) = self.association.setup() {
-            self.write_seconds("after", nanoseconds, f)?;
+            self.write_seconds("after", nanoseconds, out);
         }
-        f.write_str("}")
+        out.say("}")
     }
 
     /// Writes what ended it, if something did.
-    fn write_ended<W: fmt::Write>(
-        &self,
-        ended: &Option<Ended>,
-        f: &mut fmt::Formatter<W>,
-    ) -> fmt::Result {
+    fn write_ended(&self, ended: &Option<Ended>, out: &mut Text<'_>) {
         let Some(ended) = ended else {
-            return Ok(());
+            return;
         };
-        f.write_str(",\"ended\":{")?;
-        self.write_first(ended.packet, ended.nanoseconds, f)?;
-        write_chunk(ended.chunk, f)?;
-        let by = index_of(ended.by);
-        write!(f, ",\"by\":{by}")?;
+        out.say(",\"ended\":{");
+        self.write_first(ended.packet, ended.nanoseconds, out);
+        write_chunk(ended.chunk, out);
+        out.pair("by", index_of(ended.by));
         if let Some(code) = ended.cause {
-            write!(f, ",\"cause\":{code}")?;
+            out.pair("cause", code);
             if let Some(name) = cause_name(code) {
-                write!(f, ",\"cause_name\":\"{name}\"")?;
+                out.word("cause_name", name);
             }
         }
-        f.write_str("}")
+        out.say("}")
     }
 
     /// Writes an end and what it sent.
-    fn write_end<W: fmt::Write>(&self, end: &End, f: &mut fmt::Formatter<W>) -> fmt::Result {
-        f.write_str("{")?;
-        write_addresses(end, f)?;
-        write_chunk_list(end, f)?;
-        self.write_announced(end, f)?;
-        write_counts(&end.counts, f)?;
-        self.write_tsns(end, f)?;
-        self.write_skipped(end, f)?;
-        self.write_sacks(end, f)?;
-        self.write_heartbeats(end, f)?;
-        self.write_requests(end, f)?;
-        write_stale_cookies(end, f)?;
+    fn write_end(&self, end: &End, out: &mut Text<'_>) {
+        out.say("{");
+        write_addresses(end, out);
+        write_chunk_list(end, out);
+        self.write_announced(end, out);
+        write_counts(&end.counts, out);
+        self.write_tsns(end, out);
+        self.write_skipped(end, out);
+        self.write_sacks(end, out);
+        self.write_heartbeats(end, out);
+        self.write_requests(end, out);
+        write_stale_cookies(end, out);
         if end.authentication.are_some() {
             let authentication = AuthenticationCountsJson(end.authentication);
-            write!(f, "{authentication}")?;
+            write!(out, "{authentication}");
         }
         if end.round_trips.delays.count > 0 {
-            self.write_round_trips(&end.round_trips.delays, f)?;
+            self.write_round_trips(&end.round_trips.delays, out);
         }
-        f.write_str("}")
+        out.say("}")
     }
 
     /// Writes the paths, and how many packets went on those that found no room.
-    fn write_paths<W: fmt::Write>(&self, paths: &Paths, f: &mut fmt::Formatter<W>) -> fmt::Result {
-        f.write_str(",\"paths\":[")?;
+    fn write_paths(&self, paths: &Paths, out: &mut Text<'_>) {
+        out.say(",\"paths\":[");
         let mut separator = "";
         for path in &paths.list {
-            f.write_str(separator)?;
+            out.say(separator);
             separator = ",";
-            self.write_path(path, f)?;
+            self.write_path(path, out);
         }
-        f.write_str("]")?;
-        let others = paths.others;
-        if others == 0 {
-            return Ok(());
+        out.say("]");
+        if paths.others > 0 {
+            out.pair("packets_on_other_paths", paths.others);
         }
-        write!(f, ",\"packets_on_other_paths\":{others}")
     }
 
     /// Writes what an end sent on a path.
-    fn write_path<W: fmt::Write>(&self, path: &Path, f: &mut fmt::Formatter<W>) -> fmt::Result {
+    fn write_path(&self, path: &Path, out: &mut Text<'_>) {
         let end = index_of(path.way.sender);
-        write!(f, "{{\"end\":{end}")?;
+        write!(out, "{{\"end\":{end}");
         if let (Some(from), Some(to)) = (path.way.from, path.way.to) {
-            write!(f, ",\"from\":\"{from}\",\"to\":\"{to}\"")?;
+            write!(out, ",\"from\":\"{from}\",\"to\":\"{to}\"");
         }
-        self.write_moment("first", path.first, f)?;
-        self.write_moment("last", path.last, f)?;
-        write_counts(&path.counts, f)?;
-        let repeated = path.repeated;
-        let (sent, unanswered) = (path.counts.heartbeats, path.heartbeats.count);
-        write!(f, ",\"repeated\":{repeated},\"heartbeats\":{sent}")?;
-        write!(f, ",\"heartbeats_unanswered\":{unanswered}")?;
+        self.write_moment("first", path.first, out);
+        self.write_moment("last", path.last, out);
+        write_counts(&path.counts, out);
+        out.pair("repeated", path.repeated);
+        out.pair("heartbeats", path.counts.heartbeats);
+        out.pair("heartbeats_unanswered", path.heartbeats.count);
         let (first, last) = (path.heartbeats.first(), path.heartbeats.last());
-        self.write_packet("first_unanswered", "first_unanswered_file", first, f)?;
-        self.write_packet("last_unanswered", "last_unanswered_file", last, f)?;
+        self.write_packet("first_unanswered", "first_unanswered_file", first, out);
+        self.write_packet("last_unanswered", "last_unanswered_file", last, out);
         if path.round_trips.delays.count > 0 {
-            self.write_round_trips(&path.round_trips.delays, f)?;
+            self.write_round_trips(&path.round_trips.delays, out);
         }
-        f.write_str("}")
+        out.say("}")
     }
 
     /// Writes an object with the number and the time of a packet.
-    fn write_moment<W: fmt::Write>(
-        &self,
-        key: &'static str,
-        moment: Moment,
-        f: &mut fmt::Formatter<W>,
-    ) -> fmt::Result {
-        write!(f, ",\"{key}\":{{")?;
-        self.write_first(moment.packet, moment.nanoseconds, f)?;
-        f.write_str("}")
+    fn write_moment(&self, key: &'static str, moment: Moment, out: &mut Text<'_>) {
+        write!(out, ",\"{key}\":{{");
+        self.write_first(moment.packet, moment.nanoseconds, out);
+        out.say("}")
     }
 
     /// Writes the addresses of which an end said something, if there are some, and how many
     /// statements found no room.
-    fn write_announced<W: fmt::Write>(&self, end: &End, f: &mut fmt::Formatter<W>) -> fmt::Result {
+    fn write_announced(&self, end: &End, out: &mut Text<'_>) {
         let Some(said) = end.announced.said() else {
-            return Ok(());
+            return;
         };
         let mut separator = ",\"announced\":[";
         for announced in &said.list {
             if let Some(announced) = announced {
-                f.write_str(separator)?;
+                out.say(separator);
                 separator = ",";
-                self.write_address(announced, f)?;
+                self.write_address(announced, out);
                 if end.is_unused(announced) {
-                    f.write_str(",\"never_used\":true")?;
+                    out.pair("never_used", true);
                 }
-                f.write_str("}")?;
+                out.say("}");
             }
         }
         if separator == "," {
-            f.write_str("]")?;
+            out.say("]");
         }
-        let more = said.more;
-        if more == 0 {
-            return Ok(());
+        if said.more > 0 {
+            out.pair("more_announced", said.more);
         }
-        write!(f, ",\"more_announced\":{more}")
     }
 
     /// Writes an address, and what its end said of it, without the end of the object.
-    fn write_address<W: fmt::Write>(
-        &self,
-        announced: &Announced,
-        f: &mut fmt::Formatter<W>,
-    ) -> fmt::Result {
+    fn write_address(&self, announced: &Announced, out: &mut Text<'_>) {
         let address = announced.address;
-        write!(f, "{{\"address\":\"{address}\"")?;
+        write!(out, "{{\"address\":\"{address}\"");
         if let Some(added) = announced.added {
-            write_chunk(added.chunk, f)?;
-            self.write_statement(&ADDED_KEYS, added, f)?;
+            write_chunk(added.chunk, out);
+            self.write_statement(&ADDED_KEYS, added, out);
         }
         if let Some(primary) = announced.primary {
-            self.write_statement(&PRIMARY_KEYS, primary, f)?;
+            self.write_statement(&PRIMARY_KEYS, primary, out);
         }
         if let Some(deleted) = announced.deleted {
-            self.write_statement(&DELETED_KEYS, deleted, f)?;
+            self.write_statement(&DELETED_KEYS, deleted, out);
         }
-        Ok(())
     }
 
     /// Writes the packet of a statement, its file, and how it was answered.
-    fn write_statement<W: fmt::Write>(
-        &self,
-        keys: &StatementKeys,
-        statement: Statement,
-        f: &mut fmt::Formatter<W>,
-    ) -> fmt::Result {
-        self.write_packet(keys.packet, keys.file, Some(statement.packet), f)?;
+    fn write_statement(&self, keys: &StatementKeys, statement: Statement, out: &mut Text<'_>) {
+        self.write_packet(keys.packet, keys.file, Some(statement.packet), out);
         match statement.answer {
             Some(Answer::Accepted(packet)) => {
-                self.write_packet(keys.accepted_packet, keys.accepted_file, Some(packet), f)
+                self.write_packet(keys.accepted_packet, keys.accepted_file, Some(packet), out)
             }
-            Some(Answer::Refused) => write_true(keys.refused, f),
-            None if statement.is_unanswered() => write_true(keys.unanswered, f),
-            Some(Answer::Unclear) | None => Ok(()),
+            Some(Answer::Refused) => out.pair(keys.refused, true),
+            None if statement.is_unanswered() => out.pair(keys.unanswered, true),
+            Some(Answer::Unclear) | None => {}
         }
     }
 
     /// Writes the round trips of an end's DATA.
-    fn write_round_trips<W: fmt::Write>(
-        &self,
-        trips: &Delays,
-        f: &mut fmt::Formatter<W>,
-    ) -> fmt::Result {
+    fn write_round_trips(&self, trips: &Delays, out: &mut Text<'_>) {
         let count = trips.count;
-        write!(f, ",\"round_trip\":{{\"count\":{count}")?;
-        self.write_seconds("least", trips.least, f)?;
-        self.write_seconds("median", trips.median(), f)?;
-        self.write_seconds("greatest", trips.greatest, f)?;
-        let tsn = trips.greatest_tsn;
-        write!(f, ",\"greatest_tsn\":{tsn}")?;
-        self.write_packet("greatest_packet", "greatest_file", trips.greatest_packet, f)?;
-        f.write_str("}")
+        write!(out, ",\"round_trip\":{{\"count\":{count}");
+        self.write_seconds("least", trips.least, out);
+        self.write_seconds("median", trips.median(), out);
+        self.write_seconds("greatest", trips.greatest, out);
+        out.pair("greatest_tsn", trips.greatest_tsn);
+        self.write_packet(
+            "greatest_packet",
+            "greatest_file",
+            trips.greatest_packet,
+            out,
+        );
+        out.say("}")
     }
 
     /// Writes the TSNs of an end.
-    fn write_tsns<W: fmt::Write>(&self, end: &End, f: &mut fmt::Formatter<W>) -> fmt::Result {
+    fn write_tsns(&self, end: &End, out: &mut Text<'_>) {
         if let Some((first, last)) = end.tsns.span() {
-            write!(f, ",\"first_tsn\":{first},\"last_tsn\":{last}")?;
+            out.pair("first_tsn", first);
+            out.pair("last_tsn", last);
         }
         if let Some(acknowledged) = end.acknowledged {
-            let tsn = acknowledged.tsn;
-            write!(f, ",\"acknowledged\":{tsn}")?;
+            out.pair("acknowledged", acknowledged.tsn);
             let packet = Some(acknowledged.packet);
-            self.write_packet("acknowledged_packet", "acknowledged_file", packet, f)?;
+            self.write_packet("acknowledged_packet", "acknowledged_file", packet, out);
         }
         if end.tsns.span().is_none() {
-            return Ok(());
+            return;
         }
-        let (repeated, missing) = (end.tsns.repeated, end.tsns.missing);
-        write!(f, ",\"repeated\":{repeated}")?;
+        out.pair("repeated", end.tsns.repeated);
         let packet = end.tsns.first_repeated;
-        self.write_packet("first_repeated", "first_repeated_file", packet, f)?;
+        self.write_packet("first_repeated", "first_repeated_file", packet, out);
         if packet.is_some() {
-            let tsn = end.tsns.first_repeated_tsn;
-            write!(f, ",\"first_repeated_tsn\":{tsn}")?;
+            out.pair("first_repeated_tsn", end.tsns.first_repeated_tsn);
         }
-        write!(f, ",\"missing\":{missing}")
+        out.pair("missing", end.tsns.missing);
     }
 
     /// Writes what an end skipped.
-    fn write_skipped<W: fmt::Write>(&self, end: &End, f: &mut fmt::Formatter<W>) -> fmt::Result {
-        let sent = end.counts.forward_tsns;
-        write!(f, ",\"forward_tsns\":{sent}")?;
+    fn write_skipped(&self, end: &End, out: &mut Text<'_>) {
+        out.pair("forward_tsns", end.counts.forward_tsns);
         let Some(skipped) = end.skipped else {
-            return Ok(());
+            return;
         };
-        let (count, tsn, abandoned) = (skipped.count, skipped.tsn, end.counts.abandoned);
-        write!(f, ",\"skipped\":{count},\"skipped_to\":{tsn}")?;
-        self.write_packet("skipped_packet", "skipped_file", Some(skipped.packet), f)?;
-        write!(f, ",\"abandoned\":{abandoned}")
+        out.pair("skipped", skipped.count);
+        out.pair("skipped_to", skipped.tsn);
+        self.write_packet("skipped_packet", "skipped_file", Some(skipped.packet), out);
+        out.pair("abandoned", end.counts.abandoned);
     }
 
     /// Writes the SACKs of an end.
-    fn write_sacks<W: fmt::Write>(&self, end: &End, f: &mut fmt::Formatter<W>) -> fmt::Result {
-        let (sacks, with_gaps) = (end.counts.sacks, end.counts.sacks_with_gaps);
-        write!(f, ",\"sacks\":{sacks},\"sacks_with_gaps\":{with_gaps}")?;
+    fn write_sacks(&self, end: &End, out: &mut Text<'_>) {
+        out.pair("sacks", end.counts.sacks);
+        out.pair("sacks_with_gaps", end.counts.sacks_with_gaps);
         if let Some(window) = end.counts.least_window {
-            let a_rwnd = window.a_rwnd;
-            write!(f, ",\"least_a_rwnd\":{a_rwnd}")?;
+            out.pair("least_a_rwnd", window.a_rwnd);
             let packet = Some(window.packet);
-            self.write_packet("least_a_rwnd_packet", "least_a_rwnd_file", packet, f)?;
+            self.write_packet("least_a_rwnd_packet", "least_a_rwnd_file", packet, out);
         }
         if let Some(closed) = end.closed {
-            self.write_packet("closed_first", "closed_first_file", Some(closed.first), f)?;
-            self.write_packet("closed_last", "closed_last_file", Some(closed.last), f)?;
-            self.write_packet("opened_packet", "opened_file", end.opened, f)?;
+            self.write_packet("closed_first", "closed_first_file", Some(closed.first), out);
+            self.write_packet("closed_last", "closed_last_file", Some(closed.last), out);
+            self.write_packet("opened_packet", "opened_file", end.opened, out);
         }
-        Ok(())
     }
 
     /// Writes the HEARTBEATs of an end.
-    fn write_heartbeats<W: fmt::Write>(&self, end: &End, f: &mut fmt::Formatter<W>) -> fmt::Result {
-        let (sent, unanswered) = (end.counts.heartbeats, end.heartbeats.count);
-        write!(
-            f,
-            ",\"heartbeats\":{sent},\"heartbeats_unanswered\":{unanswered}"
-        )?;
+    fn write_heartbeats(&self, end: &End, out: &mut Text<'_>) {
+        out.pair("heartbeats", end.counts.heartbeats);
+        out.pair("heartbeats_unanswered", end.heartbeats.count);
         let packet = end.heartbeats.last();
-        self.write_packet("last_unanswered", "last_unanswered_file", packet, f)
+        self.write_packet("last_unanswered", "last_unanswered_file", packet, out)
     }
 
     /// Writes the requests of an end.
-    fn write_requests<W: fmt::Write>(&self, end: &End, f: &mut fmt::Formatter<W>) -> fmt::Result {
-        let (sent, unanswered) = (end.requests.count, end.requests.unanswered.count);
-        write!(
-            f,
-            ",\"requests\":{sent},\"requests_unanswered\":{unanswered}"
-        )?;
+    fn write_requests(&self, end: &End, out: &mut Text<'_>) {
+        out.pair("requests", end.requests.count);
+        out.pair("requests_unanswered", end.requests.unanswered.count);
         let packet = end.requests.unanswered.last();
         self.write_packet(
             "last_request_unanswered",
             "last_request_unanswered_file",
             packet,
-            f,
+            out,
         )
     }
 
     /// Writes the number and the time of a packet, at the front of an object.
-    fn write_first<W: fmt::Write>(
-        &self,
-        packet: PacketNumber,
-        nanoseconds: Option<u64>,
-        f: &mut fmt::Formatter<W>,
-    ) -> fmt::Result {
+    fn write_first(&self, packet: PacketNumber, nanoseconds: Option<u64>, out: &mut Text<'_>) {
         let number = packet.number;
-        write!(f, "\"packet\":{number}")?;
+        write!(out, "\"packet\":{number}");
         if let Some(name) = file_of(packet, self.files) {
-            let name = JsonText(name);
-            write!(f, ",\"file\":{name}")?;
+            out.pair("file", JsonText(name));
         }
-        write_time_key("time", nanoseconds, self.style, f)
+        write_time_key("time", nanoseconds, self.style, out)
     }
 
     /// Writes a packet's number, if there is one, and its file's name.
-    fn write_packet<W: fmt::Write>(
+    fn write_packet(
         &self,
         key: &'static str,
         file_key: &'static str,
         packet: Option<PacketNumber>,
-        f: &mut fmt::Formatter<W>,
-    ) -> fmt::Result {
-        write_packet_keys((key, file_key), packet, self.files, f)
+        out: &mut Text<'_>,
+    ) {
+        write_packet_keys((key, file_key), packet, self.files, out)
     }
 
     /// Writes a span of time, in seconds.
-    fn write_seconds<W: fmt::Write>(
-        &self,
-        key: &str,
-        nanoseconds: u64,
-        f: &mut fmt::Formatter<W>,
-    ) -> fmt::Result {
-        let seconds = self.style.seconds(nanoseconds);
-        write!(f, ",\"{key}\":{seconds}")
+    fn write_seconds(&self, key: &str, nanoseconds: u64, out: &mut Text<'_>) {
+        out.pair(key, self.style.seconds(nanoseconds));
     }
 }
 
@@ -442,11 +387,6 @@ const DELETED_KEYS: StatementKeys = StatementKeys {
     unanswered: "deleted_unanswered",
 };
 
-/// Writes a key that is true.
-fn write_true<W: fmt::Write>(key: &'static str, f: &mut fmt::Formatter<W>) -> fmt::Result {
-    write!(f, ",\"{key}\":true")
-}
-
 /// Returns the place of an end in the list of both.
 pub fn index_of(side: Side) -> u8 {
     match side {
@@ -456,88 +396,76 @@ pub fn index_of(side: Side) -> u8 {
 }
 
 /// Writes the transport, if it has a name; `null` if that isn't kept.
-fn write_transport<W: fmt::Write>(transport: &Transport, f: &mut fmt::Formatter<W>) -> fmt::Result {
+fn write_transport(transport: &Transport, out: &mut Text<'_>) {
     match transport {
-        Transport::Unnamed => Ok(()),
-        Transport::Named(name) => {
-            let name = JsonText(name.as_str());
-            write!(f, ",\"transport\":{name}")
-        }
-        Transport::Other => f.write_str(",\"transport\":null"),
+        Transport::Unnamed => {}
+        Transport::Named(name) => out.pair("transport", JsonText(name.as_str())),
+        Transport::Other => out.say(",\"transport\":null"),
     }
 }
 
 /// Writes the name of a chunk type.
-fn write_chunk<W: fmt::Write>(typ: u8, f: &mut fmt::Formatter<W>) -> fmt::Result {
-    let name = ChunkName(typ);
-    write!(f, ",\"chunk\":\"{name}\"")
+fn write_chunk(typ: u8, out: &mut Text<'_>) {
+    out.word("chunk", ChunkName(typ));
 }
 
 /// Writes the chunk types that an end listed, if it listed some.
-fn write_chunk_list<W: fmt::Write>(end: &End, f: &mut fmt::Formatter<W>) -> fmt::Result {
+fn write_chunk_list(end: &End, out: &mut Text<'_>) {
     let Some(vector) = end.vectors.last() else {
-        return Ok(());
+        return;
     };
     let mut separator = ",\"chunk_list\":[";
     for typ in vector.chunk_list() {
-        write!(f, "{separator}{{\"type\":{typ}")?;
+        write!(out, "{separator}{{\"type\":{typ}");
         let name = ChunkName(*typ);
         if name.is_known() {
-            write!(f, ",\"name\":\"{name}\"")?;
+            out.word("name", name);
         }
-        f.write_str("}")?;
+        out.say("}");
         separator = ",";
     }
     if separator == "," {
-        f.write_str("]")
-    } else {
-        Ok(())
+        out.say("]")
     }
 }
 
 /// Writes what is counted of Stale Cookie causes, if there are some.
-fn write_stale_cookies<W: fmt::Write>(end: &End, f: &mut fmt::Formatter<W>) -> fmt::Result {
+fn write_stale_cookies(end: &End, out: &mut Text<'_>) {
     let stale = end.counts.stale_cookies;
-    let (count, greatest) = (stale.count, stale.greatest);
-    if count == 0 {
-        return Ok(());
+    if stale.count > 0 {
+        out.pair("stale_cookies", stale.count);
+        out.pair("greatest_staleness", stale.greatest);
     }
-    write!(
-        f,
-        ",\"stale_cookies\":{count},\"greatest_staleness\":{greatest}"
-    )
 }
 
 /// Writes the addresses, the port and the tag of an end.
-fn write_addresses<W: fmt::Write>(end: &End, f: &mut fmt::Formatter<W>) -> fmt::Result {
-    f.write_str("\"addresses\":[")?;
+fn write_addresses(end: &End, out: &mut Text<'_>) {
+    out.say("\"addresses\":[");
     let mut separator = "";
     for address in &end.addresses {
         if let Some(address) = address {
-            write!(f, "{separator}\"{address}\"")?;
+            write!(out, "{separator}\"{address}\"");
             separator = ",";
         }
     }
-    f.write_str("]")?;
+    out.say("]");
     if end.has_more_addresses {
-        f.write_str(",\"more_addresses\":true")?;
+        out.pair("more_addresses", true);
     }
-    let port = end.port;
-    write!(f, ",\"port\":{port}")?;
+    out.pair("port", end.port);
     if let Some(tag) = end.tag {
-        write!(f, ",\"tag\":{tag}")?;
+        out.pair("tag", tag);
     }
-    Ok(())
 }
 
 /// Writes what is counted of packets and DATA.
-fn write_counts<W: fmt::Write>(counts: &Counts, f: &mut fmt::Formatter<W>) -> fmt::Result {
-    let (packets, refused) = (counts.packets, counts.refused);
-    let (zero, wrong) = (counts.zero, counts.wrong);
-    write!(f, ",\"packets\":{packets},\"refused\":{refused}")?;
-    write!(f, ",\"zero_checksums\":{zero},\"wrong_checksums\":{wrong}")?;
-    let (inits, data, i_data) = (counts.inits, counts.data_chunks, counts.i_data_chunks);
-    let bytes = counts.data_bytes;
-    write!(f, ",\"inits\":{inits},\"data\":{data},\"i_data\":{i_data}")?;
-    write!(f, ",\"bytes\":{bytes}")
+fn write_counts(counts: &Counts, out: &mut Text<'_>) {
+    out.pair("packets", counts.packets);
+    out.pair("refused", counts.refused);
+    out.pair("zero_checksums", counts.zero);
+    out.pair("wrong_checksums", counts.wrong);
+    out.pair("inits", counts.inits);
+    out.pair("data", counts.data_chunks);
+    out.pair("i_data", counts.i_data_chunks);
+    out.pair("bytes", counts.data_bytes);
 }

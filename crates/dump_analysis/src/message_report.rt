@@ -2,16 +2,17 @@
 
 use crate::association::Side;
 use crate::end::Closed;
+use crate::json::index_of;
 use crate::message::{Fate, Message};
 use crate::moment::Moment;
-use crate::packet_number::{PacketText, write_packet_keys};
+use crate::packet_number::{PacketNumber, PacketText, write_packet_keys};
+use crate::text::Text;
 use crate::time::{TimeStyle, write_time_key};
-use dump_report::hexadecimal::write_digits;
+use dump_report::hexadecimal::Digits;
 use dump_report::json_text::JsonText;
 use dump_report::names::ChunkName;
 use dump_report::payload::{ByteCount, Rows, TextLine};
 use dump_report::registry::payload_protocol;
-use std::fmt;
 
 /// The payload protocol identifier of a WebRTC string, which is UTF-8 (RFC 8831 section 6.6).
 const STRING: u32 = 51;
@@ -32,36 +33,35 @@ pub struct MessageReport<'a> {
     pub files: &'a [String],
 }
 
-impl<'a> fmt::Display for MessageReport<'a> {
-    fn fmt<W: fmt::Write>(&self, f: &mut fmt::Formatter<W>) -> fmt::Result {
-        self.write_message(f)?;
+impl<'a> MessageReport<'a> {
+    /// Writes it.
+    pub fn write(&self, out: &mut Text<'_>) {
+        self.write_message(out);
         let message = self.message;
-        f.write_str(": sent")?;
-        self.write_moment(message.sent, f)?;
+        out.say(": sent");
+        self.write_moment(message.sent, out);
         match message.fate {
             Fate::Acknowledged(moment) => {
-                f.write_str(", acknowledged")?;
-                self.write_moment(moment, f)?;
+                out.say(", acknowledged");
+                self.write_moment(moment, out);
                 if let Some(nanoseconds) = message.delay() {
                     let seconds = self.style.seconds(nanoseconds);
-                    write!(f, " after {seconds} s")?;
+                    write!(out, " after {seconds} s");
                 }
             }
             Fate::Abandoned { chunk, moment } => {
                 let (name, packet) = (ChunkName(chunk), self.packet(moment));
-                write!(f, ", abandoned by {name} in {packet}")?;
+                write!(out, ", abandoned by {name} in {packet}");
             }
-            Fate::Unacknowledged => f.write_str(", not acknowledged")?,
+            Fate::Unacknowledged => out.say(", not acknowledged"),
         }
-        self.write_fragments(f)?;
-        self.write_waits(f)?;
-        self.write_payload(f)
+        self.write_fragments(out);
+        self.write_waits(out);
+        self.write_payload(out)
     }
-}
 
-impl<'a> MessageReport<'a> {
     /// Writes which message it is.
-    fn write_message<W: fmt::Write>(&self, f: &mut fmt::Formatter<W>) -> fmt::Result {
+    fn write_message(&self, out: &mut Text<'_>) {
         let (message, key) = (self.message, self.message.key);
         let (association, stream, number) = (message.association, key.stream, key.number);
         let mark = match message.sender {
@@ -70,124 +70,118 @@ impl<'a> MessageReport<'a> {
         };
         let name = if key.is_i_data { "mid" } else { "ssn" };
         write!(
-            f,
+            out,
             "message of {association} {mark} stream {stream}, {name} {number}"
-        )?;
+        );
         if key.is_unordered {
-            f.write_str(", unordered")?;
+            out.say(", unordered");
         }
         if let Some(ppid) = message.ppid {
-            write!(f, ", ppid {ppid}")?;
+            write!(out, ", ppid {ppid}");
             if let Some(name) = payload_protocol(ppid) {
-                write!(f, " ({name})")?;
+                write!(out, " ({name})");
             }
         }
         let (size, first, last) = (message.size, message.first_tsn, message.last_tsn);
-        write!(f, ", size {size}, tsn {first}")?;
+        write!(out, ", size {size}, tsn {first}");
         if first != last {
-            write!(f, " to {last}")?;
+            write!(out, " to {last}");
         }
-        Ok(())
     }
 
     /// Writes what is to be said of its fragments.
-    fn write_fragments<W: fmt::Write>(&self, f: &mut fmt::Formatter<W>) -> fmt::Result {
+    fn write_fragments(&self, out: &mut Text<'_>) {
         let message = self.message;
         if let Some(again) = message.first_repeated {
             let tsn = again.tsn;
-            write!(f, "; tsn {tsn} sent again")?;
+            write!(out, "; tsn {tsn} sent again");
             if let Some(nanoseconds) = again.after {
                 let seconds = self.style.seconds(nanoseconds);
-                write!(f, " after {seconds} s")?;
+                write!(out, " after {seconds} s");
             }
             let repeated = message.repeated;
             if repeated > 1 {
-                write!(f, ", {repeated} repeats in all")?;
+                write!(out, ", {repeated} repeats in all");
             }
         }
         if let Some(tsn) = message.changed {
-            write!(f, "; tsn {tsn} sent again with other bytes")?;
+            write!(out, "; tsn {tsn} sent again with other bytes");
         }
         if let Some(first) = message.first_missing {
             let name = if message.key.is_i_data { "fsn" } else { "tsn" };
-            write!(f, "; {name} {first}")?;
+            write!(out, "; {name} {first}");
             let missing = message.missing;
             if missing > 1 {
                 let more = missing - 1;
-                write!(f, " and {more} more")?;
+                write!(out, " and {more} more");
             }
-            f.write_str(" never seen in this capture")?;
+            out.say(" never seen in this capture");
         }
         if message.is_odd {
-            f.write_str("; fragments contradict one another")?;
+            out.say("; fragments contradict one another");
         }
         if !message.has_beginning {
-            f.write_str("; beginning not seen")?;
+            out.say("; beginning not seen");
         }
         if !message.has_end {
-            f.write_str("; end not seen")?;
+            out.say("; end not seen");
         }
-        Ok(())
     }
 
     /// Writes for what it waited.
-    fn write_waits<W: fmt::Write>(&self, f: &mut fmt::Formatter<W>) -> fmt::Result {
+    fn write_waits(&self, out: &mut Text<'_>) {
         if let Some(tsn) = self.message.waited_for {
-            write!(f, "; waited for tsn {tsn} of its stream")?;
+            write!(out, "; waited for tsn {tsn} of its stream");
         }
         let Some(closed) = self.message.closed else {
-            return Ok(());
+            return;
         };
         let Closed { first, last } = closed;
-        f.write_str("; peer's window was 0 ")?;
+        out.say("; peer's window was 0 ");
         let text = PacketText {
             packet: first,
             files: self.files,
         };
         if first == last {
-            return write!(f, "in {text}");
+            return write!(out, "in {text}");
         }
-        write!(f, "from {text} to ")?;
+        write!(out, "from {text} to ");
         if first.file == last.file {
             let number = last.number;
-            return write!(f, "{number}");
+            return write!(out, "{number}");
         }
         let text = PacketText {
             packet: last,
             files: self.files,
         };
-        write!(f, "{text}")
+        write!(out, "{text}")
     }
 
     /// Writes its user data on lines of its own, if it is asked for.
-    fn write_payload<W: fmt::Write>(&self, f: &mut fmt::Formatter<W>) -> fmt::Result {
+    fn write_payload(&self, out: &mut Text<'_>) {
         if !self.shows_payload {
-            return Ok(());
+            return;
         }
         let Some(bytes) = self.payload else {
-            return f.write_str("\n  payload: not known");
+            return out.say("\n  payload: not known");
         };
         let (size, rows) = (ByteCount(bytes.len()), Rows(bytes));
-        write!(f, "\n  payload: {size}{rows}")?;
+        write!(out, "\n  payload: {size}{rows}");
         if self.message.ppid != Some(STRING) {
-            return Ok(());
+            return;
         }
         let text = TextLine(bytes);
-        write!(f, "{text}")
+        write!(out, "{text}")
     }
 
     /// Writes a time, if it is known, and the packet's number.
-    fn write_moment<W: fmt::Write>(
-        &self,
-        moment: Moment,
-        f: &mut fmt::Formatter<W>,
-    ) -> fmt::Result {
+    fn write_moment(&self, moment: Moment, out: &mut Text<'_>) {
         if let Some(nanoseconds) = moment.nanoseconds {
             let time = self.style.time(nanoseconds);
-            write!(f, " {time}")?;
+            write!(out, " {time}");
         }
         let packet = self.packet(moment);
-        write!(f, " ({packet})")
+        write!(out, " ({packet})")
     }
 
     /// Returns a packet's number as text.
@@ -203,141 +197,122 @@ impl<'a> MessageReport<'a> {
 #[derive(Clone, Copy)]
 pub struct MessageJson<'a>(pub MessageReport<'a>);
 
-impl<'a> fmt::Display for MessageJson<'a> {
-    fn fmt<W: fmt::Write>(&self, f: &mut fmt::Formatter<W>) -> fmt::Result {
-        self.write_message(f)?;
+impl<'a> MessageJson<'a> {
+    /// Writes it.
+    pub fn write(&self, out: &mut Text<'_>) {
+        self.write_message(out);
         let message = self.0.message;
-        write_time_key("sent", message.sent.nanoseconds, self.0.style, f)?;
-        write_packet_keys(
-            ("sent_packet", "sent_file"),
-            Some(message.sent.packet),
-            self.0.files,
-            f,
-        )?;
+        write_time_key("sent", message.sent.nanoseconds, self.0.style, out);
+        self.write_packet(("sent_packet", "sent_file"), message.sent.packet, out);
         match message.fate {
             Fate::Acknowledged(moment) => {
-                write_time_key("acknowledged", moment.nanoseconds, self.0.style, f)?;
-                write_packet_keys(
+                write_time_key("acknowledged", moment.nanoseconds, self.0.style, out);
+                self.write_packet(
                     ("acknowledged_packet", "acknowledged_file"),
-                    Some(moment.packet),
-                    self.0.files,
-                    f,
-                )?;
+                    moment.packet,
+                    out,
+                );
             }
             Fate::Abandoned { chunk, moment } => {
-                let name = ChunkName(chunk);
-                write!(f, ",\"abandoned_by\":\"{name}\"")?;
-                write_packet_keys(
-                    ("abandoned_packet", "abandoned_file"),
-                    Some(moment.packet),
-                    self.0.files,
-                    f,
-                )?;
+                out.word("abandoned_by", ChunkName(chunk));
+                self.write_packet(("abandoned_packet", "abandoned_file"), moment.packet, out);
             }
             Fate::Unacknowledged => {}
         }
         if let Some(nanoseconds) = message.delay() {
-            let seconds = self.0.style.seconds(nanoseconds);
-            write!(f, ",\"delay\":{seconds}")?;
+            out.pair("delay", self.0.style.seconds(nanoseconds));
         }
-        self.write_reasons(f)?;
+        self.write_reasons(out);
         if let Some(bytes) = self.0.payload {
-            self.write_payload(bytes, f)?;
+            self.write_payload(bytes, out);
         }
-        f.write_str("}")
+        out.say("}")
     }
-}
 
-impl<'a> MessageJson<'a> {
     /// Writes which message it is.
-    fn write_message<W: fmt::Write>(&self, f: &mut fmt::Formatter<W>) -> fmt::Result {
+    fn write_message(&self, out: &mut Text<'_>) {
         let (message, key) = (self.0.message, self.0.message.key);
-        let (association, stream, number) = (message.association, key.stream, key.number);
-        let end = match message.sender {
-            Side::First => 0,
-            Side::Second => 1,
-        };
-        let name = if key.is_i_data { "mid" } else { "ssn" };
-        write!(
-            f,
-            "{{\"message_of\":{association},\"end\":{end},\"stream\":{stream},\"{name}\":{number}"
-        )?;
-        let is_unordered = key.is_unordered;
-        write!(f, ",\"unordered\":{is_unordered}")?;
+        let association = message.association;
+        write!(out, "{{\"message_of\":{association}");
+        out.pair("end", index_of(message.sender));
+        out.pair("stream", key.stream);
+        out.pair(if key.is_i_data { "mid" } else { "ssn" }, key.number);
+        out.pair("unordered", key.is_unordered);
         if let Some(ppid) = message.ppid {
-            write!(f, ",\"ppid\":{ppid}")?;
+            out.pair("ppid", ppid);
             if let Some(name) = payload_protocol(ppid) {
-                let name = JsonText(name);
-                write!(f, ",\"ppid_name\":{name}")?;
+                out.pair("ppid_name", JsonText(name));
             }
         }
-        let (size, fragments) = (message.size, message.fragments);
-        let (first, last) = (message.first_tsn, message.last_tsn);
-        write!(f, ",\"size\":{size},\"fragments\":{fragments}")?;
-        write!(f, ",\"first_tsn\":{first},\"last_tsn\":{last}")
+        out.pair("size", message.size);
+        out.pair("fragments", message.fragments);
+        out.pair("first_tsn", message.first_tsn);
+        out.pair("last_tsn", message.last_tsn);
     }
 
     /// Writes why it took that long.
-    fn write_reasons<W: fmt::Write>(&self, f: &mut fmt::Formatter<W>) -> fmt::Result {
+    fn write_reasons(&self, out: &mut Text<'_>) {
         let message = self.0.message;
         if let Some(again) = message.first_repeated {
-            let (repeated, tsn) = (message.repeated, again.tsn);
-            write!(f, ",\"repeated\":{repeated},\"first_repeated_tsn\":{tsn}")?;
+            out.pair("repeated", message.repeated);
+            out.pair("first_repeated_tsn", again.tsn);
             if let Some(nanoseconds) = again.after {
-                let seconds = self.0.style.seconds(nanoseconds);
-                write!(f, ",\"repeated_after\":{seconds}")?;
+                out.pair("repeated_after", self.0.style.seconds(nanoseconds));
             }
         }
         if let Some(tsn) = message.changed {
-            write!(f, ",\"changed_tsn\":{tsn}")?;
+            out.pair("changed_tsn", tsn);
         }
         if let Some(first) = message.first_missing {
-            let missing = message.missing;
-            let name = if message.key.is_i_data { "fsn" } else { "tsn" };
-            write!(f, ",\"missing\":{missing},\"first_missing_{name}\":{first}")?;
+            out.pair("missing", message.missing);
+            let is_i_data = message.key.is_i_data;
+            out.pair(
+                if is_i_data {
+                    "first_missing_fsn"
+                } else {
+                    "first_missing_tsn"
+                },
+                first,
+            );
         }
-        write_flag("contradictory", message.is_odd, f)?;
-        write_flag("no_beginning", !message.has_beginning, f)?;
-        write_flag("no_end", !message.has_end, f)?;
+        write_flag("contradictory", message.is_odd, out);
+        write_flag("no_beginning", !message.has_beginning, out);
+        write_flag("no_end", !message.has_end, out);
         if let Some(tsn) = message.waited_for {
-            write!(f, ",\"waited_for_tsn\":{tsn}")?;
+            out.pair("waited_for_tsn", tsn);
         }
         let Some(closed) = message.closed else {
-            return Ok(());
+            return;
         };
-        let (first, last) = (Some(closed.first), Some(closed.last));
-        write_packet_keys(
-            ("closed_first", "closed_first_file"),
-            first,
-            self.0.files,
-            f,
-        )?;
-        write_packet_keys(("closed_last", "closed_last_file"), last, self.0.files, f)
+        self.write_packet(("closed_first", "closed_first_file"), closed.first, out);
+        self.write_packet(("closed_last", "closed_last_file"), closed.last, out)
+    }
+
+    /// Writes a packet's number, and its file's name.
+    fn write_packet(
+        &self,
+        keys: (&'static str, &'static str),
+        packet: PacketNumber,
+        out: &mut Text<'_>,
+    ) {
+        write_packet_keys(keys, Some(packet), self.0.files, out)
     }
 
     /// Writes its user data.
-    fn write_payload<W: fmt::Write>(&self, bytes: &[u8], f: &mut fmt::Formatter<W>) -> fmt::Result {
-        f.write_str(",\"payload\":\"")?;
-        write_digits(bytes, f)?;
-        f.write_str("\"")?;
-        match str::from_utf8(bytes) {
-            Ok(text) if self.0.message.ppid == Some(STRING) => {
-                let text = JsonText(text);
-                write!(f, ",\"text\":{text}")
-            }
-            _ => Ok(()),
+    fn write_payload(&self, bytes: &[u8], out: &mut Text<'_>) {
+        out.word("payload", Digits(bytes));
+        if self.0.message.ppid != Some(STRING) {
+            return;
+        }
+        if let Ok(text) = str::from_utf8(bytes) {
+            out.pair("text", JsonText(text));
         }
     }
 }
 
 /// Writes a key that is true, if it is.
-fn write_flag<W: fmt::Write>(
-    key: &'static str,
-    is_so: bool,
-    f: &mut fmt::Formatter<W>,
-) -> fmt::Result {
-    if !is_so {
-        return Ok(());
+fn write_flag(key: &'static str, is_so: bool, out: &mut Text<'_>) {
+    if is_so {
+        out.pair(key, true);
     }
-    write!(f, ",\"{key}\":true")
 }

@@ -1,5 +1,6 @@
 //! The numbers of packets, where several files are read.
 
+use crate::text::Text;
 use dump_report::json_text::JsonText;
 use std::fmt;
 
@@ -32,49 +33,21 @@ impl<'a> fmt::Display for PacketText<'a> {
     }
 }
 
-/// A packet's number as keys and values of JSON, with a comma before each: that of its number, and
-/// if there are several files that of its file.
-#[derive(Clone, Copy)]
-pub struct PacketKeys<'a> {
-    /// The packet's number.
-    pub packet: PacketNumber,
-    /// The key of the number.
-    pub key: &'static str,
-    /// The key of the file's name.
-    pub file_key: &'static str,
-    /// The files' names.
-    pub files: &'a [String],
-}
-
-impl<'a> fmt::Display for PacketKeys<'a> {
-    fn fmt<W: fmt::Write>(&self, f: &mut fmt::Formatter<W>) -> fmt::Result {
-        let (key, number) = (self.key, self.packet.number);
-        write!(f, ",\"{key}\":{number}")?;
-        let Some(name) = file_of(self.packet, self.files) else {
-            return Ok(());
-        };
-        let (key, name) = (self.file_key, JsonText(name));
-        write!(f, ",\"{key}\":{name}")
-    }
-}
-
-/// Writes a packet's number, if there is one, as `PacketKeys` does.
-pub fn write_packet_keys<W: fmt::Write>(
+/// Writes a packet's number, if there is one, as keys and values of JSON, with a comma before each:
+/// that of its number, and if there are several files that of its file.
+pub fn write_packet_keys(
     (key, file_key): (&'static str, &'static str),
     packet: Option<PacketNumber>,
     files: &[String],
-    f: &mut fmt::Formatter<W>,
-) -> fmt::Result {
+    out: &mut Text<'_>,
+) {
     let Some(packet) = packet else {
-        return Ok(());
+        return;
     };
-    let keys = PacketKeys {
-        packet,
-        key,
-        file_key,
-        files,
-    };
-    write!(f, "{keys}")
+    out.pair(key, packet.number);
+    if let Some(name) = file_of(packet, files) {
+        out.pair(file_key, JsonText(name));
+    }
 }
 
 /// Returns the name of a packet's file, if files have names.

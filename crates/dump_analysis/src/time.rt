@@ -3,6 +3,7 @@
 ghost use Rattle.std.specs.Prelude.{◌≡◌, ◌+◌, ◌-◌, ◌/◌, ◌^◌, ◌<◌, ◌≤◌};
 ghost use Rattle.dump_analysis.specs.Calendar.{is_leap_year, days_of_year, days_of_month, days_of_years, days_of_months, IsDate};
 
+use crate::text::Text;
 use std::fmt;
 
 /// How many nanoseconds a second has.
@@ -118,17 +119,15 @@ impl fmt::Display for TimeJson {
 }
 
 /// Writes a time, if it is known, as a key and a value of JSON, with a comma before them.
-pub fn write_time_key<W: fmt::Write>(
+pub fn write_time_key(
     key: &'static str,
     nanoseconds: Option<u64>,
     style: TimeStyle,
-    f: &mut fmt::Formatter<W>,
-) -> fmt::Result {
-    let Some(nanoseconds) = nanoseconds else {
-        return Ok(());
-    };
-    let time = TimeJson(style.time(nanoseconds));
-    write!(f, ",\"{key}\":{time}")
+    out: &mut Text<'_>,
+) {
+    if let Some(nanoseconds) = nanoseconds {
+        out.pair(key, TimeJson(style.time(nanoseconds)));
+    }
 }
 
 /// A span of time in seconds, as `0.000210`.

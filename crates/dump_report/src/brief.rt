@@ -3,6 +3,7 @@
 use crate::fault::{Fault, Reason};
 use crate::fields::{Block, Fields, Flag, Form, Number, Text};
 use crate::names::Level;
+use crate::out::Out;
 use crate::printed::OneWord;
 use crate::registry::{cause_name, chunk_name, parameter_name};
 use dcsctp_borrowed::checksum::Checksum;
@@ -14,7 +15,7 @@ use std::fmt;
 /// one, and texts.
 #[derive(Drop)]
 pub struct BriefFields<'f, W> {
-    f: &'f mut fmt::Formatter<W>,
+    out: Out<'f, W>,
     /// What is written before the next word.
     before: &'static str,
     /// What is written before the next item or entry of a list.
@@ -33,7 +34,7 @@ impl<'f, W: fmt::Write> BriefFields<'f, W> {
     /// Returns what writes no blank before the first word.
     pub fn new(f: &'f mut fmt::Formatter<W>) -> BriefFields<'f, W> {
         BriefFields {
-            f,
+            out: Out::new(f),
             before: "",
             before_item: "",
             before_number: "",
@@ -43,80 +44,82 @@ impl<'f, W: fmt::Write> BriefFields<'f, W> {
         }
     }
 
+    /// Ends. Returns an error if the formatter failed.
+    pub fn end(&self) -> fmt::Result {
+        self.out.end()
+    }
+
     /// Begins a word.
-    fn begin_word(&mut self) -> fmt::Result {
-        self.f.write_str(self.before)?;
+    fn begin_word(&mut self) {
+        self.out.say(self.before);
         self.before = " ";
-        Ok(())
     }
 
     /// Begins an item or an entry of a list.
-    fn begin_item(&mut self) -> fmt::Result {
-        self.f.write_str(self.before_item)?;
+    fn begin_item(&mut self) {
+        self.out.say(self.before_item);
         self.before_item = ",";
-        Ok(())
     }
 
     /// Writes a chunk's name, or its type.
-    fn begin_chunk(&mut self, typ: u8) -> fmt::Result {
+    fn begin_chunk(&mut self, typ: u8) {
         if self.has_chunk {
-            self.f.write_str(" |")?;
+            self.out.say(" |");
         }
         self.has_chunk = true;
-        self.begin_word()?;
+        self.begin_word();
         match chunk_name(typ as u32) {
             Some(name) => self.put_name(name),
-            None => write!(self.f, "{typ:#04x}"),
+            None => write!(self.out, "{typ:#04x}"),
         }
     }
 
     /// Writes a name as one word.
-    fn put_name(&mut self, name: &'static str) -> fmt::Result {
+    fn put_name(&mut self, name: &'static str) {
         for character in name.chars() {
             let written = if character == ' ' { '_' } else { character };
-            self.f.write_char(written)?;
+            write!(self.out, "{written}");
         }
-        Ok(())
     }
 
     /// Begins a field.
-    fn begin_field(&mut self, key: &'static str) -> fmt::Result {
-        self.begin_word()?;
-        self.f.write_str(key)?;
-        self.f.write_str("=")
+    fn begin_field(&mut self, key: &'static str) {
+        self.begin_word();
+        self.out.say(key);
+        self.out.say("=")
     }
 
     /// Writes a size.
-    fn put_size(&mut self, size: usize) -> fmt::Result {
-        self.begin_field("size")?;
-        write!(self.f, "{size}")
+    fn put_size(&mut self, size: usize) {
+        self.begin_field("size");
+        write!(self.out, "{size}")
     }
 }
 
 impl<'f, W: fmt::Write> Fields for BriefFields<'f, W> {
-    fn header(&mut self, header: &CommonHeader, found: Checksum) -> fmt::Result {
+    fn header(&mut self, header: &CommonHeader, found: Checksum) {
         let (tag, found) = (header.verification_tag, found.name());
-        self.begin_word()?;
-        write!(self.f, "{tag:#010x} {found}")
+        self.begin_word();
+        write!(self.out, "{tag:#010x} {found}")
     }
 
-    fn no_header(&mut self, _captured: &[u8]) -> fmt::Result {
-        self.begin_word()?;
-        self.f.write_str("- unknown")
+    fn no_header(&mut self, _captured: &[u8]) {
+        self.begin_word();
+        self.out.say("- unknown")
     }
 
-    fn fault(&mut self, fault: &Fault<'_>) -> fmt::Result {
+    fn fault(&mut self, fault: &Fault<'_>) {
         let (kind, offset, reason) = (fault.kind.name(), fault.offset, Reason(*fault));
-        self.begin_word()?;
-        write!(self.f, "! {kind} at {offset}: {reason}")
+        self.begin_word();
+        write!(self.out, "! {kind} at {offset}: {reason}")
     }
 
-    fn cut_off(&mut self) -> fmt::Result {
-        self.begin_word()?;
-        self.f.write_str("! cut off")
+    fn cut_off(&mut self) {
+        self.begin_word();
+        self.out.say("! cut off")
     }
 
-    fn begin(&mut self, level: Level, item: &Item<'_>) -> fmt::Result {
+    fn begin(&mut self, level: Level, item: &Item<'_>) {
         if level == Level::Chunk {
             return self.begin_chunk(item.first);
         }
@@ -127,118 +130,116 @@ impl<'f, W: fmt::Write> Fields for BriefFields<'f, W> {
         };
         self.depth = self.depth.saturating_add(1);
         if self.depth > 1 {
-            return Ok(());
+            return;
         }
-        self.begin_item()?;
+        self.begin_item();
         match name {
             Some(name) => self.put_name(name),
-            None => write!(self.f, "{code:#06x}"),
+            None => write!(self.out, "{code:#06x}"),
         }
     }
 
-    fn end(&mut self, _level: Level) -> fmt::Result {
+    fn end(&mut self, _level: Level) {
         self.depth = self.depth.saturating_sub(1);
-        Ok(())
     }
 
-    fn begin_list(&mut self, key: &'static str, is_empty: bool) -> fmt::Result {
+    fn begin_list(&mut self, key: &'static str, is_empty: bool) {
         if is_empty || self.depth > 0 || !self.has_chunk {
-            return Ok(());
+            return;
         }
         self.before_item = "";
         self.begin_field(key)
     }
 
-    fn begin_entry(&mut self, _offset: usize, _size: usize) -> fmt::Result {
+    fn begin_entry(&mut self, _offset: usize, _size: usize) {
         if self.depth > 0 {
-            return Ok(());
+            return;
         }
         self.is_entry = true;
         self.before_number = "";
         self.begin_item()
     }
 
-    fn end_entry(&mut self) -> fmt::Result {
+    fn end_entry(&mut self) {
         self.is_entry = false;
-        Ok(())
     }
 
     /// Writes nothing of a number without words.
-    fn number(&mut self, number: &Number) -> fmt::Result {
+    fn number(&mut self, number: &Number) {
         if self.depth > 0 || number.words.is_empty() {
-            return Ok(());
+            return;
         }
         if self.is_entry {
-            self.f.write_str(self.before_number)?;
+            self.out.say(self.before_number);
             self.before_number = "/";
         } else {
-            self.begin_field(number.key)?;
+            self.begin_field(number.key);
         }
         let value = number.value;
         match number.form {
-            Form::Hexadecimal => write!(self.f, "{value:#010x}"),
-            _ => write!(self.f, "{value}"),
+            Form::Hexadecimal => write!(self.out, "{value:#010x}"),
+            _ => write!(self.out, "{value}"),
         }
     }
 
-    fn named(&mut self, number: &Number, name: Option<&'static str>) -> fmt::Result {
-        self.number(number)?;
+    fn named(&mut self, number: &Number, name: Option<&'static str>) {
+        self.number(number);
         match name {
             Some(name) if self.depth == 0 => {
-                self.f.write_str("/")?;
+                self.out.say("/");
                 self.put_name(name)
             }
-            _ => Ok(()),
+            _ => {}
         }
     }
 
-    fn flag(&mut self, flag: &Flag) -> fmt::Result {
+    fn flag(&mut self, flag: &Flag) {
         let word = if flag.is_set {
             flag.key
         } else {
             flag.otherwise
         };
         if self.depth > 0 || word.is_empty() {
-            return Ok(());
+            return;
         }
         if self.is_entry {
-            self.f.write_str("/")?;
+            self.out.say("/");
         } else {
-            self.begin_word()?;
+            self.begin_word();
         }
-        self.f.write_str(word)
+        self.out.say(word)
     }
 
-    fn block(&mut self, block: &Block) -> fmt::Result {
+    fn block(&mut self, block: &Block) {
         let (start, end) = (block.start, block.end);
-        self.begin_item()?;
+        self.begin_item();
         if start == end {
-            return write!(self.f, "{start}");
+            return write!(self.out, "{start}");
         }
-        write!(self.f, "{start}-{end}")
+        write!(self.out, "{start}-{end}")
     }
 
-    fn text(&mut self, text: &Text<'_>) -> fmt::Result {
+    fn text(&mut self, text: &Text<'_>) {
         let word = OneWord(text.bytes);
-        self.begin_field(text.key)?;
-        write!(self.f, "{word}")
+        self.begin_field(text.key);
+        write!(self.out, "{word}")
     }
 
-    fn text_value(&mut self, bytes: &[u8]) -> fmt::Result {
+    fn text_value(&mut self, bytes: &[u8]) {
         if self.depth > 1 {
-            return Ok(());
+            return;
         }
         let word = OneWord(bytes);
-        write!(self.f, ":{word}")
+        write!(self.out, ":{word}")
     }
 
-    fn payload(&mut self, payload: Part<'_>, _offset: usize, _is_text: bool) -> fmt::Result {
+    fn payload(&mut self, payload: Part<'_>, _offset: usize, _is_text: bool) {
         self.put_size(payload.size)
     }
 
-    fn value(&mut self, level: Level, item: &Item<'_>) -> fmt::Result {
+    fn value(&mut self, level: Level, item: &Item<'_>) {
         if level != Level::Chunk {
-            return Ok(());
+            return;
         }
         self.put_size(item.value.size)
     }

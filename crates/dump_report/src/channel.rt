@@ -4,7 +4,6 @@ use crate::fields::{Fields, Form, Number, Text};
 use crate::registry::channel_type_name;
 use dcsctp_borrowed::part::Item;
 use dcsctp_wire::packet::read_u16_be;
-use std::fmt;
 
 /// Bytes of DATA_CHANNEL_OPEN before the label.
 const OPEN_SIZE: usize = 12;
@@ -17,12 +16,7 @@ const ACK: u8 = 2;
 
 /// Hands over a message, which is the payload at an offset of a chunk, or that it isn't one of the
 /// protocol.
-pub fn walk_channel<F: Fields>(
-    offset: usize,
-    message: &[u8],
-    chunk: &Item<'_>,
-    fields: &mut F,
-) -> fmt::Result {
+pub fn walk_channel<F: Fields>(offset: usize, message: &[u8], chunk: &Item<'_>, fields: &mut F) {
     let typ = Number::read("\n  ", "message", chunk, offset, 1);
     match message {
         [ACK] => fields.word(&typ, "DATA_CHANNEL_ACK"),
@@ -32,8 +26,8 @@ pub fn walk_channel<F: Fields>(
             if message.len() != OPEN_SIZE + label_size + protocol_size {
                 return fields.no_message();
             }
-            fields.word(&typ, "DATA_CHANNEL_OPEN")?;
-            walk_open(offset, chunk, fields)?;
+            fields.word(&typ, "DATA_CHANNEL_OPEN");
+            walk_open(offset, chunk, fields);
             let texts = &message[OPEN_SIZE..];
             let (label, protocol) = texts.split_at(label_size);
             let label_offset = offset.saturating_add(OPEN_SIZE);
@@ -42,7 +36,7 @@ pub fn walk_channel<F: Fields>(
                 key: "label",
                 offset: label_offset,
                 bytes: label,
-            })?;
+            });
             fields.text(&Text {
                 words: ", protocol ",
                 key: "protocol",
@@ -55,18 +49,18 @@ pub fn walk_channel<F: Fields>(
 }
 
 /// Hands over the numbers of a DATA_CHANNEL_OPEN at an offset of a chunk.
-fn walk_open<F: Fields>(offset: usize, chunk: &Item<'_>, fields: &mut F) -> fmt::Result {
+fn walk_open<F: Fields>(offset: usize, chunk: &Item<'_>, fields: &mut F) {
     let typ_offset = offset.saturating_add(1);
     let typ = Number::read(": ", "channel_type", chunk, typ_offset, 1);
     match channel_type_name(typ.value) {
-        Some(name) => fields.word(&typ, name)?,
+        Some(name) => fields.word(&typ, name),
         None => {
             let words = ": channel type ";
-            fields.number(&Number::read(words, "channel_type", chunk, typ_offset, 1))?;
+            fields.number(&Number::read(words, "channel_type", chunk, typ_offset, 1));
         }
     }
     let priority_offset = offset.saturating_add(2);
-    fields.number(&Number::read(", priority ", "priority", chunk, priority_offset, 2))?;
+    fields.number(&Number::read(", priority ", "priority", chunk, priority_offset, 2));
     // Of a reliable channel it means nothing.
     let (words, form) = match typ.value {
         0x00 | 0x80 => ("", Form::Decimal),

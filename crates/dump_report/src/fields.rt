@@ -11,7 +11,6 @@ use dcsctp_borrowed::checksum::Checksum;
 use dcsctp_borrowed::part::{Item, Part};
 use dcsctp_wire::packet::sctp_packet::CommonHeader;
 use dcsctp_wire::packet::{read_u16_be, read_u32_be};
-use std::fmt;
 use std::net::IpAddr;
 
 /// The bytes of an item's header.
@@ -170,98 +169,76 @@ impl<'a> Bytes<'a> {
 /// not every form has.
 pub trait Fields {
     /// Takes the packet's header.
-    fn header(&mut self, header: &CommonHeader, found: Checksum) -> fmt::Result;
+    fn header(&mut self, header: &CommonHeader, found: Checksum);
 
     /// Takes that the packet has no header, as far as it was captured; and of one that was cut off
     /// in its header the bytes that were captured.
-    fn no_header(&mut self, _captured: &[u8]) -> fmt::Result {
-        Ok(())
-    }
+    fn no_header(&mut self, _captured: &[u8]) {}
 
     /// Takes the packet's fault.
-    fn fault(&mut self, fault: &Fault<'_>) -> fmt::Result;
+    fn fault(&mut self, fault: &Fault<'_>);
 
     /// Takes that the packet was cut off, and has no fault as far as it goes.
-    fn cut_off(&mut self) -> fmt::Result {
-        Ok(())
-    }
+    fn cut_off(&mut self) {}
 
     /// Begins an item: what comes up to its `end` is in it.
-    fn begin(&mut self, level: Level, item: &Item<'_>) -> fmt::Result;
+    fn begin(&mut self, level: Level, item: &Item<'_>);
 
     /// Ends an item.
-    fn end(&mut self, level: Level) -> fmt::Result;
+    fn end(&mut self, level: Level);
 
     /// Begins a list, of items or of entries.
-    fn begin_list(&mut self, _key: &'static str, _is_empty: bool) -> fmt::Result {
-        Ok(())
-    }
+    fn begin_list(&mut self, _key: &'static str, _is_empty: bool) {}
 
     /// Ends a list.
-    fn end_list(&mut self) -> fmt::Result {
-        Ok(())
-    }
+    fn end_list(&mut self) {}
 
     /// Begins a list's entry.
-    fn begin_entry(&mut self, _offset: usize, _size: usize) -> fmt::Result {
-        Ok(())
-    }
+    fn begin_entry(&mut self, _offset: usize, _size: usize) {}
 
     /// Ends a list's entry.
-    fn end_entry(&mut self) -> fmt::Result {
-        Ok(())
-    }
+    fn end_entry(&mut self) {}
 
     /// Takes a number.
-    fn number(&mut self, number: &Number) -> fmt::Result;
+    fn number(&mut self, number: &Number);
 
     /// Takes a number that has a meaning, and its name, if it has one.
-    fn named(&mut self, number: &Number, name: Option<&'static str>) -> fmt::Result;
+    fn named(&mut self, number: &Number, name: Option<&'static str>);
 
     /// Takes a number that a line of text has by its name alone.
-    fn word(&mut self, number: &Number, name: &'static str) -> fmt::Result {
+    fn word(&mut self, number: &Number, name: &'static str) {
         self.named(number, Some(name))
     }
 
     /// Takes an entry of a list of numbers that have a meaning, and its index.
-    fn named_entry(&mut self, _index: usize, _number: &Number, _by: NamedBy) -> fmt::Result {
-        Ok(())
-    }
+    fn named_entry(&mut self, _index: usize, _number: &Number, _by: NamedBy) {}
 
     /// Takes a bit.
-    fn flag(&mut self, flag: &Flag) -> fmt::Result;
+    fn flag(&mut self, flag: &Flag);
 
     /// Takes an entry of a list of gap ack blocks.
-    fn block(&mut self, block: &Block) -> fmt::Result;
+    fn block(&mut self, block: &Block);
 
     /// Takes an address, which is an item's value.
-    fn address(&mut self, _address: IpAddr, _size: usize) -> fmt::Result {
-        Ok(())
-    }
+    fn address(&mut self, _address: IpAddr, _size: usize) {}
 
     /// Takes a text in a payload.
-    fn text(&mut self, text: &Text<'_>) -> fmt::Result;
+    fn text(&mut self, text: &Text<'_>);
 
     /// Takes a text that is an item's value.
-    fn text_value(&mut self, _bytes: &[u8]) -> fmt::Result {
-        Ok(())
-    }
+    fn text_value(&mut self, _bytes: &[u8]) {}
 
     /// Takes that the payload before is no message of the protocol that its identifier names.
-    fn no_message(&mut self) -> fmt::Result {
-        Ok(())
-    }
+    fn no_message(&mut self) {}
 
     /// Takes bytes.
-    fn bytes(&mut self, _bytes: &Bytes<'_>) -> fmt::Result {
-        Ok(())
-    }
+    fn bytes(&mut self, _bytes: &Bytes<'_>) {}
 
     /// Takes the payload of a chunk; `is_text` if it is a whole message that is text.
-    fn payload(&mut self, payload: Part<'_>, offset: usize, is_text: bool) -> fmt::Result;
+    fn payload(&mut self, payload: Part<'_>, offset: usize, is_text: bool);
 
     /// Takes a value of which nothing but its bytes is known.
-    fn value(&mut self, level: Level, item: &Item<'_>) -> fmt::Result;
+    fn value(&mut self, level: Level, item: &Item<'_>);
 }
 
 /// Hands over a list of `count` numbers, of which the first is given.
@@ -271,13 +248,13 @@ pub fn walk_numbers<F: Fields>(
     first: Number,
     item: &Item<'_>,
     fields: &mut F,
-) -> fmt::Result {
-    fields.begin_list(key, count == 0)?;
+) {
+    fields.begin_list(key, count == 0);
     let mut number = first;
     for _ in 0..count {
-        fields.begin_entry(number.offset, number.size)?;
-        fields.number(&number)?;
-        fields.end_entry()?;
+        fields.begin_entry(number.offset, number.size);
+        fields.number(&number);
+        fields.end_entry();
         number = number.next(item);
     }
     fields.end_list()
@@ -291,11 +268,11 @@ pub fn walk_named<F: Fields>(
     by: NamedBy,
     item: &Item<'_>,
     fields: &mut F,
-) -> fmt::Result {
-    fields.begin_list(key, count == 0)?;
+) {
+    fields.begin_list(key, count == 0);
     let mut number = first;
     for i in 0..count {
-        fields.named_entry(i, &number, by)?;
+        fields.named_entry(i, &number, by);
         number = number.next(item);
     }
     fields.end_list()

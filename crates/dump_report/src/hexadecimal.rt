@@ -1,6 +1,6 @@
 //! Bytes in hexadecimal.
 
-ghost use Rattle.std.specs.Prelude.{◌≡◌, ◌<◌, ◌≤◌, ◌+◌, ◌/◌, ◌%◌, ◌∷◌, false, ℕ, List, All, IsUtf8, length, set};
+ghost use Rattle.std.specs.Prelude.{◌≡◌, Some, ◌<◌, ◌≤◌, ◌+◌, ◌/◌, ◌%◌, ◌∷◌, false, ℕ, List, All, IsUtf8, length, set};
 ghost use Rattle.std.specs.Fmt.{WritesOnOk, digit_glyph};
 ghost use Rattle.dump_report.specs.Hexadecimal.{IsPrintable, digits_of};
 
@@ -29,8 +29,20 @@ pub fn digit(value: u8) -> u8
     value + if value < 10 { b'0' } else { b'a' - 10 }
 }
 
+/// Two digits for each byte.
+#[derive(Clone, Copy)]
+pub struct Digits<'a>(pub &'a [u8]);
+
+impl<'a> fmt::Display for Digits<'a> {
+    ghost output = { λ d. Some (digits_of d.0.now) };
+
+    fn fmt<W: fmt::Write>(&self, f: &mut fmt::Formatter<W>) -> fmt::Result {
+        write_digits(self.0, f)
+    }
+}
+
 /// Writes two digits for each byte, in blocks.
-pub fn write_digits<W: fmt::Write>(bytes: &[u8], f: &mut fmt::Formatter<W>) -> fmt::Result
+pub(crate) fn write_digits<W: fmt::Write>(bytes: &[u8], f: &mut fmt::Formatter<W>) -> fmt::Result
     ensures { WritesOnOk W.write_str_gives f.old result (digits_of bytes.now) f.new }
 {
     let mut rest = bytes;

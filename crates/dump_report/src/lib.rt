@@ -20,6 +20,7 @@ pub mod json_text;
 pub mod laws;
 mod lists;
 pub mod names;
+mod out;
 mod packet;
 mod parameters;
 pub mod payload;

@@ -3,7 +3,6 @@
 use crate::fields::{Fields, HEADER_SIZE};
 use crate::names::Level;
 use dcsctp_borrowed::part::{Item, Part};
-use std::fmt;
 
 /// A list of items, as deep as they are opened: no function calls itself, so each depth has a type.
 pub trait Listed {
@@ -15,18 +14,18 @@ pub trait Listed {
 
     /// Hands over what an item means; returns false, and hands over nothing, where its value isn't
     /// known to mean anything but its bytes.
-    fn walk_meaning<F: Fields>(item: &Item<'_>, fields: &mut F) -> Result<bool, fmt::Error>;
+    fn walk_meaning<F: Fields>(item: &Item<'_>, fields: &mut F) -> bool;
 }
 
 /// Hands over each item of a list, as far as there are items.
-pub fn walk_list<L: Listed, F: Fields>(list: Part<'_>, fields: &mut F) -> fmt::Result {
-    fields.begin_list(L::KEY, list.item().is_none())?;
+pub fn walk_list<L: Listed, F: Fields>(list: Part<'_>, fields: &mut F) {
+    fields.begin_list(L::KEY, list.item().is_none());
     for item in list.items() {
-        fields.begin(L::LEVEL, &item)?;
-        if !item.value.is_whole() || !L::walk_meaning(&item, fields)? {
-            fields.value(L::LEVEL, &item)?;
+        fields.begin(L::LEVEL, &item);
+        if !item.value.is_whole() || !L::walk_meaning(&item, fields) {
+            fields.value(L::LEVEL, &item);
         }
-        fields.end(L::LEVEL)?;
+        fields.end(L::LEVEL);
     }
     fields.end_list()
 }

@@ -43,8 +43,9 @@ pub struct PacketReport<'a, 'f> {
 impl<'a, 'f> fmt::Display for PacketReport<'a, 'f> {
     fn fmt<W: fmt::Write>(&self, f: &mut fmt::Formatter<W>) -> fmt::Result {
         let packet = Part::packet(self.bytes, self.length.max(self.bytes.len()));
-        let fields = &mut TextFields::new(f, self.shows_all);
-        walk_packet(packet, self.word, self.fault, fields)
+        let mut fields = TextFields::new(f, self.shows_all);
+        walk_packet(packet, self.word, self.fault, &mut fields);
+        fields.end()
     }
 }
 
@@ -72,15 +73,16 @@ pub struct PacketJson<'a, 'f> {
 impl<'a, 'f> fmt::Display for PacketJson<'a, 'f> {
     fn fmt<W: fmt::Write>(&self, f: &mut fmt::Formatter<W>) -> fmt::Result {
         let packet = Part::packet(self.bytes, self.length.max(self.bytes.len()));
-        let fields = &mut JsonFields::new(f, self.places, packet.size);
-        fields.put("length", self.length)?;
+        let mut fields = JsonFields::new(f, self.places, packet.size);
+        fields.put("length", self.length);
         if !packet.is_whole() {
-            fields.put("captured", self.bytes.len())?;
+            fields.put("captured", self.bytes.len());
         }
         if self.places {
-            fields.put_bytes("bytes", self.bytes)?;
+            fields.put_bytes("bytes", self.bytes);
         }
-        walk_packet(packet, self.word, self.fault, fields)
+        walk_packet(packet, self.word, self.fault, &mut fields);
+        fields.end()
     }
 }
 
@@ -106,35 +108,32 @@ pub struct PacketBrief<'a, 'f> {
 impl<'a, 'f> fmt::Display for PacketBrief<'a, 'f> {
     fn fmt<W: fmt::Write>(&self, f: &mut fmt::Formatter<W>) -> fmt::Result {
         let packet = Part::packet(self.bytes, self.length.max(self.bytes.len()));
-        walk_packet(packet, self.word, self.fault, &mut BriefFields::new(f))
+        let mut fields = BriefFields::new(f);
+        walk_packet(packet, self.word, self.fault, &mut fields);
+        fields.end()
     }
 }
 
 /// Hands over a packet.
-fn walk_packet<F: Fields>(
-    packet: Part<'_>,
-    word: u32,
-    found: Option<&FirstFault>,
-    fields: &mut F,
-) -> fmt::Result {
+fn walk_packet<F: Fields>(packet: Part<'_>, word: u32, found: Option<&FirstFault>, fields: &mut F) {
     match CommonHeader::from_bytes(packet.bytes) {
         Some(header) => {
             let found = Checksum::of_packet(packet.bytes, packet.size, word);
-            fields.header(&header, found)?;
+            fields.header(&header, found);
         }
-        None if packet.is_whole() => fields.no_header(&[])?,
-        None => fields.no_header(packet.bytes)?,
+        None if packet.is_whole() => fields.no_header(&[]),
+        None => fields.no_header(packet.bytes),
     }
     match found {
         Some(found) => {
             let before = packet.front(found.offset);
-            walk_chunks(before.after(COMMON_HEADER_SIZE), fields)?;
+            walk_chunks(before.after(COMMON_HEADER_SIZE), fields);
             fields.fault(&Fault::of(packet.bytes, found))
         }
         None => {
-            walk_chunks(packet.after(COMMON_HEADER_SIZE), fields)?;
+            walk_chunks(packet.after(COMMON_HEADER_SIZE), fields);
             if packet.is_whole() {
-                return Ok(());
+                return;
             }
             match Fault::of_cut(packet) {
                 Some(fault) => fields.fault(&fault),
@@ -179,7 +178,8 @@ impl<'c, 'a> fmt::Display for ChunkReport<'c, 'a> {
             value: Part::packet(bytes, bytes.len()),
             padded: 0,
         };
-        let fields = &mut TextFields::new(f, self.shows_all);
-        walk_chunk(&chunk, fields)
+        let mut fields = TextFields::new(f, self.shows_all);
+        walk_chunk(&chunk, &mut fields);
+        fields.end()
     }
 }

@@ -28,7 +28,7 @@ use dump_analysis::rule::{BrokenRules, Known, RULES};
 use dump_analysis::warnings::Warnings;
 use dump_analysis::{
     Association, Authentication, AuthenticationCounts, EndedMessage, Membership, Noted,
-    ResentBrief, SeenPacket,
+    ResentBrief, SeenPacket, Text,
 };
 use dump_capture::event::{Part, Seen, Sink, Skipped, Time};
 use dump_capture::frame::{FoundPacket, NoPacket, packet_in};
@@ -110,11 +110,11 @@ impl<'h, W: Write> EventPrinter<'h, W> {
         ensures warnings { self.new.warnings ≡ self.old.warnings }
     {
         self.files.begin(name, is_named)?;
+        let mut out = Text::new(&mut self.output.text);
         if is_named {
-            push_file(&self.options, name, &mut self.output.text)
-        } else {
-            Ok(())
+            push_file(&self.options, name, &mut out);
         }
+        out.end()
     }
 
     /// Returns whether a packet that wasn't refused breaks a rule that was looked at.
@@ -132,23 +132,21 @@ impl<'h, W: Write> EventPrinter<'h, W> {
         let (messages, left_out) = self.tracker.finish_messages()?;
         self.print_messages(messages.as_slice())?;
         let style = self.clock.style();
-        let text = &mut self.output.text;
-        for channels in &self.tracker.finish_channels()? {
-            push_channels(&self.options, style, &self.files, channels, text)?;
+        let channels = self.tracker.finish_channels()?;
+        let mut out = Text::new(&mut self.output.text);
+        for channels in &channels {
+            push_channels(&self.options, style, &self.files, channels, &mut out);
         }
-        push_left_out(&self.options, left_out, text)?;
-        match self.tracker.take() {
-            Some(associations) => {
-                push_associations(
-                    &self.options,
-                    self.clock.style(),
-                    &self.files,
-                    associations,
-                    &mut self.tracker,
-                    text,
-                )?
-            }
-            None => {}
+        push_left_out(&self.options, left_out, &mut out);
+        if let Some(associations) = self.tracker.take() {
+            push_associations(
+                &self.options,
+                style,
+                &self.files,
+                associations,
+                &mut self.tracker,
+                &mut out,
+            );
         }
         push_counts(
             &self.options,
@@ -156,8 +154,9 @@ impl<'h, W: Write> EventPrinter<'h, W> {
             reassembled,
             &self.warnings,
             &self.authentication,
-            text,
-        )?;
+            &mut out,
+        );
+        out.end()?;
         if self.options.output == OutputForm::Pcapng {
             self.blocks.begin()?;
         }
@@ -236,7 +235,9 @@ impl<'h, W: Write> EventPrinter<'h, W> {
                 files: self.files.named(),
             },
         };
-        push_packet(&self.options, shown, &mut self.output.text)?;
+        let mut out = Text::new(&mut self.output.text);
+        push_packet(&self.options, shown, &mut out);
+        out.end()?;
         self.print_messages(ended.as_slice())
     }
 
@@ -250,24 +251,21 @@ impl<'h, W: Write> EventPrinter<'h, W> {
         let Some(association) = left else {
             return Ok(());
         };
+        let style = self.clock.style();
+        let mut out = Text::new(&mut self.output.text);
         if let Some(channels) = self.tracker.take_channels(association.number) {
-            push_channels(
-                &self.options,
-                self.clock.style(),
-                &self.files,
-                &channels,
-                &mut self.output.text,
-            )?;
+            push_channels(&self.options, style, &self.files, &channels, &mut out);
         }
         let paths = self.tracker.take_paths(association.number);
         push_association(
             &self.options,
-            self.clock.style(),
+            style,
             &self.files,
             &association,
             paths.as_ref(),
-            &mut self.output.text,
-        )
+            &mut out,
+        );
+        out.end()
     }
 
     /// Returns what is found of a packet's AUTH, if a key is given, and counts it.
@@ -347,13 +345,15 @@ impl<'h, W: Write> EventPrinter<'h, W> {
         ensures failure { self.new.failure ≡ self.old.failure }
         ensures warnings { self.new.warnings ≡ self.old.warnings }
     {
+        let mut out = Text::new(&mut self.output.text);
         push_messages(
             &self.options,
             self.clock.style(),
             &self.files,
             messages,
-            &mut self.output.text,
-        )?;
+            &mut out,
+        );
+        out.end()?;
         let Some(files) = &mut self.message_files else {
             return Ok(());
         };
@@ -384,7 +384,9 @@ impl<'h, W: Write> EventPrinter<'h, W> {
                     number,
                     reason,
                 };
-                push_skipped(&self.options, line, &mut self.output.text)?;
+                let mut out = Text::new(&mut self.output.text);
+                push_skipped(&self.options, line, &mut out);
+                out.end()?;
             }
             _ => {}
         }

@@ -3,6 +3,7 @@
 use crate::tunnel_text::{TunnelLines, TunnelsJson};
 use crate::when::{When, WhenJson};
 use dcsctp_wire::packet::sctp_packet::CommonHeader;
+use dump_analysis::Text;
 use dump_capture::event::Part;
 use dump_capture::frame::{Addresses, FoundPacket, UdpPorts};
 use dump_capture::line::Direction;
@@ -42,32 +43,33 @@ pub struct SeenLines<'t, 'f, 'a> {
     pub frame: SeenFrame<'a>,
 }
 
-impl<'t, 'f, 'a> fmt::Display for SeenLines<'t, 'f, 'a> {
-    fn fmt<W: fmt::Write>(&self, f: &mut fmt::Formatter<W>) -> fmt::Result {
+impl<'t, 'f, 'a> SeenLines<'t, 'f, 'a> {
+    /// Writes it.
+    pub fn write(&self, out: &mut Text<'_>) {
         let (number, when) = (self.number, self.when);
-        write!(f, "packet {number}")?;
+        write!(out, "packet {number}");
         if when.is_known() {
-            write!(f, ", time {when}")?;
+            write!(out, ", time {when}");
         }
         if let Some(direction) = when.direction() {
             let word = direction_word(direction);
-            write!(f, ", {word}")?;
+            write!(out, ", {word}");
         }
         if !when.transport().is_empty() {
             let transport = OneWord(when.transport());
-            write!(f, ", {transport}")?;
+            write!(out, ", {transport}");
         }
         let (captured, length) = (self.found.packet.len(), self.found.length);
         if captured < length {
-            write!(f, ", {captured} of {length} bytes")?;
+            write!(out, ", {captured} of {length} bytes");
         }
         if let Part::Fragments(count) = self.part {
-            write!(f, ", of {count} IP fragments")?;
+            write!(out, ", of {count} IP fragments");
         }
-        f.write_str("\n")?;
+        out.say("\n");
         if let Some(addresses) = self.found.addresses {
             let (source, destination) = hosts_of(addresses);
-            writeln!(f, "from {source} to {destination}")?;
+            writeln!(out, "from {source} to {destination}");
         }
         if let Some(
             UdpPorts {
@@ -76,10 +78,9 @@ impl<'t, 'f, 'a> fmt::Display for SeenLines<'t, 'f, 'a> {
             },
         ) = self.found.udp_ports
         {
-            writeln!(f, "udp source {source}, destination {destination}")?;
+            writeln!(out, "udp source {source}, destination {destination}");
         }
-        let tunnels = TunnelLines(self.frame);
-        write!(f, "{tunnels}")
+        TunnelLines(self.frame).write(out)
     }
 }
 
@@ -88,15 +89,16 @@ impl<'t, 'f, 'a> fmt::Display for SeenLines<'t, 'f, 'a> {
 #[derive(Clone, Copy)]
 pub struct SeenBrief<'t, 'f, 'a>(pub SeenLines<'t, 'f, 'a>);
 
-impl<'t, 'f, 'a> fmt::Display for SeenBrief<'t, 'f, 'a> {
-    fn fmt<W: fmt::Write>(&self, f: &mut fmt::Formatter<W>) -> fmt::Result {
+impl<'t, 'f, 'a> SeenBrief<'t, 'f, 'a> {
+    /// Writes it.
+    pub fn write(&self, out: &mut Text<'_>) {
         let seen = self.0;
         let (number, when) = (seen.number, seen.when);
-        write!(f, "{number} ")?;
+        write!(out, "{number} ");
         if when.is_known() {
-            write!(f, "{when}")?;
+            write!(out, "{when}");
         } else {
-            f.write_str("-")?;
+            out.say("-");
         }
         let header = CommonHeader::from_bytes(seen.found.packet);
         let (source, destination) = ends_of(seen.found.addresses, when.direction());
@@ -105,42 +107,24 @@ impl<'t, 'f, 'a> fmt::Display for SeenBrief<'t, 'f, 'a> {
             None => (None, None),
         };
         let transport = OneWord(when.transport());
-        f.write_str(" ")?;
-        write_end(source, transport, from, f)?;
-        f.write_str(" > ")?;
-        write_end(destination, transport, to, f)
-    }
-}
-
-/// How many IP fragments a packet was put together of, if it was, at the end of its line.
-#[derive(Clone, Copy)]
-pub struct FragmentsBrief(pub Part);
-
-impl fmt::Display for FragmentsBrief {
-    fn fmt<W: fmt::Write>(&self, f: &mut fmt::Formatter<W>) -> fmt::Result {
-        match self.0 {
-            Part::Fragments(count) => write!(f, " # fragments={count}"),
-            Part::Record | Part::Line => Ok(()),
-        }
+        out.say(" ");
+        write_end(source, transport, from, out);
+        out.say(" > ");
+        write_end(destination, transport, to, out)
     }
 }
 
 /// Writes an end with its port (RFC 3986 section 3.2.2: an IPv6 address in brackets), and of the
 /// end that wrote a log the name of its transport.
-fn write_end<W: fmt::Write>(
-    end: End,
-    transport: OneWord<'_>,
-    port: Option<u16>,
-    f: &mut fmt::Formatter<W>,
-) -> fmt::Result {
+fn write_end(end: End, transport: OneWord<'_>, port: Option<u16>, out: &mut Text<'_>) {
     match end {
-        End::V6(address) => write!(f, "[{address}]")?,
-        End::Local if !transport.0.is_empty() => write!(f, "local({transport})")?,
-        _ => write!(f, "{end}")?,
+        End::V6(address) => write!(out, "[{address}]"),
+        End::Local if !transport.0.is_empty() => write!(out, "local({transport})"),
+        _ => write!(out, "{end}"),
     }
     match port {
-        Some(port) => write!(f, ":{port}"),
-        None => f.write_str(":-"),
+        Some(port) => write!(out, ":{port}"),
+        None => out.say(":-"),
     }
 }
 
@@ -148,30 +132,29 @@ fn write_end<W: fmt::Write>(
 #[derive(Clone, Copy)]
 pub struct SeenJson<'t, 'f, 'a>(pub SeenLines<'t, 'f, 'a>);
 
-impl<'t, 'f, 'a> fmt::Display for SeenJson<'t, 'f, 'a> {
-    fn fmt<W: fmt::Write>(&self, f: &mut fmt::Formatter<W>) -> fmt::Result {
+impl<'t, 'f, 'a> SeenJson<'t, 'f, 'a> {
+    /// Writes it.
+    pub fn write(&self, out: &mut Text<'_>) {
         let seen = self.0;
         let (number, when) = (seen.number, seen.when);
-        write!(f, "\"packet\":{number}")?;
+        write!(out, "\"packet\":{number}");
         if let Some(file) = seen.file {
-            let name = JsonText(file);
-            write!(f, ",\"file\":{name}")?;
+            out.pair("file", JsonText(file));
         }
         let time = WhenJson(when);
-        write!(f, "{time}")?;
+        write!(out, "{time}");
         if let Some(direction) = when.direction() {
-            let word = direction_word(direction);
-            write!(f, ",\"direction\":\"{word}\"")?;
+            out.word("direction", direction_word(direction));
         }
         if let Ok(transport) = str::from_utf8(when.transport())
             && !transport.is_empty()
         {
-            let name = JsonText(transport);
-            write!(f, ",\"transport\":{name}")?;
+            out.pair("transport", JsonText(transport));
         }
         if let Some(addresses) = seen.found.addresses {
             let (source, destination) = hosts_of(addresses);
-            write!(f, ",\"from\":\"{source}\",\"to\":\"{destination}\"")?;
+            out.word("from", source);
+            out.word("to", destination);
         }
         if let Some(
             UdpPorts {
@@ -180,16 +163,13 @@ impl<'t, 'f, 'a> fmt::Display for SeenJson<'t, 'f, 'a> {
             },
         ) = seen.found.udp_ports
         {
-            write!(
-                f,
-                ",\"udp_source\":{source},\"udp_destination\":{destination}"
-            )?;
+            out.pair("udp_source", source);
+            out.pair("udp_destination", destination);
         }
         if let Part::Fragments(count) = seen.part {
-            write!(f, ",\"fragments\":{count}")?;
+            out.pair("fragments", count);
         }
-        let tunnels = TunnelsJson(seen.frame);
-        write!(f, "{tunnels}")
+        TunnelsJson(seen.frame).write(out)
     }
 }
 

@@ -3,7 +3,7 @@
 use crate::counts::Counts;
 use crate::files::Files;
 use crate::options::{Options, OutputForm};
-use crate::seen::{FragmentsBrief, SeenBrief, SeenJson, SeenLines};
+use crate::seen::{SeenBrief, SeenJson, SeenLines};
 use crate::skipped::{SkippedJson, SkippedLine};
 use crate::summary::{Summary, SummaryJson, Unkept, UnkeptJson};
 use crate::tracker::Tracker;
@@ -14,11 +14,11 @@ use dump_analysis::{
     Association, AssociationJson, AssociationReport, Associations, Authentication,
     AuthenticationBrief, AuthenticationCounts, AuthenticationJson, AuthenticationLines,
     ChannelJson, ChannelReport, Channels, EndedMessage, Membership, MembershipJson, MessageJson,
-    MessageReport, Paths, ResentBrief, TimeStyle,
+    MessageReport, Paths, ResentBrief, Text, TimeStyle,
 };
+use dump_capture::event::Part;
 use dump_report::json_text::JsonText;
 use dump_report::{PacketBrief, PacketJson, PacketReport};
-use std::alloc::AllocError;
 
 /// A packet, and what was found of it.
 #[derive(Clone, Copy)]
@@ -40,27 +40,23 @@ pub struct Shown<'t, 'f, 'a> {
 }
 
 /// Adds the name of an input.
-pub fn push_file(options: &Options, name: &str, text: &mut String) -> Result<(), AllocError> {
+pub fn push_file(options: &Options, name: &str, out: &mut Text<'_>) {
     if options.summary {
-        return Ok(());
+        return;
     }
     match options.output {
-        OutputForm::Blocks => writeln!(text, "file {name}\n"),
-        OutputForm::Brief => writeln!(text, "file {name}"),
+        OutputForm::Blocks => writeln!(out, "file {name}\n"),
+        OutputForm::Brief => writeln!(out, "file {name}"),
         OutputForm::Json => {
             let name = JsonText(name);
-            writeln!(text, "{{\"file\":{name}}}")
+            writeln!(out, "{{\"file\":{name}}}")
         }
-        OutputForm::Pcapng => Ok(()),
+        OutputForm::Pcapng => {}
     }
 }
 
 /// Adds a packet.
-pub fn push_packet(
-    options: &Options,
-    shown: Shown<'_, '_, '_>,
-    text: &mut String,
-) -> Result<(), AllocError> {
+pub fn push_packet(options: &Options, shown: Shown<'_, '_, '_>, out: &mut Text<'_>) {
     let (bytes, length) = (shown.seen.found.packet, shown.seen.found.length);
     let (seen, word, fault, broken) = (shown.seen, shown.word, shown.fault, shown.broken);
     let found = shown.authentication;
@@ -74,7 +70,8 @@ pub fn push_packet(
                 shows_all: options.payload,
             };
             let (found, warnings) = (AuthenticationLines(found), WarningLines(broken));
-            writeln!(text, "{seen}{report}{found}{warnings}")
+            seen.write(out);
+            writeln!(out, "{report}{found}{warnings}")
         }
         OutputForm::Brief => {
             let report = PacketBrief {
@@ -83,10 +80,14 @@ pub fn push_packet(
                 word,
                 fault,
             };
-            let (fragments, seen) = (FragmentsBrief(seen.part), SeenBrief(seen));
+            SeenBrief(seen).write(out);
+            write!(out, " {report}");
+            if let Part::Fragments(count) = seen.part {
+                write!(out, " # fragments={count}");
+            }
             let (resent, found) = (shown.resent, AuthenticationBrief(found));
             let warnings = WarningsBrief(broken);
-            writeln!(text, "{seen} {report}{fragments}{resent}{found}{warnings}")
+            writeln!(out, "{resent}{found}{warnings}")
         }
         OutputForm::Json => {
             let report = PacketJson {
@@ -96,33 +97,30 @@ pub fn push_packet(
                 fault,
                 places: options.places,
             };
-            let (seen, warnings) = (SeenJson(seen), WarningsJson(broken));
-            let found = AuthenticationJson(found);
+            out.say("{");
+            SeenJson(seen).write(out);
             let member = MembershipJson(if options.associations {
                 shown.member
             } else {
                 None
             });
-            writeln!(text, "{{{seen}{member},{report}{found}{warnings}}}")
+            let (found, warnings) = (AuthenticationJson(found), WarningsJson(broken));
+            writeln!(out, "{member},{report}{found}{warnings}}}")
         }
-        OutputForm::Pcapng => Ok(()),
+        OutputForm::Pcapng => {}
     }
 }
 
 /// Adds a record or a line without a packet.
-pub fn push_skipped(
-    options: &Options,
-    line: SkippedLine,
-    text: &mut String,
-) -> Result<(), AllocError> {
+pub fn push_skipped(options: &Options, line: SkippedLine, out: &mut Text<'_>) {
     match options.output {
-        OutputForm::Blocks => writeln!(text, "{line}"),
-        OutputForm::Brief => write!(text, "{line}"),
+        OutputForm::Blocks => writeln!(out, "{line}"),
+        OutputForm::Brief => write!(out, "{line}"),
         OutputForm::Json => {
             let object = SkippedJson(line);
-            write!(text, "{object}")
+            write!(out, "{object}")
         }
-        OutputForm::Pcapng => Ok(()),
+        OutputForm::Pcapng => {}
     }
 }
 
@@ -134,24 +132,23 @@ pub fn push_associations(
     files: &Files,
     associations: Associations,
     tracker: &mut Tracker,
-    text: &mut String,
-) -> Result<(), AllocError> {
+    out: &mut Text<'_>,
+) {
     let unkept = Unkept {
         left: associations.left(),
         unknown: associations.unknown(),
     };
     for association in associations.into_vec() {
         let paths = tracker.take_paths(association.number);
-        push_association(options, style, files, &association, paths.as_ref(), text)?;
+        push_association(options, style, files, &association, paths.as_ref(), out);
     }
     if !options.associations || !unkept.is_some() {
-        return Ok(());
+        return;
     }
     if options.output == OutputForm::Json {
-        let object = UnkeptJson(unkept);
-        write!(text, "{object}")
+        UnkeptJson(unkept).write(out)
     } else {
-        write!(text, "{unkept}")
+        unkept.write(out)
     }
 }
 
@@ -162,10 +159,10 @@ pub fn push_association(
     files: &Files,
     association: &Association,
     paths: Option<&Paths>,
-    text: &mut String,
-) -> Result<(), AllocError> {
+    out: &mut Text<'_>,
+) {
     if !options.associations || !association.passes {
-        return Ok(());
+        return;
     }
     let files = files.named();
     if options.output == OutputForm::Json {
@@ -175,15 +172,17 @@ pub fn push_association(
             style,
             files,
         };
-        return writeln!(text, "{object}");
+        object.write(out);
+    } else {
+        let report = AssociationReport {
+            association,
+            paths,
+            style,
+            files,
+        };
+        report.write(out);
     }
-    let report = AssociationReport {
-        association,
-        paths,
-        style,
-        files,
-    };
-    writeln!(text, "{report}")
+    out.say("\n")
 }
 
 /// Adds the channels of an association of which a packet passed, and those that found no room as
@@ -193,8 +192,8 @@ pub fn push_channels<'a>(
     style: TimeStyle,
     files: &'a Files,
     channels: &'a Channels,
-    text: &mut String,
-) -> Result<(), AllocError> {
+    out: &mut Text<'_>,
+) {
     let mut report = ChannelReport {
         association: channels.association,
         channel: None,
@@ -206,29 +205,24 @@ pub fn push_channels<'a>(
         if channel.passes {
             report.channel = Some(channel);
             report.tally = &channel.tally;
-            push_channel(options, report, text)?;
+            push_channel(options, report, out);
         }
     }
     if channels.others_pass {
         report.channel = None;
         report.tally = &channels.others;
-        push_channel(options, report, text)?;
+        push_channel(options, report, out);
     }
-    Ok(())
 }
 
 /// Adds a channel.
-fn push_channel(
-    options: &Options,
-    report: ChannelReport<'_>,
-    text: &mut String,
-) -> Result<(), AllocError> {
+fn push_channel(options: &Options, report: ChannelReport<'_>, out: &mut Text<'_>) {
     if options.output == OutputForm::Json {
-        let object = ChannelJson(report);
-        writeln!(text, "{object}")
+        ChannelJson(report).write(out);
     } else {
-        writeln!(text, "{report}")
+        report.write(out);
     }
+    out.say("\n")
 }
 
 /// Adds the messages of which a packet passed, if they are asked for.
@@ -237,8 +231,8 @@ pub fn push_messages(
     style: TimeStyle,
     files: &Files,
     messages: &[EndedMessage],
-    text: &mut String,
-) -> Result<(), AllocError> {
+    out: &mut Text<'_>,
+) {
     let files = files.named();
     for ended in messages {
         if options.messages && ended.message.passes {
@@ -255,29 +249,28 @@ pub fn push_messages(
                 files,
             };
             if options.output == OutputForm::Json {
-                let object = MessageJson(report);
-                writeln!(text, "{object}")?;
+                MessageJson(report).write(out);
             } else {
-                writeln!(text, "{report}")?;
+                report.write(out);
             }
+            out.say("\n");
         }
     }
-    Ok(())
 }
 
 /// Adds how many DATA weren't followed, if some weren't.
-pub fn push_left_out(options: &Options, count: u64, text: &mut String) -> Result<(), AllocError> {
+pub fn push_left_out(options: &Options, count: u64, out: &mut Text<'_>) {
     if count == 0 {
-        return Ok(());
+        return;
     }
     if options.output == OutputForm::Json {
-        return writeln!(text, "{{\"data_not_followed\":{count}}}");
+        return writeln!(out, "{{\"data_not_followed\":{count}}}");
     }
     write!(
-        text,
+        out,
         "messages: DATA not followed {count}, for which there was no room"
-    )?;
-    writeln!(text, ", or whose header isn't whole")
+    );
+    writeln!(out, ", or whose header isn't whole")
 }
 
 /// Adds the counts.
@@ -287,10 +280,10 @@ pub fn push_counts(
     reassembled: u64,
     warnings: &Warnings,
     authentication: &AuthenticationCounts,
-    text: &mut String,
-) -> Result<(), AllocError> {
+    out: &mut Text<'_>,
+) {
     if options.output == OutputForm::Pcapng {
-        return Ok(());
+        return;
     }
     let authentication = match options.auth_key {
         Some(_) => Some(*authentication),
@@ -308,11 +301,11 @@ pub fn push_counts(
             warnings,
             authentication,
         };
-        return write!(text, "{summary}");
+        return summary.write(out);
     }
     if options.check {
         let lines = WarningCounts(*warnings);
-        write!(text, "{lines}")?;
+        write!(out, "{lines}");
     }
     let summary = Summary {
         counts,
@@ -320,5 +313,5 @@ pub fn push_counts(
         is_long: options.summary,
         authentication,
     };
-    write!(text, "{summary}")
+    summary.write(out)
 }

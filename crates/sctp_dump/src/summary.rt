@@ -1,9 +1,8 @@
 //! What was counted, as text: the last line, and what is before it where counts alone are printed.
 
 use crate::counts::Counts;
-use dump_analysis::{AuthenticationCounts, AuthenticationCountsJson};
+use dump_analysis::{AuthenticationCounts, AuthenticationCountsJson, Text};
 use dump_report::names::ChunkName;
-use std::fmt;
 
 /// Counts, as lines.
 #[derive(Clone, Copy)]
@@ -18,59 +17,60 @@ pub struct Summary<'a> {
     pub authentication: Option<AuthenticationCounts>,
 }
 
-impl<'a> fmt::Display for Summary<'a> {
-    fn fmt<W: fmt::Write>(&self, f: &mut fmt::Formatter<W>) -> fmt::Result {
+impl<'a> Summary<'a> {
+    /// Writes it.
+    pub fn write(&self, out: &mut Text<'_>) {
         let counts = self.counts;
         if self.is_long {
             for (typ, count) in counts.kinds.iter().enumerate() {
                 if *count > 0 {
                     let name = ChunkName(typ as u8);
-                    writeln!(f, "{name}: {count}")?;
+                    writeln!(out, "{name}: {count}");
                 }
             }
             let (zero, wrong) = (counts.zero, counts.wrong);
-            writeln!(f, "checksums: zero {zero}, wrong {wrong}")?;
+            writeln!(out, "checksums: zero {zero}, wrong {wrong}");
             if let Some(authentication) = self.authentication {
-                writeln!(f, "{authentication}")?;
+                writeln!(out, "{authentication}");
             }
         }
-        write_packets(counts, f)?;
+        write_packets(counts, out);
         if self.reassembled > 0 {
             let reassembled = self.reassembled;
-            write!(f, ", of fragments {reassembled}")?;
+            write!(out, ", of fragments {reassembled}");
         }
-        write_skipped(counts, f)
+        write_skipped(counts, out)
     }
 }
 
 /// Writes how many packets there were, and what was found of them.
-fn write_packets<W: fmt::Write>(counts: &Counts, f: &mut fmt::Formatter<W>) -> fmt::Result {
+fn write_packets(counts: &Counts, out: &mut Text<'_>) {
     let (packets, accepted, refused) = (counts.packets(), counts.accepted, counts.refused());
     let (size, length) = (counts.size, counts.length);
     let (padding, value) = (counts.padding, counts.value);
     write!(
-        f,
+        out,
         "packets {packets}: accepted {accepted}, refused {refused}"
-    )?;
+    );
     write!(
-        f,
+        out,
         " (size {size}, length {length}, padding {padding}, value {value})"
-    )?;
+    );
     let partial = counts.partial;
-    write!(f, ", cut off {partial}")
+    write!(out, ", cut off {partial}")
 }
 
 /// Writes how many records and lines had no packet, and why.
-fn write_skipped<W: fmt::Write>(counts: &Counts, f: &mut fmt::Formatter<W>) -> fmt::Result {
+fn write_skipped(counts: &Counts, out: &mut Text<'_>) {
     let (skipped, others, fragments) = (counts.skipped(), counts.others, counts.fragments);
     let (cut, malformed, long) = (counts.cut, counts.malformed, counts.long);
     let (unknown, links) = (counts.unknown, counts.links);
     write!(
-        f,
+        out,
         "; skipped {skipped} (not SCTP {others}, fragment {fragments}, cut {cut}"
-    )?;
+    );
     writeln!(
-        f,
+        out,
         ", malformed {malformed}, too long {long}, unknown {unknown}, link type {links})"
     )
 }
@@ -89,19 +89,18 @@ impl Unkept {
     pub fn is_some(self) -> bool {
         self.left > 0 || self.unknown > 0
     }
-}
 
-impl fmt::Display for Unkept {
-    fn fmt<W: fmt::Write>(&self, f: &mut fmt::Formatter<W>) -> fmt::Result {
+    /// Writes it.
+    pub fn write(&self, out: &mut Text<'_>) {
         let (left, unknown) = (self.left, self.unknown);
-        f.write_str("associations:")?;
+        out.say("associations:");
         if left > 0 {
             write!(
-                f,
+                out,
                 " {left} left the table, and what is said of them is a part (--keep keeps more);"
-            )?;
+            );
         }
-        writeln!(f, " packets of none {unknown}")
+        writeln!(out, " packets of none {unknown}")
     }
 }
 
@@ -109,10 +108,14 @@ impl fmt::Display for Unkept {
 #[derive(Clone, Copy)]
 pub struct UnkeptJson(pub Unkept);
 
-impl fmt::Display for UnkeptJson {
-    fn fmt<W: fmt::Write>(&self, f: &mut fmt::Formatter<W>) -> fmt::Result {
+impl UnkeptJson {
+    /// Writes it.
+    pub fn write(&self, out: &mut Text<'_>) {
         let (left, unknown) = (self.0.left, self.0.unknown);
-        writeln!(f, "{{\"left_table\":{left},\"packets_of_none\":{unknown}}}")
+        writeln!(
+            out,
+            "{{\"left_table\":{left},\"packets_of_none\":{unknown}}}"
+        )
     }
 }
 
@@ -129,66 +132,59 @@ pub struct SummaryJson<'a> {
     pub authentication: Option<AuthenticationCounts>,
 }
 
-impl<'a> fmt::Display for SummaryJson<'a> {
-    fn fmt<W: fmt::Write>(&self, f: &mut fmt::Formatter<W>) -> fmt::Result {
+impl<'a> SummaryJson<'a> {
+    /// Writes it.
+    pub fn write(&self, out: &mut Text<'_>) {
         let counts = self.counts;
-        f.write_str("{")?;
-        write_number("\"packets\":", counts.packets(), f)?;
-        write_number(",\"accepted\":", counts.accepted, f)?;
-        write_number(",\"refused\":", counts.refused(), f)?;
-        write_number(",\"size\":", counts.size, f)?;
-        write_number(",\"length\":", counts.length, f)?;
-        write_number(",\"padding\":", counts.padding, f)?;
-        write_number(",\"value\":", counts.value, f)?;
-        write_number(",\"cut_off\":", counts.partial, f)?;
+        let packets = counts.packets();
+        write!(out, "{{\"packets\":{packets}");
+        out.pair("accepted", counts.accepted);
+        out.pair("refused", counts.refused());
+        out.pair("size", counts.size);
+        out.pair("length", counts.length);
+        out.pair("padding", counts.padding);
+        out.pair("value", counts.value);
+        out.pair("cut_off", counts.partial);
         if self.reassembled > 0 {
-            write_number(",\"reassembled\":", self.reassembled, f)?;
+            out.pair("reassembled", self.reassembled);
         }
-        write_number(",\"zero_checksums\":", counts.zero, f)?;
-        write_number(",\"wrong_checksums\":", counts.wrong, f)?;
+        out.pair("zero_checksums", counts.zero);
+        out.pair("wrong_checksums", counts.wrong);
         if let Some(authentication) = self.authentication {
             let keys = AuthenticationCountsJson(authentication);
-            write!(f, "{keys}")?;
+            write!(out, "{keys}");
         }
-        write_kinds(counts, f)?;
-        write_number(",\"skipped\":", counts.skipped(), f)?;
-        write_number(",\"not_sctp\":", counts.others, f)?;
-        write_number(",\"fragment\":", counts.fragments, f)?;
-        write_number(",\"cut\":", counts.cut, f)?;
-        write_number(",\"malformed\":", counts.malformed, f)?;
-        write_number(",\"too_long\":", counts.long, f)?;
-        write_number(",\"unknown\":", counts.unknown, f)?;
-        write_number(",\"link_type\":", counts.links, f)?;
+        write_kinds(counts, out);
+        out.pair("skipped", counts.skipped());
+        out.pair("not_sctp", counts.others);
+        out.pair("fragment", counts.fragments);
+        out.pair("cut", counts.cut);
+        out.pair("malformed", counts.malformed);
+        out.pair("too_long", counts.long);
+        out.pair("unknown", counts.unknown);
+        out.pair("link_type", counts.links);
         if let Some(warnings) = self.warnings {
-            write_number(",\"warnings\":", warnings, f)?;
+            out.pair("warnings", warnings);
         }
-        f.write_str("}\n")
+        out.say("}\n")
     }
-}
-
-/// Writes a number after its key.
-fn write_number<W: fmt::Write>(
-    key: &'static str,
-    number: u64,
-    f: &mut fmt::Formatter<W>,
-) -> fmt::Result {
-    write!(f, "{key}{number}")
 }
 
 /// Writes the types of accepted packets' chunks.
-fn write_kinds<W: fmt::Write>(counts: &Counts, f: &mut fmt::Formatter<W>) -> fmt::Result {
-    f.write_str(",\"chunks\":[")?;
+fn write_kinds(counts: &Counts, out: &mut Text<'_>) {
+    out.say(",\"chunks\":[");
     let mut separator = "";
     for (typ, count) in counts.kinds.iter().enumerate() {
         if *count > 0 {
-            write!(f, "{separator}{{\"type\":{typ}")?;
+            write!(out, "{separator}{{\"type\":{typ}");
             let name = ChunkName(typ as u8);
             if name.is_known() {
-                write!(f, ",\"name\":\"{name}\"")?;
+                out.word("name", name);
             }
-            write!(f, ",\"count\":{count}}}")?;
+            out.pair("count", *count);
+            out.say("}");
             separator = ",";
         }
     }
-    f.write_str("]")
+    out.say("]")
 }

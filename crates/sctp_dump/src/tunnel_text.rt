@@ -1,28 +1,28 @@
 //! The tunnels that a packet is in, as text.
 
 use crate::seen::{SeenFrame, hosts_of};
+use dump_analysis::Text;
 use dump_capture::tunnels::{TunnelKind, Tunnels, tunnels_in};
-use std::fmt;
 
 /// The tunnels of a frame, outermost first, each as a line of its packet's block.
 #[derive(Clone, Copy)]
 pub struct TunnelLines<'a>(pub SeenFrame<'a>);
 
-impl<'a> fmt::Display for TunnelLines<'a> {
-    fn fmt<W: fmt::Write>(&self, f: &mut fmt::Formatter<W>) -> fmt::Result {
+impl<'a> TunnelLines<'a> {
+    /// Writes it.
+    pub fn write(&self, out: &mut Text<'_>) {
         for tunnel in tunnels_of(self.0) {
             let name = name_of(tunnel.kind);
-            write!(f, "in {name}")?;
+            write!(out, "in {name}");
             if let Some(addresses) = tunnel.addresses {
                 let (source, destination) = hosts_of(addresses);
-                write!(f, " from {source} to {destination}")?;
+                write!(out, " from {source} to {destination}");
             }
             if let Some(identifier) = tunnel.identifier {
-                write_identifier(tunnel.kind, identifier, f)?;
+                write_identifier(tunnel.kind, identifier, out);
             }
-            f.write_str("\n")?;
+            out.say("\n");
         }
-        Ok(())
     }
 }
 
@@ -30,24 +30,26 @@ impl<'a> fmt::Display for TunnelLines<'a> {
 #[derive(Clone, Copy)]
 pub struct TunnelsJson<'a>(pub SeenFrame<'a>);
 
-impl<'a> fmt::Display for TunnelsJson<'a> {
-    fn fmt<W: fmt::Write>(&self, f: &mut fmt::Formatter<W>) -> fmt::Result {
+impl<'a> TunnelsJson<'a> {
+    /// Writes it.
+    pub fn write(&self, out: &mut Text<'_>) {
         let mut is_first = true;
         for tunnel in tunnels_of(self.0) {
             let name = name_of(tunnel.kind);
-            f.write_str(if is_first { ",\"tunnels\":[" } else { "," })?;
+            out.say(if is_first { ",\"tunnels\":[" } else { "," });
             is_first = false;
-            write!(f, "{{\"kind\":\"{name}\"")?;
+            write!(out, "{{\"kind\":\"{name}\"");
             if let Some(addresses) = tunnel.addresses {
                 let (source, destination) = hosts_of(addresses);
-                write!(f, ",\"from\":\"{source}\",\"to\":\"{destination}\"")?;
+                out.word("from", source);
+                out.word("to", destination);
             }
             if let Some(identifier) = tunnel.identifier {
-                write!(f, ",\"identifier\":{identifier}")?;
+                out.pair("identifier", identifier);
             }
-            f.write_str("}")?;
+            out.say("}");
         }
-        f.write_str(if is_first { "" } else { "]" })
+        out.say(if is_first { "" } else { "]" })
     }
 }
 
@@ -74,16 +76,12 @@ fn name_of(kind: TunnelKind) -> &'static str {
 }
 
 /// Writes a tunnel's identifier with its name, as its standard calls it.
-fn write_identifier<W: fmt::Write>(
-    kind: TunnelKind,
-    identifier: u32,
-    f: &mut fmt::Formatter<W>,
-) -> fmt::Result {
+fn write_identifier(kind: TunnelKind, identifier: u32, out: &mut Text<'_>) {
     match kind {
-        TunnelKind::Ip => Ok(()),
-        TunnelKind::Gre => write!(f, ", key 0x{identifier:08x}"),
-        TunnelKind::Erspan => write!(f, ", session ID {identifier}"),
-        TunnelKind::Vxlan | TunnelKind::Geneve => write!(f, ", VNI {identifier}"),
-        TunnelKind::GtpU => write!(f, ", TEID 0x{identifier:08x}"),
+        TunnelKind::Ip => {}
+        TunnelKind::Gre => write!(out, ", key 0x{identifier:08x}"),
+        TunnelKind::Erspan => write!(out, ", session ID {identifier}"),
+        TunnelKind::Vxlan | TunnelKind::Geneve => write!(out, ", VNI {identifier}"),
+        TunnelKind::GtpU => write!(out, ", TEID 0x{identifier:08x}"),
     }
 }
