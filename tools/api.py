@@ -554,7 +554,7 @@ def comment_faults(lines):
             in_trait = line.startswith('pub trait ')
         function = re.match(r'(pub(?:\(\w+\))? )?(?:final |const |unsafe |extern "C" )*fn (\w+)', bare)
         if function and (function[1] or in_trait) and first:
-            word = first[1].partition(' ')[0]
+            word = first[1].partition(' ')[0].rstrip('.')
             if word not in VERBS:
                 yield first[0], f'the comment of {function[2]} begins with "{word}", no verb of VERBS in tools/api.py'
         first = None
