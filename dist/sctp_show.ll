@@ -49144,8 +49144,8 @@ noarm.10:                                         ; preds = %join.6
   unreachable
 }
 
-; Function Attrs: nounwind
-define internal { i8, i64 } @dcsctp_wire.packet.chunk.ChunkSerializableTlv.encoded_size(ptr noundef %a0) #0 {
+; Function Attrs: alwaysinline nounwind
+define internal { i8, i64 } @dcsctp_wire.packet.chunk.ChunkSerializableTlv.encoded_size(ptr noundef %a0) #1 {
 start:
   %r0 = alloca [16 x i8], align 8
   %r1 = alloca ptr, align 8
