@@ -200,7 +200,7 @@ void inits()
     std::vector<parameter> parameters;
     for (parameter parameter : chunk.parameters())
         parameters.push_back(parameter);
-    CHECK(parameters.size() == 3 && chunk.causes().empty());
+    CHECK(parameters.size() == 3 && chunk.causes().empty() && chunk.causes().size() == 0);
     CHECK(parameters[0].type() == parameter_type::supported_extensions && parameters[0].offset() == 32);
     CHECK(same(parameters[0].value(), of_hex("82c0")) && parameters[0].next_offset() == 40);
     CHECK(same(parameters[0].bytes(), of_hex("8008 0006 82c0")) && same(parameters[1].bytes(), of_hex("c000 0004")));
@@ -279,7 +279,7 @@ void causes()
     std::vector<cause> causes;
     for (cause cause : only(error).causes())
         causes.push_back(cause);
-    CHECK(causes.size() == 5 && only(error).parameters().empty());
+    CHECK(causes.size() == 5 && only(error).parameters().empty() && only(error).parameters().size() == 0);
     CHECK(causes[0].code() == cause_code::missing_mandatory_parameter);
     const auto missing = causes[0].missing_parameters();
     CHECK(std::distance(missing.begin(), missing.end()) == 1 && *missing.begin() == 7);
@@ -1115,7 +1115,7 @@ void stacks()
 void rows()
 {
     const bytes packet = sealed("000b0013 01020304 0005 0006 00000033 616263 00"                      // DATA
-                                "03000018 00000009 00010000 0001 0001 00020004 00000008"             // SACK
+                                "0300001c 00000009 00010000 0002 0001 00020004 00060007 00000008"    // SACK
                                 "01000014 0000000b 00020000 0003 0004 0000000d"                      // INIT
                                 "07000008 00000011"                                                  // SHUTDOWN
                                 "c000000c 00000013 00050007"                                         // FORWARD-TSN
@@ -1136,8 +1136,8 @@ void rows()
     CHECK(i_data->is_beginning && !i_data->is_end && as_text(i_data->payload) == "a");
     const row_view sack = *read.chunks().at(1);
     CHECK(sack.as_sack() && sack.as_sack()->cumulative_tsn_ack == 9 && sack.as_sack()->a_rwnd == 0x10000);
-    CHECK(sack.as_sack()->block_count == 1 && sack.as_sack()->duplicate_count == 1 && sack.rest().size() == 8);
-    CHECK(sack.whole().gap_ack_blocks().size() == 1 && sack.whole().duplicate_tsns().at(0) == 8u && !sack.as_data());
+    CHECK(sack.as_sack()->block_count == 2 && sack.as_sack()->duplicate_count == 1 && sack.rest().size() == 12);
+    CHECK(sack.whole().gap_ack_blocks().size() == 2 && sack.whole().duplicate_tsns().at(0) == 8u && !sack.as_data());
     const auto init = read.chunks().at(2)->as_init();
     CHECK(init && init->initiate_tag == 11 && init->a_rwnd == 0x20000 && init->outbound_streams == 3
           && init->inbound_streams == 4 && init->initial_tsn == 13);
@@ -1157,6 +1157,12 @@ void rows()
         count++;
     }
     CHECK(at == packet.size() && count == 8);
+
+    // as many rows as chunks: the last one is written too
+    std::array<row, 8> exact{};
+    const reading full = dcsctp::packet(packet).read(exact);
+    CHECK(full.has_all() && full.chunks().size() == 8 && full.chunks().at(7)->type() == chunk_type::cookie_ack);
+    CHECK(full.chunks().at(7)->whole().next_offset() == packet.size());
 
     // fewer rows than chunks, and none; a fault; what the C function wrote; no bytes
     const reading few = dcsctp::packet(packet).read(view<row>(all).subspan(0, 2));
@@ -1237,8 +1243,8 @@ void registered_values()
         {level::chunk, "0c00 0008 01020304", {0x01020304}, "", "", 0, 0, 0},
         {level::chunk, "0d00 0008 01020304", {0x01020304}, "", "", 0, 0, 0},
         {level::chunk, "0f00 000c 0102 0003 01020304", {0x0102, 3}, "", "01020304", 0, 0, 0},
-        {level::chunk, "1000 0028 01020304 00050607 0001 0002 0002 0000 0002 0103 0205 0206 0408 0509 01020303 01020204",
-         {0x01020304, 0x00050607, 1, 2, 2}, "", "0002 0103 0205 0206 0408 0509 01020303 01020204", 0, 0, 0},
+        {level::chunk, "1000 002c 01020304 00050607 0001 0002 0003 0000 0002 0103 0205 0206 0408 0509 01020303 01020204 01020105",
+         {0x01020304, 0x00050607, 1, 2, 3}, "", "0002 0103 0205 0206 0408 0509 01020303 01020204 01020105", 0, 0, 0},
         // ASCONF ACK and ASCONF, RFC 5061 section 4.1; PKTDROP, draft-stewart-sctp-pktdrprep; PAD, RFC 4820 section 3
         {level::chunk, "8000 0024 08090a0b c005 0008 00000001 c003 0014 00000002 00a3 0004 0105 0006 0003 0000", {0x08090a0b},
          "", "c005 0008 00000001 c003 0014 00000002 00a3 0004 0105 0006 0003 0000", 2, 0, 0},
@@ -1384,6 +1390,10 @@ void registered_lists()
     const bytes value = of_hex("0003 0001 ffff");
     const auto hmacs = parameter(parameter_type::requested_hmac_algorithm, value).as_registered()->short_numbers();
     CHECK(hmacs.to_vector() == std::vector<std::uint16_t>{3, 1, 0xffff} && hmacs.at(1) == 1 && !hmacs.at(3));
+    const ::dcsctp_parameter odd{0, 0, 5, 6};
+    std::uint16_t number = 7;
+    CHECK(!detail::short_number(value.data(), 6, &odd, 2, &number) && number == 7);
+    CHECK(detail::short_number(value.data(), 6, &odd, 1, &number) && number == 1);
     const bytes init = sealed("01000024 00000001 00000002 0003 0004 00000005 8004 0008 0003 0001 0005 0008 c0000201");
     const auto two = only(init).parameters().begin()->as_registered()->short_numbers();
     CHECK(std::distance(two.begin(), two.end()) == 2 && two.at(1) == 1 && !two.at(2));
@@ -2000,6 +2010,16 @@ void auths()
         CHECK(sign_auth(a_key, to.bytes().subspan(12)) && to.seal());
         CHECK(same(bytes_view(packet).subspan(12), wanted) && dcsctp::packet(packet).check());
     }
+
+    // A key of more than 64 bytes is hashed (RFC 2104 section 2).
+    bytes key(65);
+    for (std::size_t i = 0; i < key.size(); i++)
+        key[i] = static_cast<std::uint8_t>(i);
+    const bytes wanted = of_hex("0f000028000000031fcb5ccf1bedea2fcf77ea5189facab5cae519a42dfcf1210e93779854404b22"
+                                "0003001400000001000200030000003361620000");
+    bytes it = wanted;
+    std::fill_n(it.begin() + 8, 32, std::uint8_t{0});
+    CHECK(sign_auth(key, it) && it == wanted && verify_auth(key, it));
 }
 
 // RFC 4895 section 3.2, and 6.1: the smaller number first; of two that are equal, the shorter.

@@ -69,9 +69,9 @@ static const struct row rows[] = {
      {.short_number = 0x0102, .second_short_number = 3, .rest_offset = 8, .rest_size = 4}},
     {CHUNK, "0f00 0008 0102 0001", {.short_number = 0x0102, .second_short_number = 1, .rest_offset = 8}},
     /* NR-SACK: draft-tuexen-tsvwg-sctp-multipath */
-    {CHUNK, "1000 0028 01020304 00050607 0001 0002 0002 0000 0002 0103 0205 0206 0408 0509 01020303 01020204",
-     {.number = 0x01020304, .second_number = 0x00050607, .short_number = 1, .second_short_number = 2, .third_short_number = 2,
-      .rest_offset = 20, .rest_size = 20}},
+    {CHUNK, "1000 002c 01020304 00050607 0001 0002 0003 0000 0002 0103 0205 0206 0408 0509 01020303 01020204 01020105",
+     {.number = 0x01020304, .second_number = 0x00050607, .short_number = 1, .second_short_number = 2, .third_short_number = 3,
+      .rest_offset = 20, .rest_size = 24}},
     {CHUNK, "1000 0014 01020304 00050607 0000 0000 0000 ffff",
      {.number = 0x01020304, .second_number = 0x00050607, .rest_offset = 20}},
     /* ASCONF ACK and ASCONF: RFC 5061 section 4.1 */
@@ -432,6 +432,23 @@ static void unwritable(void)
     free(in.bytes);
 }
 
+/* A PKTDROP with its flags (draft-stewart-sctp-pktdrprep): its value is that of one that was added to a packet of its own. */
+static void with_flags(void)
+{
+    const struct bytes in = bytes_of("810d 0014 0c0d0e0f 000007d0 05dc 0000 13881389");
+    struct dcsctp_chunk chunk = {0};
+    struct dcsctp_registered registered;
+    struct packet own = begun(CHUNK), packet = begun(CHUNK);
+    CHECK(dcsctp_chunk_at(in.bytes, in.length, BEFORE, &chunk) && chunk.flags == 0x0d);
+    CHECK(dcsctp_registered_chunk(in.bytes, in.length, &chunk, &registered));
+    CHECK(write_item(CHUNK, DCSCTP_CHUNK_PKTDROP, &own, ROOM, &registered, in) == DCSCTP_OK);
+    CHECK(dcsctp_chunk_at(own.bytes, own.size, HEADER, &chunk) && chunk.flags == 0);
+    CHECK(dcsctp_add_chunk(packet.bytes, ROOM, &packet.size, chunk.type, 0x0d, own.bytes + chunk.value_offset,
+                           chunk.value_size) == DCSCTP_OK);
+    CHECK(packet.size == HEADER + in.length - BEFORE && !memcmp(packet.bytes + HEADER, in.bytes + BEFORE, in.length - BEFORE));
+    free(in.bytes);
+}
+
 static void each_row(void)
 {
     for (size_t i = 0; i < sizeof rows / sizeof *rows; i++) {
@@ -530,6 +547,7 @@ static void short_numbers(void)
 int main(void)
 {
     each_row();
+    with_flags();
     unwritable();
     nested();
     requests();

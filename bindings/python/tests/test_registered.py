@@ -56,8 +56,8 @@ ROWS: list[tuple[Any, str, Any, str | None]] = [
     # draft-tuexen-tsvwg-sctp-multipath
     (
         chunk,
-        "1000 0028 01020304 00050607 0001 0002 0002 0000 0002 0103 0205 0206 0408 0509 01020303 01020204",
-        r.NrSack(0x01020304, 0x00050607, (1, 2, 2), of_hex("0002 0103 0205 0206 0408 0509 01020303 01020204")),
+        "1000 002c 01020304 00050607 0001 0002 0003 0000 0002 0103 0205 0206 0408 0509 01020303 01020204 01020105",
+        r.NrSack(0x01020304, 0x00050607, (1, 2, 3), of_hex("0002 0103 0205 0206 0408 0509 01020303 01020204 01020105")),
         None,
     ),
     (
@@ -329,6 +329,17 @@ class Fields(unittest.TestCase):
         for number in (-1, 1 << 16, 1 << 40):
             self.assertIsNone(davgyuti.RawParameter(number).registered())
         self.assertEqual(davgyuti.RawParameter(5, bytearray(4)).registered(), r.Ipv4Address(ip_address(0)))  # type: ignore[arg-type]
+
+    def test_flags(self) -> None:
+        # A PKTDROP with its flags (draft-stewart-sctp-pktdrprep), and an NR-SACK with the lowest one.
+        for text in ("810d 0014 0c0d0e0f 000007d0 05dc 0000 13881389", "1001 0014 01020304 00050607 0000 0000 0000 0000"):
+            (raw,) = davgyuti.raw_chunks(packet_of(text))
+            found = raw.registered()
+            assert found
+            self.assertEqual((raw.flags, bytes(raw)), (of_hex(text)[1], of_hex(text)))
+            builder = davgyuti.PacketBuilder(5000, 5001, 0x01020304)
+            builder.add(davgyuti.RawChunk(raw.type, raw.flags, found.value))
+            self.assertEqual(builder.seal().hex(), packet_of(text).hex())
 
 
 class Lists(unittest.TestCase):

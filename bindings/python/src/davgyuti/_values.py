@@ -35,7 +35,8 @@ class Documented(Named):
 
     _value_: int
 
-    def __new__(cls, number: int, text: str) -> "Documented":
+    # (for mypy `Result(0)` calls this, and not the lookup of a member)
+    def __new__(cls, number: int, text: str = "") -> "Documented":
         member = int.__new__(cls, number)
         member._value_ = number
         member.__doc__ = text
@@ -538,7 +539,8 @@ class _CausePart(_Part):
 
 @dataclass(slots=True, unsafe_hash=True)
 class RegisteredChunk(_ChunkPart):
-    """A chunk of a kind of `davgyuti.registered`, without flags: those types have none."""
+    """A chunk of a kind of `davgyuti.registered`, without flags: a RawChunk has those of a PKTDROP or an NR-SACK, beside the
+    `value` of this."""
 
     type: ClassVar[ChunkType]
     fields: ClassVar[dict[str, str]]
