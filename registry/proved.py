@@ -1,9 +1,11 @@
 # SPDX-License-Identifier: Apache-2.0
-"""For registry/make.py --compare: finds the numbers of the table that the proved crates and their definitions have, written by
-hand."""
+"""For registry/make.py --compare: finds what the proved crates and their definitions, which are written by hand, have of the
+table: the numbers, the least sizes and the order of the fields."""
 import glob
 import os
 import re
+
+import languages
 
 NUMBER = r'(0x[\dA-Fa-f]+|\d+)'
 LEVELS = {'CHUNK_TYPE': 'chunk', 'PARAMETER_TYPE': 'parameter', 'CAUSE_CODE': 'cause'}
@@ -18,6 +20,22 @@ RENAMED = {'initiation': 'init', 'missing_parameters': 'missing_mandatory_parame
            'iforward': 'i_forward_tsn'}
 # What such a name says besides.
 ENDS = ['', '_(chunk|parameter|error_cause|ref|fields)$', '_request(_chunk|_parameter)?$']
+# What the definitions of several kinds have in common.
+SHARED = r'\b(AddStreamsRequest|InitFields|ParameterList|SkippedStreams)\b'
+# How a definition reads a value, and the sizes that it takes so, as the table has them.
+LEASTS = [
+    (r'^read value = Ok |λ value\. true\) 0 ', '0+1'),
+    (r'nat_lt 0 \(length value\)\) 0 ', '4+1'),  # a cause at least, of a header at least
+    (r'length value == 0 then Err Length', '1+1'),
+    (r'nat_lt \(length value\) (\d+) then Err Length|nat_le (\d+) \(length value\)\) \2 ', '{}+1'),
+    (r'length value == (\d+) then Ok .* else Err Length', '{}'),
+    (r'length value == 8 then .* if length value == 16 then .* else Err Length', '8+8'),
+    (r'length value == (\d+) \+ (\d+) \* stream_count value', '{}+{}'),
+    (r'read_of stream_at (\d+) value .*length value == (\d+) \+ size \*', '{1}+{0}'),
+    (r'length value == (\d+) \+ \d \* number32 value|size_of_value n = (\d+) \+', '{}+?'),
+]
+# Words in the names of a definition's fields, for which the table has another.
+FIELD_WORDS = {'ppid': 'protocol', 'count': 'counts', 'blocks': 'counts', 'duplicates': 'counts'}
 FLAGS = {'is_end': 'END', 'is_beginning': 'BEGINNING', 'stream_key': 'UNORDERED', 'immediate_ack': 'IMMEDIATE_ACK',
          'tag_reflected': 'TAG_REFLECTED'}
 
@@ -57,10 +75,37 @@ class Comparison:
         elif int(number, 0) != self.rows[key].number:
             self.wrong.append(f'{place}: {text} is {number}, but {self.rows[key].number} in the table')
 
-    def least(self, place, key, least):
-        """Compares the least size of a row's value."""
-        if key in self.rows and self.rows[key].least.partition('+')[0] != least:
-            self.wrong.append(f'{place}: {" ".join(key)} has at least {least} bytes, but {self.rows[key].least} in the table')
+    def least(self, place, key, text):
+        """Compares the sizes of a row's value with those that a definition reads."""
+        read = ' '.join(' '.join(re.findall(r'^(?:read|read_of|row|size_of_value) [^:]*?=.*?(?=\n\n)', text, re.M | re.S)).split())
+        found = ((re.search(regex, read), form) for regex, form in LEASTS)
+        least = next((form.format(*filter(None, match.groups())) for match, form in found if match), 'not found')
+        if key in self.rows and self.rows[key].least != least:
+            self.wrong.append(f'{place}: the sizes of {" ".join(key)} are {least}, but {self.rows[key].least} in the table')
+
+    def fields(self, place, key, text):
+        """Compares the names and the places of the numbers that a row's value begins with with those that a definition reads."""
+        field = r'\b(\w+) = (?:record \{ 0 = )?number(16|32) (?:value\b|\(drop (\d+) value\))'
+        read = {(int(at or 0), int(bits)): name for name, bits, at in re.findall(field, text)}
+        numbers = list(numbers_of(self.rows[key])) if key in self.rows else []
+        for at, bits, name in numbers:
+            of = read.get((at, bits), '' if len(numbers) > 1 else name)
+            words = {FIELD_WORDS.get(word, word) for word in of.lower().split('_')} | {of}
+            if not words & {name, *name.lower().split()}:
+                self.wrong.append(f'{place}: {" ".join(key)} has {of or "no number"} at {at}, but {name} in the table')
+
+
+def numbers_of(row):
+    """The numbers with a name that the value of a row begins with: the place, the bits and the name of each."""
+    at, end = 0, int(row.least.partition('+')[0].replace('-', '65536'))
+    for part in row.value.split(', '):
+        name, sizes = re.fullmatch(r'(.*?)((?: ?\bu(?:16|32)\b)*)', part).groups()
+        if not sizes or part in languages.PARTS or at >= end:
+            return
+        for size in sizes.split():
+            if name:
+                yield at, int(size[1:]), name
+            at += int(size[1:]) // 8
 
 
 def constants(them):
@@ -89,17 +134,19 @@ def constants(them):
 
 
 def definitions(them):
-    """The numbers and sizes of the definitions in specs/."""
+    """The numbers, the sizes and the fields of the definitions in specs/."""
     kind = rf'^kind = (?:plain_kind|kept_kind|list\.kind_of|fields\.kind_of) {NUMBER}|list\.format {NUMBER}|^  typ = {NUMBER};'
-    size = r'(?:(\d+)|\((\d+) \+ .*\)) (?:\[\]|\(.*\));$'
     for crate, level in CRATES.items():
         specs = f'crates/{crate}/specs/*.antt'
         for place, name, match in them.places(specs, kind):
             them.number(place, them.key(level, name), match[match.lastindex])
         for place, name, match in them.places(specs, rf'tlv = (?:sized|flagged)_tlv {NUMBER}'):
             them.number(place, them.key(level, name), match[1])
-        for place, name, match in them.places(specs, rf'tlv = (?:sized_tlv \w+|flagged_tlv \w+ (?:\w+|\(.*\))) {size}'):
-            them.least(place, them.key(level, name), match[1] or match[2])
+        texts = {name: match[0] for _, name, match in them.places(specs, r'\A(?:.*\n)*')}
+        for place, name, _ in them.places(specs, r'^kind = '):
+            text = texts[name] + '\n'.join(texts[other] for other in re.findall(SHARED, texts[name]))
+            them.least(place, them.key(level, name), text)
+            them.fields(place, them.key(level, name), text)
     read = rf'\b(typ|code) == {NUMBER} then\s+(?:result_ok \((\w+)_kind\.|option_map (\w+))'
     for place, _, match in them.places('crates/dcsctp_borrowed/specs/*.antt', read):
         level = 'cause' if match[1] == 'code' else 'parameter' if match[4] or match[3] == 'info' else 'chunk'
@@ -124,18 +171,13 @@ def registered(them):
             key = them.key(level, re.sub(r'^V(\d)$', r'IPv\1Address', match[2]))
             definitions.add(key)
             them.number(place, key, match[1])
+    for place, _, match in them.places('crates/dcsctp_registry/specs/RegisteredChunk.antt', r'^(\w+)_of value =\n(?:.+\n)*'):
+        them.fields(place, them.key('chunk', match[1]), match[0])
     for level in LEVELS.values():
         for row in them.table[level]:
             for found, what in ((constants, 'constant'), (definitions, 'definition')):
                 if (them.key(level, row.identifier) in found) == (row.read == 'kind'):
                     them.wrong.append(f'{level} {row.identifier}: {row.read} in the table, but not so as a {what} of dcsctp_registry')
-
-
-def sizes(them):
-    """The bytes before a list, or before other bytes."""
-    for place, name, match in them.places('crates/*/src/**/*.rt', r'^(?:pub\(crate\) )?const FIXED_SIZE: usize = (\d+);'):
-        for level in LEVELS.values():
-            them.least(place, them.key(level, name), match[1])
 
 
 def others(them):
@@ -164,6 +206,5 @@ def differences(root, table):
     constants(them)
     definitions(them)
     registered(them)
-    sizes(them)
     others(them)
     return them.wrong

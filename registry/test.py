@@ -2,8 +2,9 @@
 # SPDX-License-Identifier: Apache-2.0
 """usage: registry/test.py [--help]
 
-Tries registry/make.py: broken tables, each of which it has to refuse at the right line; files that were changed, and numbers of
-the proved crates that are others than the table's, each of which it has to name. The last line is: registry: N passed, M failed.
+Tries registry/make.py: broken tables, each of which it has to refuse at the right line; files that were changed, and numbers,
+sizes and fields of the proved crates that are others than the table's, each of which it has to name. The last line is: registry:
+N passed, M failed.
 """
 import contextlib
 import io
@@ -108,8 +109,23 @@ def changed_files():
             make.ROOT = root
 
 
+# What is changed in a row: the crates have it otherwise.
+OTHERS = [
+    ('chunk', 'DATA', 'read', 'bytes'),
+    ('chunk', 'ERROR', 'least', '0+1'),
+    ('chunk', 'I_DATA', 'least', '16+4'),
+    ('parameter', 'RECONFIGURATION_RESPONSE', 'least', '8+4'),
+    ('chunk', 'DATA', 'value', 'TSN u32, SSN u16, stream u16, protocol u32, payload'),
+    ('chunk', 'INIT', 'value', 'TSN u32, a_rwnd u32, streams u16 u16, tag u32, parameters'),
+    ('chunk', 'NR_SACK', 'value', 'a_rwnd u32, TSN u32, counts u16 u16 u16, u16, blocks, TSNs u32'),
+    ('chunk', 'PKTDROP', 'value', 'queued u32, bandwidth u32, size u16, u16, a packet'),
+    ('parameter', 'OUTGOING_SSN_RESET', 'value', 'response u32, request u32, last TSN u32, streams u16'),
+    ('parameter', 'ADD_INCOMING_STREAMS', 'value', 'request u32, u16, new streams u16'),
+]
+
+
 def proved_numbers():
-    """Each number of a kind, of a result and of a flag is compared."""
+    """Each number of a kind, of a result and of a flag, and each kind's sizes are compared; and the order of fields."""
     check('the proved numbers are those of the table', not proved.differences(make.ROOT, make.table_of(make.rows_of(TEXT))))
     # (a flag is that of a chunk's number)
     for levels in (('chunk', 'parameter', 'cause', 'result', 'port'), ('flag',)):
@@ -122,10 +138,18 @@ def proved_numbers():
             if getattr(row, 'read', 'kind') == 'kind':
                 check(f'another number of {row.level} {row.identifier}',
                       any(re.match(rf'crates/\S+:\d+: .*, but {row.number} in the table', line) for line in said))
-    for column, value in (('least', '13+1'), ('read', 'bytes')):
+    table = make.table_of(make.rows_of(TEXT))
+    kinds = [row for level in ('chunk', 'parameter', 'cause') for row in table[level] if row.read == 'kind']
+    for row in kinds:
+        row.least = '99'
+    said = [line for line in proved.differences(make.ROOT, table) if re.search('the sizes of .*, but 99 in the table', line)]
+    check('other sizes of each kind', len(said) == len(kinds))
+    for level, identifier, column, value in OTHERS:
         table = make.table_of(make.rows_of(TEXT))
-        setattr(table['chunk'][0], column, value)
-        check(f'another {column} of DATA', proved.differences(make.ROOT, table))
+        row = next(row for row in table[level] if row.identifier == identifier)
+        check(f'the {column} of {identifier} is of the table', getattr(row, column) != value)
+        setattr(row, column, value)
+        check(f'{value} as the {column} of {identifier}', proved.differences(make.ROOT, table))
     table = make.table_of(make.rows_of(TEXT))
     for row in table['chunk']:
         row.read = 'kind'
