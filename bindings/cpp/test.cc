@@ -1115,7 +1115,7 @@ void stacks()
 void rows()
 {
     const bytes packet = sealed("000b0013 01020304 0005 0006 00000033 616263 00"                      // DATA
-                                "03000018 00000009 00010000 0001 0001 00020004 00000008"             // SACK
+                                "0300001c 00000009 00010000 0002 0001 00020004 00060007 00000008"    // SACK
                                 "01000014 0000000b 00020000 0003 0004 0000000d"                      // INIT
                                 "07000008 00000011"                                                  // SHUTDOWN
                                 "c000000c 00000013 00050007"                                         // FORWARD-TSN
@@ -1136,8 +1136,8 @@ void rows()
     CHECK(i_data->is_beginning && !i_data->is_end && as_text(i_data->payload) == "a");
     const row_view sack = *read.chunks().at(1);
     CHECK(sack.as_sack() && sack.as_sack()->cumulative_tsn_ack == 9 && sack.as_sack()->a_rwnd == 0x10000);
-    CHECK(sack.as_sack()->block_count == 1 && sack.as_sack()->duplicate_count == 1 && sack.rest().size() == 8);
-    CHECK(sack.whole().gap_ack_blocks().size() == 1 && sack.whole().duplicate_tsns().at(0) == 8u && !sack.as_data());
+    CHECK(sack.as_sack()->block_count == 2 && sack.as_sack()->duplicate_count == 1 && sack.rest().size() == 12);
+    CHECK(sack.whole().gap_ack_blocks().size() == 2 && sack.whole().duplicate_tsns().at(0) == 8u && !sack.as_data());
     const auto init = read.chunks().at(2)->as_init();
     CHECK(init && init->initiate_tag == 11 && init->a_rwnd == 0x20000 && init->outbound_streams == 3
           && init->inbound_streams == 4 && init->initial_tsn == 13);
@@ -1157,6 +1157,12 @@ void rows()
         count++;
     }
     CHECK(at == packet.size() && count == 8);
+
+    // as many rows as chunks: the last one is written too
+    std::array<row, 8> exact{};
+    const reading full = dcsctp::packet(packet).read(exact);
+    CHECK(full.has_all() && full.chunks().size() == 8 && full.chunks().at(7)->type() == chunk_type::cookie_ack);
+    CHECK(full.chunks().at(7)->whole().next_offset() == packet.size());
 
     // fewer rows than chunks, and none; a fault; what the C function wrote; no bytes
     const reading few = dcsctp::packet(packet).read(view<row>(all).subspan(0, 2));
@@ -1237,8 +1243,8 @@ void registered_values()
         {level::chunk, "0c00 0008 01020304", {0x01020304}, "", "", 0, 0, 0},
         {level::chunk, "0d00 0008 01020304", {0x01020304}, "", "", 0, 0, 0},
         {level::chunk, "0f00 000c 0102 0003 01020304", {0x0102, 3}, "", "01020304", 0, 0, 0},
-        {level::chunk, "1000 0028 01020304 00050607 0001 0002 0002 0000 0002 0103 0205 0206 0408 0509 01020303 01020204",
-         {0x01020304, 0x00050607, 1, 2, 2}, "", "0002 0103 0205 0206 0408 0509 01020303 01020204", 0, 0, 0},
+        {level::chunk, "1000 002c 01020304 00050607 0001 0002 0003 0000 0002 0103 0205 0206 0408 0509 01020303 01020204 01020105",
+         {0x01020304, 0x00050607, 1, 2, 3}, "", "0002 0103 0205 0206 0408 0509 01020303 01020204 01020105", 0, 0, 0},
         // ASCONF ACK and ASCONF, RFC 5061 section 4.1; PKTDROP, draft-stewart-sctp-pktdrprep; PAD, RFC 4820 section 3
         {level::chunk, "8000 0024 08090a0b c005 0008 00000001 c003 0014 00000002 00a3 0004 0105 0006 0003 0000", {0x08090a0b},
          "", "c005 0008 00000001 c003 0014 00000002 00a3 0004 0105 0006 0003 0000", 2, 0, 0},

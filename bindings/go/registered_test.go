@@ -83,9 +83,9 @@ var registeredRows = []struct {
 	{level: "chunk", bytes: "0f00 000c 0102 0003 01020304", text: "key=258 HMAC identifier=3 HMAC=4 bytes",
 		numbers: []uint32{0x0102, 3}, rest: "01020304"},
 	// NR-SACK: draft-tuexen-tsvwg-sctp-multipath
-	{level: "chunk", bytes: "1000 0028 01020304 00050607 0001 0002 0002 0000 0002 0103 0205 0206 0408 0509 01020303 01020204",
-		text:    "TSN=16909060 a_rwnd=329223 counts=1 counts=2 counts=2 lists=20 bytes",
-		numbers: []uint32{0x01020304, 0x00050607, 1, 2, 2}, rest: "0002 0103 0205 0206 0408 0509 01020303 01020204"},
+	{level: "chunk", bytes: "1000 002c 01020304 00050607 0001 0002 0003 0000 0002 0103 0205 0206 0408 0509 01020303 01020204 01020105",
+		text:    "TSN=16909060 a_rwnd=329223 counts=1 counts=2 counts=3 lists=24 bytes",
+		numbers: []uint32{0x01020304, 0x00050607, 1, 2, 3}, rest: "0002 0103 0205 0206 0408 0509 01020303 01020204 01020105"},
 	// ASCONF ACK and ASCONF: RFC 5061 section 4.1
 	{level: "chunk", bytes: "8000 002c 08090a0b c005 0008 00000001 c003 001c 00000002 00a1 0014 c001 0010 00000002 0005 0008 c0000201",
 		text: "sequence number=134810123 parameters=36 bytes", numbers: []uint32{0x08090a0b},

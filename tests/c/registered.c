@@ -69,9 +69,9 @@ static const struct row rows[] = {
      {.short_number = 0x0102, .second_short_number = 3, .rest_offset = 8, .rest_size = 4}},
     {CHUNK, "0f00 0008 0102 0001", {.short_number = 0x0102, .second_short_number = 1, .rest_offset = 8}},
     /* NR-SACK: draft-tuexen-tsvwg-sctp-multipath */
-    {CHUNK, "1000 0028 01020304 00050607 0001 0002 0002 0000 0002 0103 0205 0206 0408 0509 01020303 01020204",
-     {.number = 0x01020304, .second_number = 0x00050607, .short_number = 1, .second_short_number = 2, .third_short_number = 2,
-      .rest_offset = 20, .rest_size = 20}},
+    {CHUNK, "1000 002c 01020304 00050607 0001 0002 0003 0000 0002 0103 0205 0206 0408 0509 01020303 01020204 01020105",
+     {.number = 0x01020304, .second_number = 0x00050607, .short_number = 1, .second_short_number = 2, .third_short_number = 3,
+      .rest_offset = 20, .rest_size = 24}},
     {CHUNK, "1000 0014 01020304 00050607 0000 0000 0000 ffff",
      {.number = 0x01020304, .second_number = 0x00050607, .rest_offset = 20}},
     /* ASCONF ACK and ASCONF: RFC 5061 section 4.1 */

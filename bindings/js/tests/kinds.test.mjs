@@ -65,8 +65,8 @@ data('I-DATA, the end', 'addIData',
   '40010015 00000006 0001 0000 00000007 00000008 01 000000', ChunkType.I_DATA, 1);
 
 // RFC 9260 section 3.3.4.
-const SACK = { cumulativeTsnAck: 16, aRwnd: 0x20000, blocks: [{ start: 2, end: 3 }, { start: 5, end: 5 }], duplicates: [9, 0xfffffff0] };
-both('SACK', it => it.addSack(SACK), '03000020 00000010 00020000 0002 0002 0002 0003 0005 0005 00000009 fffffff0',
+const SACK = { cumulativeTsnAck: 16, aRwnd: 0x20000, blocks: [{ start: 2, end: 3 }, { start: 5, end: 5 }], duplicates: [9, 0xfffffff0, 7] };
+both('SACK', it => it.addSack(SACK), '03000024 00000010 00020000 0002 0003 0002 0003 0005 0005 00000009 fffffff0 00000007',
   ChunkType.SACK, 0, { sack: { ...SACK, isInOrder: true } });
 both('SACK whose blocks touch', it => it.addSack({ ...SACK, blocks: [{ start: 2, end: 3 }, { start: 4, end: 4 }], duplicates: [] }),
   '03000018 00000010 00020000 0002 0000 0002 0003 0004 0004',
@@ -101,9 +101,9 @@ both('FORWARD-TSN', it => it.addForwardTsn({ newCumulativeTsn: 16, streams: [{ s
       streams: [{ stream: 1, ssn: 2, mid: 0, isUnordered: false }, { stream: 3, ssn: 4, mid: 0, isUnordered: false }],
     },
   });
-both('I-FORWARD-TSN', it => it.addIForwardTsn({ newCumulativeTsn: 16, streams: [{ stream: 1, mid: 7, isUnordered: true }] }),
-  'c2000010 00000010 0001 0001 00000007', ChunkType.I_FORWARD_TSN, 0, {
-    forwardTsn: { newCumulativeTsn: 16, streams: [{ stream: 1, ssn: 0, mid: 7, isUnordered: true }] },
+both('I-FORWARD-TSN', it => it.addIForwardTsn({ newCumulativeTsn: 16, streams: [{ stream: 3, mid: 7, isUnordered: true }] }),
+  'c2000010 00000010 0003 0001 00000007', ChunkType.I_FORWARD_TSN, 0, {
+    forwardTsn: { newCumulativeTsn: 16, streams: [{ stream: 3, ssn: 0, mid: 7, isUnordered: true }] },
   });
 both('another type', it => it.addChunk(0xfe, 5, bytes('01')), 'fe050005 01 000000', 0xfe, 5, {});
 

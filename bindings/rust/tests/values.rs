@@ -180,10 +180,10 @@ fn chunks_are_readable() {
              SkippedStream { stream: 3, ssn: 1029, mid: 0, is_unordered: false }] }) }",
         ),
         (
-            "c2000010 00000001 00010001 00000002",
+            "c2000010 00000001 00030001 00000002",
             "Chunk { type: I-FORWARD-TSN, flags: 0x00, content: IForwardTsn(ForwardTsn { \
              new_cumulative_tsn: 1, skipped_streams: [\
-             SkippedStream { stream: 1, ssn: 0, mid: 2, is_unordered: true }] }) }",
+             SkippedStream { stream: 3, ssn: 0, mid: 2, is_unordered: true }] }) }",
         ),
         (
             "4d050006 01020000",
@@ -332,8 +332,8 @@ fn contents_are_compared_to_the_last_bit() {
             false,
         ),
         (
-            "03000018 00000001 00000002 00010001 00020003 00000004",
-            "03000018 00000001 00000002 00010001 00020003 00000005",
+            "0300001c 00000001 00000002 00020001 00020003 00050006 00000004",
+            "0300001c 00000001 00000002 00020001 00020003 00050006 00000005",
             false,
         ),
         (
@@ -373,7 +373,7 @@ fn contents_are_compared_to_the_last_bit() {
 #[test]
 fn lists_are_their_items() {
     let one = packet("0300001c 00000001 00000002 00020001 00020006 00080009 00000003");
-    let other = packet("03000018 00000004 00000005 00010001 00080009 00000006");
+    let other = packet("0300001c 00000004 00000005 00010002 00080009 00000006 00000007");
     let (one, other) = (only(&one).sack().unwrap(), only(&other).sack().unwrap());
     let mut blocks = one.gap_ack_blocks();
     assert_ne!(blocks, other.gap_ack_blocks());
