@@ -200,7 +200,7 @@ void inits()
     std::vector<parameter> parameters;
     for (parameter parameter : chunk.parameters())
         parameters.push_back(parameter);
-    CHECK(parameters.size() == 3 && chunk.causes().empty());
+    CHECK(parameters.size() == 3 && chunk.causes().empty() && chunk.causes().size() == 0);
     CHECK(parameters[0].type() == parameter_type::supported_extensions && parameters[0].offset() == 32);
     CHECK(same(parameters[0].value(), of_hex("82c0")) && parameters[0].next_offset() == 40);
     CHECK(same(parameters[0].bytes(), of_hex("8008 0006 82c0")) && same(parameters[1].bytes(), of_hex("c000 0004")));
@@ -279,7 +279,7 @@ void causes()
     std::vector<cause> causes;
     for (cause cause : only(error).causes())
         causes.push_back(cause);
-    CHECK(causes.size() == 5 && only(error).parameters().empty());
+    CHECK(causes.size() == 5 && only(error).parameters().empty() && only(error).parameters().size() == 0);
     CHECK(causes[0].code() == cause_code::missing_mandatory_parameter);
     const auto missing = causes[0].missing_parameters();
     CHECK(std::distance(missing.begin(), missing.end()) == 1 && *missing.begin() == 7);
@@ -1390,6 +1390,10 @@ void registered_lists()
     const bytes value = of_hex("0003 0001 ffff");
     const auto hmacs = parameter(parameter_type::requested_hmac_algorithm, value).as_registered()->short_numbers();
     CHECK(hmacs.to_vector() == std::vector<std::uint16_t>{3, 1, 0xffff} && hmacs.at(1) == 1 && !hmacs.at(3));
+    const ::dcsctp_parameter odd{0, 0, 5, 6};
+    std::uint16_t number = 7;
+    CHECK(!detail::short_number(value.data(), 6, &odd, 2, &number) && number == 7);
+    CHECK(detail::short_number(value.data(), 6, &odd, 1, &number) && number == 1);
     const bytes init = sealed("01000024 00000001 00000002 0003 0004 00000005 8004 0008 0003 0001 0005 0008 c0000201");
     const auto two = only(init).parameters().begin()->as_registered()->short_numbers();
     CHECK(std::distance(two.begin(), two.end()) == 2 && two.at(1) == 1 && !two.at(2));
@@ -2006,6 +2010,16 @@ void auths()
         CHECK(sign_auth(a_key, to.bytes().subspan(12)) && to.seal());
         CHECK(same(bytes_view(packet).subspan(12), wanted) && dcsctp::packet(packet).check());
     }
+
+    // A key of more than 64 bytes is hashed (RFC 2104 section 2).
+    bytes key(65);
+    for (std::size_t i = 0; i < key.size(); i++)
+        key[i] = static_cast<std::uint8_t>(i);
+    const bytes wanted = of_hex("0f000028000000031fcb5ccf1bedea2fcf77ea5189facab5cae519a42dfcf1210e93779854404b22"
+                                "0003001400000001000200030000003361620000");
+    bytes it = wanted;
+    std::fill_n(it.begin() + 8, 32, std::uint8_t{0});
+    CHECK(sign_auth(key, it) && it == wanted && verify_auth(key, it));
 }
 
 // RFC 4895 section 3.2, and 6.1: the smaller number first; of two that are equal, the shorter.

@@ -110,6 +110,17 @@ func TestAuth(t *testing.T) {
 		equal(t, "a key in it", auth.SignAuth(packet[24:30]), nil)
 		equal(t, "a key in it", auth.VerifyAuth(signed[8:14]), true)
 	}
+	// A key of more than 64 bytes is hashed (RFC 2104 section 2).
+	long := make([]byte, 65)
+	for i := range long {
+		long[i] = byte(i)
+	}
+	wanted := davgyuti.Packet(ofHex("0f000028000000031fcb5ccf1bedea2fcf77ea5189facab5cae519a42dfcf1210e93779854404b22" +
+		"0003001400000001000200030000003361620000"))
+	signed := append(davgyuti.Packet(nil), signedChunks[1]...)
+	equal(t, "a long key", chunkOf(signed).SignAuth(long), nil)
+	equal(t, "a long key", signed, wanted)
+	equal(t, "a long key", chunkOf(wanted).VerifyAuth(long), true)
 	equal(t, "no chunk", davgyuti.Chunk{}.SignAuth(nil), davgyuti.ErrBadValue)
 	chunk := chunkOf(signedChunks[0])
 	for _, offset := range []int{-1, 49, math.MaxInt, math.MinInt} {

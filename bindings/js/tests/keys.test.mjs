@@ -76,6 +76,11 @@ test('AUTH', () => {
     for (const cut of [wanted.slice(0, 7 + macSize), NOTHING])
       assert.throws(() => signAuth(KEY, cut), refused);
   }
+  // A key of more than 64 bytes is hashed (RFC 2104 section 2).
+  const long = Uint8Array.from({ length: 65 }, (_, i) => i);
+  const wanted = bytes('0f00002800000003 1fcb5ccf1bedea2fcf77ea5189facab5cae519a42dfcf1210e93779854404b22 0003001400000001000200030000003361620000');
+  assert.deepEqual(signAuth(long, bytes(rows[1][0])), wanted);
+  assert.equal(verifyAuth(long, wanted), true);
   assert.throws(() => verifyAuth('a key', NOTHING), TypeError);
 });
 
