@@ -432,6 +432,23 @@ static void unwritable(void)
     free(in.bytes);
 }
 
+/* A PKTDROP with its flags (draft-stewart-sctp-pktdrprep): its value is that of one that was added to a packet of its own. */
+static void with_flags(void)
+{
+    const struct bytes in = bytes_of("810d 0014 0c0d0e0f 000007d0 05dc 0000 13881389");
+    struct dcsctp_chunk chunk = {0};
+    struct dcsctp_registered registered;
+    struct packet own = begun(CHUNK), packet = begun(CHUNK);
+    CHECK(dcsctp_chunk_at(in.bytes, in.length, BEFORE, &chunk) && chunk.flags == 0x0d);
+    CHECK(dcsctp_registered_chunk(in.bytes, in.length, &chunk, &registered));
+    CHECK(write_item(CHUNK, DCSCTP_CHUNK_PKTDROP, &own, ROOM, &registered, in) == DCSCTP_OK);
+    CHECK(dcsctp_chunk_at(own.bytes, own.size, HEADER, &chunk) && chunk.flags == 0);
+    CHECK(dcsctp_add_chunk(packet.bytes, ROOM, &packet.size, chunk.type, 0x0d, own.bytes + chunk.value_offset,
+                           chunk.value_size) == DCSCTP_OK);
+    CHECK(packet.size == HEADER + in.length - BEFORE && !memcmp(packet.bytes + HEADER, in.bytes + BEFORE, in.length - BEFORE));
+    free(in.bytes);
+}
+
 static void each_row(void)
 {
     for (size_t i = 0; i < sizeof rows / sizeof *rows; i++) {
@@ -530,6 +547,7 @@ static void short_numbers(void)
 int main(void)
 {
     each_row();
+    with_flags();
     unwritable();
     nested();
     requests();

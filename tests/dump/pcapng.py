@@ -163,6 +163,15 @@ def is_shown(program):
     return written(shown) == [(248, 0, 16, bytes.fromhex('1388138801020304000000000b000004'), 0)]
 
 
+def is_within(program):
+    """Whether of a record with more bytes than its packet had those of the packet alone are written: the captured length is at
+    most the original one (section 4.3)."""
+    packet = bytes.fromhex('1388138801020304000000000b000004')
+    head = struct.pack('<IHHiIII', 0xa1b2c3d4, 2, 4, 0, 0, 65535, 248)
+    ran = run(program, '--pcapng', given=head + struct.pack('<IIII', 7, 0, 18, 16) + packet + b'ab')
+    return written(ran.stdout) == [(248, 7 * BILLION, 16, packet, 0)]
+
+
 def main(program, *more):
     wrong = 0
     for path in FILES:
@@ -175,6 +184,9 @@ def main(program, *more):
         wrong += len(found)
     if not is_shown(program):
         print('a packet waits for the next one')
+        wrong += 1
+    if not is_within(program):
+        print('what lies behind a packet is written with it')
         wrong += 1
     nothing = run(program, '--pcapng', '/dev/null').stdout
     if written(nothing):

@@ -330,6 +330,17 @@ class Fields(unittest.TestCase):
             self.assertIsNone(davgyuti.RawParameter(number).registered())
         self.assertEqual(davgyuti.RawParameter(5, bytearray(4)).registered(), r.Ipv4Address(ip_address(0)))  # type: ignore[arg-type]
 
+    def test_flags(self) -> None:
+        # A PKTDROP with its flags (draft-stewart-sctp-pktdrprep), and an NR-SACK with the lowest one.
+        for text in ("810d 0014 0c0d0e0f 000007d0 05dc 0000 13881389", "1001 0014 01020304 00050607 0000 0000 0000 0000"):
+            (raw,) = davgyuti.raw_chunks(packet_of(text))
+            found = raw.registered()
+            assert found
+            self.assertEqual((raw.flags, bytes(raw)), (of_hex(text)[1], of_hex(text)))
+            builder = davgyuti.PacketBuilder(5000, 5001, 0x01020304)
+            builder.add(davgyuti.RawChunk(raw.type, raw.flags, found.value))
+            self.assertEqual(builder.seal().hex(), packet_of(text).hex())
+
 
 class Lists(unittest.TestCase):
     def test_requests(self) -> None:

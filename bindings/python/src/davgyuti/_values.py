@@ -538,7 +538,8 @@ class _CausePart(_Part):
 
 @dataclass(slots=True, unsafe_hash=True)
 class RegisteredChunk(_ChunkPart):
-    """A chunk of a kind of `davgyuti.registered`, without flags: those types have none."""
+    """A chunk of a kind of `davgyuti.registered`, without flags: a RawChunk has those of a PKTDROP or an NR-SACK, beside the
+    `value` of this."""
 
     type: ClassVar[ChunkType]
     fields: ClassVar[dict[str, str]]
