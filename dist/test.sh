@@ -16,7 +16,7 @@ Needed is a C compiler. Used where they are there: Python; gcc, clang, a C++ com
 1.85 on), pip, go, node (from 18 on), tsc; musl-gcc and qemu-x86_64; for arm64 aarch64-linux-gnu-gcc and qemu-aarch64; for Windows
 x86_64-w64-mingw32-gcc and Wine; for riscv64 clang from 22 on and riscv64-linux-gnu-gcc; pion/sctp for Go. Debian has musl-tools,
 qemu-user, gcc-aarch64-linux-gnu with libc6-dev-arm64-cross, gcc-mingw-w64-x86-64, wine64 and golang-github-pion-sctp-dev. For the
-archive of a release git, and for Debian'\''s packages debhelper, lintian and mandoc, by these names.'
+archive of a release git, and for Debian'\''s packages dpkg-dev, debhelper, lintian and mandoc, by these names.'
 
 library=
 [ "${1:-}" != --library ] || { library=yes && shift; }
@@ -65,10 +65,11 @@ enter() {
     passed=0 failed=0 left_out=0
 }
 
-# Runs a command in the folder, and counts it under a name; prints the end of its output if it fails.
+# Says that what has a name begins, runs its command in the folder, and counts it; prints the end of its output if it fails.
 try() {
     local name=$1
     shift
+    printf 'dist: %s: begins\n' "$name"
     if (cd "$work" && "$@") >"$work/log" 2>&1 </dev/null; then
         passed=$((passed + 1))
         printf 'dist: %s: passed\n' "$name"
@@ -76,8 +77,7 @@ try() {
         return 0
     else
         failed=$((failed + 1))
-        printf 'dist: %s: failed\n' "$name"
-        tail -n 20 "$work/log"
+        printf 'dist: %s: failed\n%s\n' "$name" "$(tail -n 20 "$work/log")"
         return 1
     fi
 }
@@ -669,7 +669,7 @@ go_pion() {
 
 go_windows() {
     (cd "$bindings/go" && export GOPROXY=off GOFLAGS=-mod=mod GOOS=windows CGO_ENABLED=1 CC=x86_64-w64-mingw32-gcc &&
-        WINEDEBUG=-all WINEPREFIX=$work/wine go test -exec "$wine" .)
+        WINEDEBUG=-all WINEPREFIX=$work/wine go test -timeout 1h -exec "$wine" .)
 }
 
 # Also the archive that npm makes of it, in a project of its own. (`npm test` in bindings/js tries a browser too)
@@ -679,7 +679,7 @@ node_package() {
 
 go_arm64() {
     (cd "$bindings/go" && export GOPROXY=off GOFLAGS=-mod=mod GOARCH=arm64 CGO_ENABLED=1 CC=aarch64-linux-gnu-gcc &&
-        go test -ldflags '-extldflags -static' -exec qemu-aarch64 . ./internal/direct)
+        go test -timeout 1h -ldflags '-extldflags -static' -exec qemu-aarch64 . ./internal/direct)
 }
 
 python_package() {
@@ -717,6 +717,11 @@ archive() {
     "$root/dist/release.sh" --archive made && tar -xzf made/libdcsctp-*.tar.gz && mv libdcsctp-*/ archive || return
     "$root/tools/links.py" archive && (cd "$root" && dist/sbom.py 0 "$work/made") |
         grep "\"$(sha256sum <made/libdcsctp-*.tar.gz | cut -d ' ' -f 1)\""
+}
+
+# What the packages for Debian need, and isn't there, as debhelper-compat(=13).
+lacks_for_debian() {
+    (cd "$work/archive" && dpkg-checkbuilddeps 2>&1) | sed 's/.*: //; s/ (/(/g; s/\([<=>]\) /\1/g'
 }
 
 # Programs are built with what the packages for Debian install, and lintian finds nothing wrong in them.
@@ -828,10 +833,11 @@ go_and_release() {
     with 'go aarch64-linux-gnu-gcc qemu-aarch64' 'go test, arm64 under qemu' go_arm64
     with "go x86_64-w64-mingw32-gcc ${wine:-wine64}" 'go test, Windows under Wine' go_windows
     with python3 'the text of each system' systems
-    with 'git-checkout python3' 'the archive of a release' archive && with 'dh cmake' 'packages for Debian' debian
+    with 'git-checkout python3' 'the archive of a release' archive &&
+        with "dpkg-checkbuilddeps $(lacks_for_debian)" 'packages for Debian' debian
 }
 
-# Runs a group, and leaves what it printed and counted.
+# Runs a group, and leaves what it counted.
 run_group() {
     enter "$1" && "$1"
     echo "$passed $failed $left_out" >"$all/$1.counts"
@@ -841,12 +847,9 @@ run_group first
 groups=(texts cmake_and_cpp rust python_and_javascript go_and_release)
 [ "$library" ] || groups+=(programs programs_elsewhere)
 for group in "${groups[@]}"; do
-    run_group "$group" >"$all/$group.log" 2>&1 &
+    run_group "$group" &
 done
 wait
-for group in "${groups[@]}"; do
-    cat "$all/$group.log"
-done
 read -r passed failed left_out < <(awk '{ for (i = 1; i <= 3; i++) n[i] += $i } END { print n[1], n[2], n[3] }' "$all"/*.counts)
 printf 'dist: %s passed, %s failed, %s left out\n' "$passed" "$failed" "$left_out"
 [ "$failed" -eq 0 ] && [ "$(cat "$all"/*.counts | wc -l)" -eq $((${#groups[@]} + 1)) ]

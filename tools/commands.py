@@ -113,7 +113,7 @@ def run(command, wanted, work, variables):
         return ''
     for pattern, instead in OWN:
         command = re.sub(pattern, instead, command)
-    done = subprocess.run(['bash', '-c', command], cwd=work, env=variables, capture_output=True, text=True, timeout=120)
+    done = subprocess.run(['bash', '-c', command], cwd=work, env=variables, capture_output=True, text=True, timeout=1200)
     if done.returncode not in ((0, 1, 3) if 'sctp_dump ' in command else (0,)):
         return done.stderr or f'status {done.returncode}'
     return '' if wanted in (None, done.stdout) else f'printed {done.stdout}'
@@ -157,7 +157,7 @@ def main(folder):
     def report(name, outcome, why=''):
         counts[outcome] += 1
         if outcome != 'passed':
-            print(f'pages: {name}: {outcome}' + (f', since {why}' if outcome == 'left out' else f'\n{why}'))
+            print(f'pages: {name}: {outcome}' + (f', since {why}' if outcome == 'left out' else f'\n{why}'), flush=True)
 
     with tempfile.TemporaryDirectory() as made:
         is_checkout = subprocess.run(['git', '-C', ROOT, 'rev-parse'], capture_output=True).returncode == 0 if shutil.which('git') else False
