@@ -23,8 +23,9 @@ the page for browsers. Peers of WebRTC talk, and their packets are read. The las
 
 Without the toolchain rt it runs what needs none, with and without --quick: the comparisons, the texts in dist/ in each language
 that is installed, among them sctp_show over its rows and sctp_dump with each option, the C tests over the text, the commands of
-the pages, the page, and peers. It names what it leaves out. Where a text is older than its sources, and a step over the texts fails, the
-failure is printed, but not counted. The last line says that nothing was proved, and ends in N passed, M failed'
+the pages, the page, and peers. It says what begins, and names what it leaves out: what lacks a tool, or has one that is too old.
+Where a text is older than its sources, and a step over the texts fails, the failure is printed, but not counted. The last line says
+that nothing was proved, and ends in N passed, M failed'
 
 quick= library= crates=() modules=()
 case $#:${1:-} in
@@ -80,18 +81,24 @@ for_tool() {
     [ "$library" ] || "$@"
 }
 
+# Says that a step of the gate begins, and runs it.
+say() {
+    printf 'gate: %s: begins\n' "$*"
+    "$@"
+}
+
 run_gate() {
     local gate
-    compare || exit 1
+    say compare || exit 1
     # All that the gate prints but its last line, which waits for the rest.
     rt ci "${crates[@]}" | awk -v last="$work/last" 'NR > 1 { print line; fflush() } { line = $0 } END { print line > last }'
     gate=${PIPESTATUS[0]}
     if [ "$gate" -eq 0 ]; then
-        tests/refusals/test.sh && answers_rows_alone && tests/show/test.sh && for_tool tests/dump/test.sh || exit 1
+        say tests/refusals/test.sh && answers_rows_alone && say tests/show/test.sh && for_tool say tests/dump/test.sh || exit 1
         tools/take_libraries.py
-        tests/c/test.sh && dist/make.py --jobs 4 --compare "${modules[@]}" && compare_wasm && dist/test.sh ${library:+--library} &&
-            sums_agree && tools/commands.py && tools/examples.py --try && for_tool page/test.sh &&
-            for_tool tests/peers/test.sh crates/sctp_dump/out/sctp_dump || exit 1
+        say tests/c/test.sh && say dist/make.py --jobs 4 --compare "${modules[@]}" && compare_wasm &&
+            say dist/test.sh ${library:+--library} && say sums_agree && say tools/commands.py && say tools/examples.py --try &&
+            for_tool say page/test.sh && for_tool say tests/peers/test.sh crates/sctp_dump/out/sctp_dump || exit 1
     fi
     cat "$work/last"
     exit "$gate"
@@ -125,20 +132,19 @@ try_program() {
 }
 
 mode=quick passed=0 failed=0 left_out=0 older=
-# Says whether a step passed, by its status, and of one that failed what it printed. Counts what its scripts say that passed and
-# failed, or else the step, and what they left out.
+# Says whether a step passed, by its status, and of one that failed what else it printed. Counts what its scripts say that passed
+# and failed, or else the step, and what they left out.
 report() {
     local log=$work/$1.log good bad
     read -r good bad < <(awk -v status="$2" '
         match($0, /[0-9]+ (rows )?passed, [0-9]+ failed/) { split(substr($0, RSTART), n, /[^0-9]+/); good += n[1]; bad += n[2]; said = 1 }
         END { if (!said) good = !status; if (status && !bad) bad = 1; print good + 0, bad + 0 }' "$log")
     passed=$((passed + good)) left_out=$((left_out + $(grep -c 'left out, since' "$log")))
-    grep 'left out, since' "$log"
     if [ "$2" -eq 0 ]; then
         printf '%s: %s: passed\n' "$mode" "$1"
         return
     fi
-    grep -v -e ': passed$' -e 'left out, since' "$log" | head -n 40
+    grep -v -e ': passed$' -e ': begins$' -e 'left out, since' "$log" | head -n 40
     if [ "$older" ]; then
         leave_out "$1: $bad failed" "dist/ is older than the sources of" $older
     else
@@ -147,24 +153,26 @@ report() {
     fi
 }
 
-# Runs a step's command.
-step() {
-    local name=$1
-    shift
-    "$@" >"$work/$name.log" 2>&1
-    report "$name" $?
+# Says that a step begins, runs its command, and says what of it begins, passed or was left out, at once.
+run() {
+    printf '%s: %s: begins\n' "$mode" "$1"
+    "${@:2}" 2>&1 | tee "$work/$1.log" | grep --line-buffered -e ': begins$' -e ': passed' -e 'left out, since'
+    return "${PIPESTATUS[0]}"
 }
 
-# Runs a step's command beside what follows. Bash forgets how a process ended once another has its number: so a file says it.
+step() {
+    run "$@"
+    report "$1" $?
+}
+
+# The same beside what follows. Bash forgets how a process ended once another has its number: so a file says it.
 started=()
 start() {
-    local name=$1
-    shift
     {
-        "$@" >"$work/$name.log" 2>&1
-        echo $? >"$work/$name.status"
+        run "$@"
+        echo $? >"$work/$1.status"
     } &
-    started+=("$name")
+    started+=("$1")
 }
 
 # Waits for the steps that `start` began, and reports them.
@@ -239,7 +247,8 @@ has() {
     for tool in $1; do
         case $tool in
             x86-64) [ "$(uname -m)" = x86_64 ] ;;
-            python3) python3 -c 'import json, shutil' 2>/dev/null ;;
+            node-*) node -e "process.exit(parseInt(process.versions.node) < ${tool#node-} ? 1 : 0)" 2>/dev/null ;;
+            python-3.10) python3 -c 'import json, shutil, sys; sys.exit(sys.version_info < (3, 10))' 2>/dev/null ;;
             *) command -v "$tool" >/dev/null ;;
         esac || { leave_out "$2" "there is no $tool" && return 1; }
     done
@@ -253,16 +262,16 @@ with() {
 run_without_rt() {
     local cc=${CC:-cc} name
     mode='without rt'
-    with python3 comparisons compare
+    with python-3.10 comparisons compare
     # What comes now runs over the texts.
     older=$(changed_crates)
     if has "$cc x86-64" 'texts of dist'; then start 'texts of dist' dist/test.sh ${library:+--library}; fi
     with "$cc" C tests/c/test.sh 100000
-    with "$cc x86-64 python3" 'sums of packets' sums_agree
-    with "$cc x86-64 python3" 'commands of the pages' tools/commands.py
-    for_tool with node 'scripts of the page' node page/tests/units.mjs
-    for_tool with 'node python3' page page/test.sh
-    for_tool with "$cc x86-64 python3" 'real peers' tests/peers/test.sh
+    with "$cc x86-64 python-3.10" 'sums of packets' sums_agree
+    with "$cc x86-64 python-3.10" 'commands of the pages' tools/commands.py
+    for_tool with node-18 'scripts of the page' node page/tests/units.mjs
+    for_tool with 'node-20 python-3.10' page page/test.sh
+    for_tool with "$cc x86-64 python-3.10" 'real peers' tests/peers/test.sh
     finish
     for name in 'the proofs, and the rows and tests of the crates' 'refused requests' 'the code of CALLING.md' \
         'whether dist/ and the WebAssembly are what the sources give'; do

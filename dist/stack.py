@@ -3,8 +3,9 @@
 """usage: dist/stack.py --compare | --write | --help
 
 Finds, in each text of the C library in dist/, the most bytes of stack that a call of each export takes: its frames and those of the
-functions that it calls, but for those of libc. No function calls itself, on whatever way, none calls by a pointer (it only jumps by
-a table of its own), and none takes a number of bytes that isn't in the text: if one did, this would fail.
+functions that it calls, and what is used below the last one (the red zone), but for those of libc. No function calls
+itself, on whatever way, none calls by a pointer (it only jumps by a table of its own), and none takes a number of bytes that isn't in
+the text: if one did, this would fail.
 
   --compare  compares them with dist/stack.txt, and the greatest ones with the pages; status 1 if they differ
   --write    writes dist/stack.txt
@@ -25,17 +26,17 @@ HEAD = """# The most bytes of stack that a call takes, by dist/stack.py, but for
 """
 # A function, and no place in one.
 LABEL = re.compile(r'^"?(?!\.?L|l?tmp|l_|lCPI)([\w.$]+)"?:')
-# Instructions by which a function takes stack, and how many bytes; calls, and jumps, which may be calls at the end; calls and jumps by
-# a pointer; and what is just before a jump by a table.
+# Instructions by which a function takes stack, and how many bytes; by which it uses bytes below what it took (the red zone), and how
+# far; calls, and jumps, which may be calls at the end; calls and jumps by a pointer; and what is just before a jump by a table.
 X86 = {
-    "push": r"pushq\s()", "take": r"subq\s+\$(\d+), %rsp()", "unknown": r"(?:sub|and)q\s+[^,]*[%-][^,]*, %rsp",
-    "call": r"(?:callq?|j\w+)\s+([^*\s]+)", "pointer": r"callq?\s+\*", "jump": r"(?:notrack\s+)?jmpq?\s+\*",
-    "table": r"movslq\s+\(%\w+,%\w+,4\)",
+    "push": r"pushq\s()", "take": r"(?:subq\s+\$|addq\s+\$-)(\d+), %rsp()", "unknown": r"(?:sub|and)q\s+[^,]*[%-][^,]*, %rsp",
+    "below": r".*[\s,]-(\d+)\(%rsp\)", "call": r"(?:callq?|j\w+)\s+([^*\s]+)", "pointer": r"callq?\s+\*",
+    "jump": r"(?:notrack\s+)?jmpq?\s+\*", "table": r"movslq\s+\(%\w+,%\w+,4\)",
 }
 ARM = {
     "push": r"(?:stp|str)\s+.*\[sp, #-(\d+)\]!", "take": r"sub\s+sp, sp, #(\d+)(?:, lsl #(\d+))?", "unknown": r"sub\s+sp, sp, x\d+",
-    "call": r"(?:bl|b|b\.\w+|cbn?z|tbn?z)\s+(?:.*, )?(\S+)$", "pointer": r"blr\w*\s", "jump": r"br\s",
-    "table": r"ldr(?:sw|h|b)\s+\w+, \[",
+    "below": r".*\[sp, #-(\d+)\](?!!)", "call": r"(?:bl|b|b\.\w+|cbn?z|tbn?z)\s+(?:.*, )?(\S+)$", "pointer": r"blr\w*\s",
+    "jump": r"br\s", "table": r"ldr(?:sw|h|b)\s+\w+, \[",
 }
 
 
@@ -44,13 +45,13 @@ def fail(text):
 
 
 def functions(text, is_arm):
-    """Of each function its own bytes, and what it calls."""
+    """Of each function its own bytes, what it calls, and the bytes that it uses below its own."""
     words = {key: re.compile(it) for key, it in (ARM if is_arm else X86).items()}
     found, at, before = {}, None, []
     for line in text.splitlines():
         label = LABEL.match(line)
         if label:
-            at = found.setdefault(label[1], [0 if is_arm else 8, set()])
+            at = found.setdefault(label[1], [0 if is_arm else 8, set(), 0])
         line = line.strip()
         if at is None or line.startswith(".") or line.endswith(":"):
             continue
@@ -60,6 +61,8 @@ def functions(text, is_arm):
             at[0] += int(push[1] or 8)
         if take := words["take"].match(line):
             at[0] += int(take[1]) << int(take[2] or 0)
+        if below := words["below"].match(line):
+            at[2] = max(at[2], int(below[1]))
         is_by_table = any(words["table"].match(it) for it in before[-12:])
         if words["pointer"].match(line) or words["jump"].match(line) and not is_by_table:
             fail(f"calls by a pointer: {line}, after {before[-12:]}")
@@ -72,8 +75,8 @@ def functions(text, is_arm):
 def most(found, name, way=()):
     if name in way:
         fail(f"{name} calls itself: {' '.join(way)}")
-    own, calls = found[name]
-    return own + max([most(found, it, (*way, name)) for it in calls if it in found and it != name] or [0])
+    own, calls, below = found[name]
+    return own + max([below, *(most(found, it, (*way, name)) for it in calls if it in found and it != name)])
 
 
 def outside(found, name):

@@ -12,11 +12,12 @@ installed is left out, and named. The last line is: dist: N passed, M failed, K 
 FOLDER has dist/ and bindings/, as an unpacked release; without it, this checkout has. The examples are the checkout'\''s.
 --library leaves out what runs sctp_dump over captures.
 
-Needed is a C compiler. Used where they are there: Python; gcc, clang, a C++ compiler, CMake, pkg-config, cargo (from
-1.85 on), pip, go, node (from 18 on), tsc; musl-gcc and qemu-x86_64; for arm64 aarch64-linux-gnu-gcc and qemu-aarch64; for Windows
-x86_64-w64-mingw32-gcc and Wine; for riscv64 clang from 22 on and riscv64-linux-gnu-gcc; pion/sctp for Go. Debian has musl-tools,
-qemu-user, gcc-aarch64-linux-gnu with libc6-dev-arm64-cross, gcc-mingw-w64-x86-64, wine64 and golang-github-pion-sctp-dev. For the
-archive of a release git, and for Debian'\''s packages debhelper, lintian and mandoc, by these names.'
+Needed is a C compiler. Used where they are there: Python (from 3.10 on); gcc, clang, a C++ compiler, CMake, pkg-config, cargo (from
+1.85 on), pip, go (from 1.19 on), node (from 18 on), tsc; musl-gcc and qemu-x86_64; for arm64 aarch64-linux-gnu-gcc and qemu-aarch64;
+for Windows x86_64-w64-mingw32-gcc and Wine; for riscv64 clang from 22 on and riscv64-linux-gnu-gcc; pion/sctp for Go. Debian has
+musl-tools, qemu-user, gcc-aarch64-linux-gnu with libc6-dev-arm64-cross, gcc-mingw-w64-x86-64, wine64 and
+golang-github-pion-sctp-dev. For the archive of a release git, and for Debian'\''s packages dpkg-dev, what they are built with (by
+dpkg-checkbuilddeps), lintian and mandoc.'
 
 library=
 [ "${1:-}" != --library ] || { library=yes && shift; }
@@ -65,10 +66,11 @@ enter() {
     passed=0 failed=0 left_out=0
 }
 
-# Runs a command in the folder, and counts it under a name; prints the end of its output if it fails.
+# Says that what has a name begins, runs its command in the folder, and counts it; prints the end of its output if it fails.
 try() {
     local name=$1
     shift
+    printf 'dist: %s: begins\n' "$name"
     if (cd "$work" && "$@") >"$work/log" 2>&1 </dev/null; then
         passed=$((passed + 1))
         printf 'dist: %s: passed\n' "$name"
@@ -76,8 +78,7 @@ try() {
         return 0
     else
         failed=$((failed + 1))
-        printf 'dist: %s: failed\n' "$name"
-        tail -n 20 "$work/log"
+        printf 'dist: %s: failed\n%s\n' "$name" "$(tail -n 20 "$work/log")"
         return 1
     fi
 }
@@ -98,11 +99,12 @@ with() {
 
 has() {
     case $1 in
-        python3) python3 -c 'import json, shutil' 2>/dev/null ;;
+        python-3.10) python3 -c 'import json, shutil, sys; sys.exit(sys.version_info < (3, 10))' 2>/dev/null ;;
         rustc-1.85) rustc --edition 2024 --crate-type lib --emit metadata -o "$work/probe" - </dev/null 2>"$work/log" ;;
         python3-venv) python3 -c 'import ensurepip' 2>"$work/log" ;;
         Python.h) [ -f "$(python3 -c 'import sysconfig; print(sysconfig.get_path("include"))')/Python.h" ] ;;
         git-checkout) git -C "$root" rev-parse --git-dir >/dev/null 2>&1 ;;
+        go-1.19) printf '%s\n' go1.19 "$(go version 2>/dev/null | cut -d ' ' -f 3)" | sort -CV ;;
         pion) [ -d /usr/share/gocode/src/github.com/pion/sctp ] ;;
         clang-memory)
             echo 'int main(void) { return 0; }' | clang -fsanitize=memory -o "$work/probe" -x c - 2>"$work/log" && "$work/probe" ;;
@@ -119,7 +121,7 @@ expected() {
 
 # What it answers to the packets made at random, by Python: the first that runs says it, and the others have to say the same.
 answers_as_others() {
-    has python3 || return 0
+    has python-3.10 || return 0
     "$@" "$work/packets.txt" >printed || return
     [ -f answers ] || cp printed answers
     cmp printed answers
@@ -669,7 +671,7 @@ go_pion() {
 
 go_windows() {
     (cd "$bindings/go" && export GOPROXY=off GOFLAGS=-mod=mod GOOS=windows CGO_ENABLED=1 CC=x86_64-w64-mingw32-gcc &&
-        WINEDEBUG=-all WINEPREFIX=$work/wine go test -exec "$wine" .)
+        WINEDEBUG=-all WINEPREFIX=$work/wine go test -timeout 1h -exec "$wine" .)
 }
 
 # Also the archive that npm makes of it, in a project of its own. (`npm test` in bindings/js tries a browser too)
@@ -679,7 +681,7 @@ node_package() {
 
 go_arm64() {
     (cd "$bindings/go" && export GOPROXY=off GOFLAGS=-mod=mod GOARCH=arm64 CGO_ENABLED=1 CC=aarch64-linux-gnu-gcc &&
-        go test -ldflags '-extldflags -static' -exec qemu-aarch64 . ./internal/direct)
+        go test -timeout 1h -ldflags '-extldflags -static' -exec qemu-aarch64 . ./internal/direct)
 }
 
 python_package() {
@@ -719,6 +721,11 @@ archive() {
         grep "\"$(sha256sum <made/libdcsctp-*.tar.gz | cut -d ' ' -f 1)\""
 }
 
+# What the packages for Debian need, and isn't there, as debhelper-compat(=13).
+lacks_for_debian() {
+    (cd "$work/archive" && dpkg-checkbuilddeps 2>&1) | sed 's/.*: //; s/ (/(/g; s/\([<=>]\) /\1/g'
+}
+
 # Programs are built with what the packages for Debian install, and lintian finds nothing wrong in them.
 debian() {
     local package libraries
@@ -741,12 +748,12 @@ random() {
 # ---- what is tried, in groups that run side by side
 
 first() {
-    with python3 '4,000 packets are made at random' random
+    with python-3.10 '4,000 packets are made at random' random
     try 'no toolchain is on PATH' no_toolchain
     try 'the sums of MANIFEST' sums
-    with python3 'the copies in the packages' "$root/dist/make.py" --copies --compare
+    with python-3.10 'the copies in the packages' "$root/dist/make.py" --copies --compare
     try 'one version' one_version
-    with python3 'the stack of each call' "$root/dist/stack.py" --compare
+    with python-3.10 'the stack of each call' "$root/dist/stack.py" --compare
     with "$cc" 'cc -o answer answer.c dcsctp-x86_64-elf.s' answer
     with gcc 'gcc' by gcc
 }
@@ -793,7 +800,7 @@ cmake_and_cpp() {
 
 programs() {
     with "$cc" 'sctp_dump' sctp_dump "$cc"
-    with "$cc python3" 'sctp_dump, interrupted' interrupted "$cc"
+    with "$cc python-3.10" 'sctp_dump, interrupted' interrupted "$cc"
     with 'musl-gcc readelf' 'sctp_dump, as a static PIE by musl-gcc' static_pie
     with 'musl-gcc qemu-x86_64' 'sctp_dump on an old processor' old_processor
 }
@@ -816,22 +823,23 @@ rust() {
 }
 
 python_and_javascript() {
-    with python3-venv 'pip install' python_package && try 'pip wheel, of the archive of sources' python_archives &&
+    with 'python-3.10 python3-venv' 'pip install' python_package && try 'pip wheel, of the archive of sources' python_archives &&
         with Python.h 'pip install: the tests by ctypes' python_by_ctypes
     with 'node-18 npm' 'node --test' node_package
 }
 
 go_and_release() {
-    with 'go' 'go test' go_package
-    with 'go python3' 'go get, of the release' go_module
-    with 'go pion' 'Go: a net.Conn for pion/sctp' go_pion
-    with 'go aarch64-linux-gnu-gcc qemu-aarch64' 'go test, arm64 under qemu' go_arm64
-    with "go x86_64-w64-mingw32-gcc ${wine:-wine64}" 'go test, Windows under Wine' go_windows
-    with python3 'the text of each system' systems
-    with 'git-checkout python3' 'the archive of a release' archive && with 'dh cmake' 'packages for Debian' debian
+    with go-1.19 'go test' go_package
+    with 'go-1.19 python-3.10' 'go get, of the release' go_module
+    with 'go-1.19 pion' 'Go: a net.Conn for pion/sctp' go_pion
+    with 'go-1.19 aarch64-linux-gnu-gcc qemu-aarch64' 'go test, arm64 under qemu' go_arm64
+    with "go-1.19 x86_64-w64-mingw32-gcc ${wine:-wine64}" 'go test, Windows under Wine' go_windows
+    with python-3.10 'the text of each system' systems
+    with 'git-checkout python-3.10' 'the archive of a release' archive &&
+        with "dpkg-checkbuilddeps $(lacks_for_debian)" 'packages for Debian' debian
 }
 
-# Runs a group, and leaves what it printed and counted.
+# Runs a group, and leaves what it counted.
 run_group() {
     enter "$1" && "$1"
     echo "$passed $failed $left_out" >"$all/$1.counts"
@@ -841,12 +849,9 @@ run_group first
 groups=(texts cmake_and_cpp rust python_and_javascript go_and_release)
 [ "$library" ] || groups+=(programs programs_elsewhere)
 for group in "${groups[@]}"; do
-    run_group "$group" >"$all/$group.log" 2>&1 &
+    run_group "$group" &
 done
 wait
-for group in "${groups[@]}"; do
-    cat "$all/$group.log"
-done
 read -r passed failed left_out < <(awk '{ for (i = 1; i <= 3; i++) n[i] += $i } END { print n[1], n[2], n[3] }' "$all"/*.counts)
 printf 'dist: %s passed, %s failed, %s left out\n' "$passed" "$failed" "$left_out"
 [ "$failed" -eq 0 ] && [ "$(cat "$all"/*.counts | wc -l)" -eq $((${#groups[@]} + 1)) ]

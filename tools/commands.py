@@ -97,6 +97,8 @@ def environment(work):
 
 
 def has(tool):
+    if tool == 'cargo-1.85':
+        return bool(shutil.which('cargo')) and not subprocess.run(['cargo', 'read-manifest'], cwd=ROOT, capture_output=True).returncode
     return bool(importlib.util.find_spec('ensurepip') if tool == 'python3-venv' else shutil.which(tool))
 
 
@@ -113,7 +115,7 @@ def run(command, wanted, work, variables):
         return ''
     for pattern, instead in OWN:
         command = re.sub(pattern, instead, command)
-    done = subprocess.run(['bash', '-c', command], cwd=work, env=variables, capture_output=True, text=True, timeout=120)
+    done = subprocess.run(['bash', '-c', command], cwd=work, env=variables, capture_output=True, text=True, timeout=1200)
     if done.returncode not in ((0, 1, 3) if 'sctp_dump ' in command else (0,)):
         return done.stderr or f'status {done.returncode}'
     return '' if wanted in (None, done.stdout) else f'printed {done.stdout}'
@@ -157,7 +159,7 @@ def main(folder):
     def report(name, outcome, why=''):
         counts[outcome] += 1
         if outcome != 'passed':
-            print(f'pages: {name}: {outcome}' + (f', since {why}' if outcome == 'left out' else f'\n{why}'))
+            print(f'pages: {name}: {outcome}' + (f', since {why}' if outcome == 'left out' else f'\n{why}'), flush=True)
 
     with tempfile.TemporaryDirectory() as made:
         is_checkout = subprocess.run(['git', '-C', ROOT, 'rev-parse'], capture_output=True).returncode == 0 if shutil.which('git') else False
@@ -181,7 +183,7 @@ def main(folder):
                 report(f'{page}: {command}', 'left out' if why else 'failed' if fault else 'passed', why or fault)
             for begin, tried in README.items() if page == 'README.md' else ():
                 lines = next(lines for lines in blocks_of(text) if lines[0].startswith(begin))
-                tool = 'cargo' if tried is rust else 'python3-venv'
+                tool = 'cargo-1.85' if tried is rust else 'python3-venv'
                 fault = has(tool) and tried(lines, work, variables)
                 outcome = 'left out' if not has(tool) else 'failed' if fault else 'passed'
                 report(f'{page}: {lines[0]}', outcome, fault or f'there is no {tool}')

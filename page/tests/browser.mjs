@@ -10,6 +10,9 @@ const PROGRAM = process.env.CHROMIUM ?? 'chromium';
 /** Why there is no browser, or undefined if there is one. */
 export const lacking = spawnSync(PROGRAM, ['--version']).error && `no ${PROGRAM}`;
 
+/** Milliseconds that a browser may take for what a test waits for, on a loaded machine too. */
+export const LIMIT = 300_000;
+
 export class Browser {
   answers = new Map();
   number = 0;
@@ -80,8 +83,8 @@ export class Browser {
     return result.value;
   }
 
-  async until(expression, seconds = 30) {
-    for (const end = Date.now() + 1000 * seconds; Date.now() < end;) {
+  async until(expression) {
+    for (const end = Date.now() + LIMIT; Date.now() < end;) {
       if (await this.ask(`Boolean(${expression})`))
         return;
       await new Promise(resolve => setTimeout(resolve, 20));
@@ -97,8 +100,8 @@ export class Browser {
     await this.send('DOM.setFileInputFiles', { nodeId, files: paths });
   }
 
-  done(seconds) {
-    return this.until('document.body.dataset.done', seconds);
+  done() {
+    return this.until('document.body.dataset.done');
   }
 
   async press(key) {

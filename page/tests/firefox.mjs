@@ -5,6 +5,7 @@ import { existsSync, mkdtempSync, readFileSync, rmSync, writeFileSync } from 'no
 import { connect } from 'node:net';
 import { tmpdir } from 'node:os';
 import { join } from 'node:path';
+import { LIMIT } from './browser.mjs';
 
 const PROGRAM = process.env.FIREFOX ?? 'firefox-esr';
 
@@ -29,7 +30,7 @@ export class Firefox {
     it.child = spawn(PROGRAM, ['--headless', '--no-remote', '--marionette', '--profile', it.folder], { stdio: 'ignore' });
     it.ended = new Promise(resolve => it.child.on('exit', resolve));
     const path = join(it.folder, 'MarionetteActivePort');
-    for (const end = Date.now() + 60000; !existsSync(path) || !readFileSync(path, 'utf8');) {
+    for (const end = Date.now() + LIMIT; !existsSync(path) || !readFileSync(path, 'utf8');) {
       if (Date.now() > end || it.child.exitCode !== null)
         throw new Error(`${PROGRAM} doesn't start`);
       await wait(50);
@@ -86,8 +87,8 @@ export class Firefox {
     return this.run(`return ${expression};`);
   }
 
-  async until(expression, seconds = 30) {
-    for (const end = Date.now() + 1000 * seconds; Date.now() < end; await wait(20)) {
+  async until(expression) {
+    for (const end = Date.now() + LIMIT; Date.now() < end; await wait(20)) {
       if (await this.ask(`Boolean(${expression})`))
         return;
     }

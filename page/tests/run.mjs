@@ -149,9 +149,9 @@ async function inBrowser(browser) {
     return browser.ask(by('#found'));
   };
   const titled = text => browser.until(`document.getElementById('title').textContent === '${text}'`);
-  const show = async (path, seconds) => {
+  const show = async path => {
     await browser.choose(path);
-    await browser.done(seconds);
+    await browser.done();
     await wait(100);
   };
   // (the heads of the columns are a row, too)
@@ -1218,16 +1218,17 @@ async function inBrowser(browser) {
     await browser.choose(large);
     await browser.until("document.getElementById('list').getAttribute('aria-rowcount') > 100");
     // The page answers while the Worker reads.
-    const slowest = await browser.ask(`(async () => {
+    const [slowest, took] = await browser.ask(`(async () => {
+      const begun = performance.now();
       let slowest = 0;
       while (!document.body.dataset.done) {
         const started = performance.now();
         await new Promise(resolve => setTimeout(resolve));
         slowest = Math.max(slowest, performance.now() - started);
       }
-      return slowest;
+      return [slowest, performance.now() - begun];
     })()`);
-    assert.ok(slowest < 2000, `the page stood still for ${slowest} ms`);
+    assert.ok(slowest <= took / 2, `the page stood still for ${slowest} of ${took} ms`);
     assert.equal(await count(), records.length);
     assert.ok(await browser.ask("document.querySelectorAll('.row').length") < 200);
     await browser.ask("document.getElementById('list').focus()");
@@ -1239,7 +1240,7 @@ async function inBrowser(browser) {
 
   await check('more rows than a browser scrolls', async () => {
     const most = 700_000, made = Array.from({ length: most }, (_, i) => `{"line":${i + 1},"skipped":"no packet"}\n`);
-    await show(file('long.json', made.join('')), 60);
+    await show(file('long.json', made.join('')));
     assert.equal(await filter('skipped'), '700,000 of 700,000 rows');
     assert.equal(await count(), most);
     const inView = () => browser.ask(`(() => {

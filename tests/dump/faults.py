@@ -66,7 +66,7 @@ def main():
     all_cases = list(cases())
     header = struct.pack('>HHII', 5000, 5001, 1, 0)
     given = ''.join((header + it).hex() + '\n' for _, _, by_length in all_cases for it in by_length.values())
-    done = subprocess.run([sys.argv[1], '--brief'], input=given, capture_output=True, text=True, timeout=100)
+    done = subprocess.run([sys.argv[1], '--brief'], input=given, capture_output=True, text=True, timeout=600)
     lines = iter(done.stdout.splitlines())
     wrong = refused = 0
     for name, offset, by_length in all_cases:

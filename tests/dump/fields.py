@@ -74,7 +74,7 @@ def of_json(holder, packet, name=''):
 
 
 def of_program(program):
-    done = subprocess.run([program, '--json', '--places', CAPTURE], capture_output=True, check=False, timeout=100)
+    done = subprocess.run([program, '--json', '--places', CAPTURE], capture_output=True, check=False, timeout=600)
     for line in done.stdout.splitlines()[:-1]:
         packet = json.loads(line)
         yield in_order(it for it in of_json(packet, bytes.fromhex(packet['bytes'])) if it.size)
@@ -149,7 +149,7 @@ def of_pdml(holder, kind=None):
 def of_tshark():
     options = ('checksum:CRC 32c', 'reassembly:FALSE', 'tsn_analysis:FALSE', 'relative_tsns:FALSE')
     words = [word for it in options for word in ('-o', 'sctp.' + it)]
-    done = subprocess.run(['tshark', '-n', '-r', CAPTURE, '-T', 'pdml', *words], capture_output=True, check=True, timeout=100)
+    done = subprocess.run(['tshark', '-n', '-r', CAPTURE, '-T', 'pdml', *words], capture_output=True, check=True, timeout=600)
     for packet in xml.etree.ElementTree.fromstring(done.stdout).iter('packet'):
         yield [*of_fragments(in_order(of_pdml(packet)))]
 

@@ -286,7 +286,7 @@ def made(objects, is_brief):
 
 
 def run(program, words, given):
-    done = subprocess.run([program, "--time", "iso", *words], input=given, capture_output=True, cwd=DATA, timeout=100)
+    done = subprocess.run([program, "--time", "iso", *words], input=given, capture_output=True, cwd=DATA, timeout=600)
     return done.stdout.split(b"\n")[:-1]
 
 

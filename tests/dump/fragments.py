@@ -22,7 +22,7 @@ MAC, OTHER = b'\2\0\0\0\0\1\2\0\0\0\0\2', (b'\x0a\x09\0\3', b'\x0a\x09\0\2')
 
 
 def run(program, *words):
-    made = subprocess.run([program, '--json', *words], capture_output=True, text=True, timeout=60, check=False)
+    made = subprocess.run([program, '--json', *words], capture_output=True, text=True, timeout=600, check=False)
     assert made.returncode in (0, 1, 2) and made.stderr in ('', NONE), (made.returncode, made.stderr[:500])
     return [*map(json.loads, made.stdout.splitlines())]
 

@@ -101,7 +101,7 @@ def look(line, value, packet_bytes, counts):
 
 
 def run(program, words, given=b""):
-    done = subprocess.run([program, "--json", *words], input=given, capture_output=True, cwd=DATA, timeout=100)
+    done = subprocess.run([program, "--json", *words], input=given, capture_output=True, cwd=DATA, timeout=600)
     # (that one does)
     said = done.stderr.replace(b"sctp_dump: ethernet.pcap: ends inside a record\n", b"")
     if said or done.returncode not in (0, 1, 2, 3):

@@ -83,7 +83,7 @@ def printed(program, options, packets):
     capture = struct.pack("<IHHiIII", 0xA1B2C3D4, 2, 4, 0, 0, 65535, 248)
     for raw, length in packets:
         capture += struct.pack("<IIII", 0, 0, len(raw), length) + raw
-    done = subprocess.run([program, *options], input=capture, capture_output=True, timeout=100)
+    done = subprocess.run([program, *options], input=capture, capture_output=True, timeout=600)
     ends = "\n" if {"--brief", "--json"} & {*options} else "\n\n"
     # The packets aren't of one association: forms.py looks at what was sent again.
     found = re.sub(r" ~ tsn=\d+ again=\d+", "", done.stdout.decode()).rstrip("\n").split(ends)

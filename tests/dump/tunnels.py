@@ -85,7 +85,7 @@ def frames():
 
 
 def mine(program, path):
-    run = subprocess.run([program, '--json', path], capture_output=True, text=True, timeout=60, check=False)
+    run = subprocess.run([program, '--json', path], capture_output=True, text=True, timeout=600, check=False)
     assert run.returncode in (0, 1, 2) and not run.stderr, run
     keys = 'from', 'to', 'udp_source', 'udp_destination', 'tunnels', 'tag', 'length'
     return {it['packet']: [it.get(key) for key in keys] for it in [*map(json.loads, run.stdout.splitlines())][:-1] if 'packet' in it}

@@ -21,7 +21,7 @@ from layer import counts, over_the_package
 from talk import Aiortc, Browser, Chromium, Pion, Tap, talk
 
 # Seconds for a talk.
-LIMIT = 60
+LIMIT = 600
 # Who offers, and who answers; the first ends it. Then whether aiortc reads and writes its packets by the package; pion does.
 TALKS = [
     ("pion", "Chromium", True),

@@ -11,7 +11,7 @@ sctp_dump and the Python package have to read what aiortc reads and wrote, and t
 sctp_dump has to find no broken rule, one association with what each end sent, and the messages that the peers sent and got;
 tshark has to see the same chunks and TSNs. So too for two peers of aiortc, where aiortc reads and writes its packets by the
 Python package, and for pion and Chromium, where pion does by the Go package. Then bytes are changed, which has to be found.
-The last line is: peers: N passed, M failed. A talk may take 60 s.
+The last line is: peers: N passed, M failed. A talk may take 600 s.
 
 PROGRAM is sctp_dump; if none is named, it is built from the text in dist/, as the package is. FOLDER keeps the captures.
 

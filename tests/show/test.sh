@@ -103,11 +103,11 @@ if [ -z "$quick" ]; then
     echo 'error: read failed' >"$work/wanted"
     "$program" <. >"$work/printed" 2>"$work/errors"
     judge 'a directory as input' $? 1
-    if python3 -c 'import tty' 2>/dev/null; then
+    if python3 -c 'import os, tty; os.openpty()' 2>/dev/null; then
         tests/broken_input.py 13881 "$program" >"$work/printed" 2>"$work/errors"
         judge 'an input that fails after five bytes' $? 1
     else
-        echo 'show: tests/broken_input.py: left out, since there is no python3'
+        echo 'show: tests/broken_input.py: left out, since there is no pseudoterminal by python3'
     fi
     printf source=500 >"$work/wanted"
     (trap '' XFSZ && exec prlimit --fsize=10 "$program" <<<"$digits" >"$work/printed" 2>"$work/errors")

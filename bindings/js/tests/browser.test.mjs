@@ -31,7 +31,7 @@ try {
 }
 </script>`;
 
-test('in a browser', { skip: lacking, timeout: 120_000 }, async () => {
+test('in a browser', { skip: lacking, timeout: 1_200_000 }, async () => {
   const folder = mkdtempSync(join(tmpdir(), 'dcsctp-'));
   let child, server;
   try {
@@ -51,7 +51,7 @@ test('in a browser', { skip: lacking, timeout: 120_000 }, async () => {
         const words = ['--headless', '--no-sandbox', '--disable-gpu', `--user-data-dir=${folder}`];
         child = spawn(browser, [...words, `http://127.0.0.1:${server.address().port}/`], { stdio: 'ignore' });
         child.on('error', reject).on('exit', code => reject(new Error(`${browser} ended with ${code}`)));
-        setTimeout(() => reject(new Error('the page gave no answer')), 60_000).unref();
+        setTimeout(() => reject(new Error('the page gave no answer')), 600_000).unref();
       });
     });
     assert.equal(answer, examples.flatMap(it => [...lines(Uint8Array.from(Buffer.from(it, 'hex')))]).join('\n'));

@@ -80,6 +80,6 @@ async def talk() -> bool:
 if __name__ == "__main__":
     aioice.ice.get_host_addresses = lambda use_ipv4, use_ipv6: ["127.0.0.1"]
     guard()
-    came_back = asyncio.run(asyncio.wait_for(talk(), 30))
+    came_back = asyncio.run(asyncio.wait_for(talk(), 300))
     print(", ".join(f"{name} {count}" for name, count in sorted(counts.items())))
     sys.exit(not came_back)

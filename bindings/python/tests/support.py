@@ -4,7 +4,11 @@
 import importlib.util
 import os
 import random
+import re
+import shutil
+import subprocess
 import sys
+import unittest
 from collections.abc import Iterator
 from types import ModuleType
 
@@ -26,6 +30,18 @@ def module(name: str, *path: str) -> ModuleType:
     found = sys.modules[name] = importlib.util.module_from_spec(spec)
     spec.loader.exec_module(found)
     return found
+
+
+def mypy() -> list[str]:
+    """The words that check types strictly. Where there is no mypy, or an older one than 1.0, the test is left out."""
+    program = shutil.which("mypy")
+    said = subprocess.run([program, "--version"], capture_output=True, text=True).stdout if program else ""
+    version = re.match(r"mypy (\d+)\S*", said)
+    if not program or not version or int(version[1]) < 1:
+        why = f"{version[0]} is older than 1.0" if version else "there is no mypy"
+        print(f"\ntypes: left out, since {why}", file=sys.stderr)
+        raise unittest.SkipTest(why)
+    return [program, "--strict", "--cache-dir", os.devnull]
 
 
 def of_hex(text: str) -> bytes:

@@ -3,14 +3,13 @@
 
 import os
 import re
-import shutil
 import signal
 import subprocess
 import sys
 import unittest
 
 import davgyuti
-from support import HERE
+from support import HERE, mypy
 
 COOKIE_ACK = "138813884d2df52d67db78b50b000004"
 
@@ -33,7 +32,7 @@ def run(*words: str, given: str = "") -> "subprocess.CompletedProcess[str]":
         input=given,
         capture_output=True,
         text=True,
-        timeout=60,
+        timeout=600,
         cwd=HERE,
         env=environment(),
     )
@@ -118,7 +117,7 @@ class Program(unittest.TestCase):
             process.stdin.flush()
             self.assertIn("packet 1", process.stderr.readline())
             process.send_signal(signal.SIGINT)
-            self.assertEqual((process.wait(60), process.stderr.read()), (130, "python -m davgyuti: interrupted\n"))
+            self.assertEqual((process.wait(600), process.stderr.read()), (130, "python -m davgyuti: interrupted\n"))
 
     def test_show(self) -> None:
         done = run("show.py", "packets.txt")
@@ -131,10 +130,7 @@ class Types(unittest.TestCase):
         self.assertTrue(os.path.isfile(os.path.join(os.path.dirname(davgyuti.__file__), "py.typed")))
 
     def test_mypy(self) -> None:
-        mypy = shutil.which("mypy")
-        if not mypy:
-            self.skipTest("mypy isn't installed")
-        words = [mypy, "--strict", "--cache-dir", os.devnull, os.path.dirname(davgyuti.__file__)]
+        words = [*mypy(), os.path.dirname(davgyuti.__file__)]
         done = subprocess.run(words, capture_output=True, text=True)
         self.assertEqual(done.returncode, 0, done.stdout + done.stderr)
 

@@ -16,7 +16,7 @@ import tempfile
 import unittest
 
 import davgyuti
-from support import ANY_CHECKSUM, HERE, SOURCES, module, packets
+from support import ANY_CHECKSUM, HERE, SOURCES, module, mypy, packets
 from test_program import environment, run
 
 with open(os.path.join(HERE, "..", "README.md"), encoding="ascii") as file:
@@ -71,10 +71,7 @@ class Readme(unittest.TestCase):
         return done.stdout, done.stderr, done.returncode
 
     def test_types(self) -> None:
-        mypy = shutil.which("mypy")
-        if not mypy:
-            self.skipTest("mypy isn't installed")
-        words = [mypy, "--strict", "--cache-dir", os.devnull]
+        words = mypy()
         path = os.path.dirname(os.path.dirname(os.path.abspath(davgyuti.__file__)))
         with tempfile.TemporaryDirectory() as folder:
             for number, program in enumerate(re.findall(r"```python\n(.*?)```", README, re.DOTALL)):

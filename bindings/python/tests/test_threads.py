@@ -137,7 +137,7 @@ class Threads(unittest.TestCase):
                         child()
                     finally:
                         os._exit(1)
-                status, end = (0, 0), time.monotonic() + 30
+                status, end = (0, 0), time.monotonic() + 600
                 while status[0] == 0 and time.monotonic() < end:
                     status = os.waitpid(pid, os.WNOHANG)
                     time.sleep(0.001)

@@ -63,7 +63,7 @@ func TestPionForged(t *testing.T) {
 		select {
 		case err := <-ended:
 			equal(t, "the association ended", err != nil, true)
-		case <-time.After(10 * time.Second):
+		case <-time.After(5 * time.Minute):
 			t.Errorf("after %x the association goes on", []byte(forged))
 		}
 	}
