@@ -463,7 +463,7 @@ enum class action : std::uint32_t {
 /// What is done with a packet, by its verification tag.
 enum class tag_verdict : std::uint32_t {
     accept = DCSCTP_TAG_ACCEPT,                   ///< the tag is right: the packet is processed
-    establish = DCSCTP_TAG_ESTABLISH, ///< an INIT alone under the tag 0, or COOKIE ECHO first or behind AUTH: see section 5
+    establish = DCSCTP_TAG_ESTABLISH, ///< an INIT alone under the tag 0, or COOKIE ECHO first or behind one AUTH: see section 5
     out_of_the_blue = DCSCTP_TAG_OUT_OF_THE_BLUE, ///< the packet is treated as if it belonged to no association
     discard = DCSCTP_TAG_DISCARD                  ///< the packet is discarded, without an answer
 };
@@ -471,7 +471,7 @@ enum class tag_verdict : std::uint32_t {
 enum class answer : std::uint32_t {
     discard = DCSCTP_ANSWER_DISCARD,                     ///< it is discarded, without an answer
     init = DCSCTP_ANSWER_INIT,                           ///< its INIT is processed (section 5.1)
-    cookie_echo = DCSCTP_ANSWER_COOKIE_ECHO,             ///< its COOKIE ECHO, first or behind AUTH, is processed (section 5.1)
+    cookie_echo = DCSCTP_ANSWER_COOKIE_ECHO,             ///< its COOKIE ECHO, first or behind one AUTH, is processed (section 5.1)
     shutdown_complete = DCSCTP_ANSWER_SHUTDOWN_COMPLETE, ///< reply returns what is sent back
     abort = DCSCTP_ANSWER_ABORT                          ///< the same
 };
@@ -513,13 +513,13 @@ enum class rule : std::uint32_t {
     initiate_tag_zero = DCSCTP_RULE_INITIATE_TAG_ZERO,
     /// the number of outbound or inbound streams is 0 (RFC 9260 sections 3.3.2 and 3.3.3)
     no_streams = DCSCTP_RULE_NO_STREAMS,
-    /// INIT or INIT ACK advertises a window below 1,500 bytes (RFC 9260 section 6)
+    /// INIT or INIT ACK advertises a window below 1,500 bytes (RFC 9260 sections 3.3.2 and 6)
     small_window = DCSCTP_RULE_SMALL_WINDOW,
     /// INIT ACK has no State Cookie (RFC 9260 section 3.3.3)
     init_ack_cookie = DCSCTP_RULE_INIT_ACK_COOKIE,
     /// HEARTBEAT has no Heartbeat Info (RFC 9260 section 3.3.5)
     heartbeat_info = DCSCTP_RULE_HEARTBEAT_INFO,
-    /// DATA or I-DATA has no user data (RFC 9260 section 6.2)
+    /// DATA or I-DATA has no user data (RFC 9260 section 3.3.1)
     no_user_data = DCSCTP_RULE_NO_USER_DATA,
     /// an association has both DATA and I-DATA (RFC 8260 section 2.2.1)
     data_beside_idata = DCSCTP_RULE_DATA_BESIDE_IDATA,
@@ -1584,7 +1584,7 @@ class packet {
         return static_cast<dcsctp::init_fault>(::dcsctp_init_fault(bytes_.data(), bytes_.size(), is_ack));
     }
     /// Returns the rules that it breaks. Its common header and its chunks are looked at, up to the first chunk whose length
-    /// is impossible: what can't be read breaks no rule. Its CRC32c is computed here.
+    /// is impossible: a field that isn't there breaks no rule. Its CRC32c is computed here.
     [[nodiscard]] rules broken_rules(const known_association &of = {}) const noexcept
     {
         return rules(::dcsctp_broken_rules(bytes_.data(), bytes_.size(), &of));

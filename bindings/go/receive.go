@@ -71,7 +71,7 @@ type TagVerdict uint32
 const (
 	// TagAccept: the tag is right, and the packet is processed.
 	TagAccept TagVerdict = C.DCSCTP_TAG_ACCEPT
-	// TagEstablish: an INIT alone under the tag 0, or COOKIE ECHO first or behind AUTH, under any other; section 5 says what is done.
+	// TagEstablish: an INIT alone under the tag 0, or COOKIE ECHO first or behind one AUTH, under any other; section 5 says what is done.
 	// It goes where AnswerInit and AnswerCookieEcho go. Of an association that is there already INIT gets an INIT ACK with another
 	// tag, and a State Cookie with the Tie-Tags (section 5.2.2), and COOKIE ECHO what Table 12 says (section 5.2.4).
 	TagEstablish TagVerdict = C.DCSCTP_TAG_ESTABLISH
@@ -105,7 +105,7 @@ const (
 	AnswerDiscard Answer = C.DCSCTP_ANSWER_DISCARD
 	// AnswerInit: its INIT is processed (section 5.1).
 	AnswerInit Answer = C.DCSCTP_ANSWER_INIT
-	// AnswerCookieEcho: its COOKIE ECHO, first or behind AUTH, is processed (section 5.1).
+	// AnswerCookieEcho: its COOKIE ECHO, first or behind one AUTH, is processed (section 5.1).
 	AnswerCookieEcho Answer = C.DCSCTP_ANSWER_COOKIE_ECHO
 	// AnswerShutdownComplete: Header.Reply has what is sent back.
 	AnswerShutdownComplete Answer = C.DCSCTP_ANSWER_SHUTDOWN_COMPLETE
@@ -229,13 +229,13 @@ const (
 	RuleInitiateTagZero Rules = C.DCSCTP_RULE_INITIATE_TAG_ZERO
 	// RuleNoStreams: the number of outbound or inbound streams is 0 (RFC 9260 sections 3.3.2 and 3.3.3).
 	RuleNoStreams Rules = C.DCSCTP_RULE_NO_STREAMS
-	// RuleSmallWindow: INIT or INIT ACK advertises a window below 1,500 bytes (RFC 9260 section 6).
+	// RuleSmallWindow: INIT or INIT ACK advertises a window below 1,500 bytes (RFC 9260 sections 3.3.2 and 6).
 	RuleSmallWindow Rules = C.DCSCTP_RULE_SMALL_WINDOW
 	// RuleInitAckCookie: INIT ACK has no State Cookie (RFC 9260 section 3.3.3).
 	RuleInitAckCookie Rules = C.DCSCTP_RULE_INIT_ACK_COOKIE
 	// RuleHeartbeatInfo: HEARTBEAT has no Heartbeat Info (RFC 9260 section 3.3.5).
 	RuleHeartbeatInfo Rules = C.DCSCTP_RULE_HEARTBEAT_INFO
-	// RuleNoUserData: DATA or I-DATA has no user data (RFC 9260 section 6.2).
+	// RuleNoUserData: DATA or I-DATA has no user data (RFC 9260 section 3.3.1).
 	RuleNoUserData Rules = C.DCSCTP_RULE_NO_USER_DATA
 	// RuleDataBesideIData: an association has both DATA and I-DATA (RFC 8260 section 2.2.1).
 	RuleDataBesideIData Rules = C.DCSCTP_RULE_DATA_BESIDE_IDATA
@@ -293,7 +293,7 @@ type Known struct {
 }
 
 // BrokenRules returns the rules that the packet breaks. Its common header and its chunks are looked at, up to the first chunk
-// whose length is impossible: what can't be read breaks no rule. Its CRC32c is computed here.
+// whose length is impossible: a field that isn't there breaks no rule. Its CRC32c is computed here.
 func (p Packet) BrokenRules(known Known) Rules {
 	return Rules(C.go_broken_rules(bytesOf(p), C.size_t(len(p)), C.struct_dcsctp_known{
 		refuses_zero: C.bool(known.RefusesZero),

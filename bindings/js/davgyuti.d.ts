@@ -697,7 +697,7 @@ export interface Association {
 export const TagVerdict: {
   /** The tag is right: the packet is processed. */
   readonly ACCEPT: 0;
-  /** An INIT alone under the tag 0, or COOKIE ECHO first or behind AUTH: section 5 says what is done. */
+  /** An INIT alone under the tag 0, or COOKIE ECHO first or behind one AUTH: section 5 says what is done. */
   readonly ESTABLISH: 1;
   /** The packet is treated as if it belonged to no association. */
   readonly OUT_OF_THE_BLUE: 2;
@@ -714,7 +714,7 @@ export const Answer: {
   readonly DISCARD: 0;
   /** Its INIT is processed (section 5.1). */
   readonly INIT: 1;
-  /** Its COOKIE ECHO, first or behind AUTH, is processed (section 5.1). */
+  /** Its COOKIE ECHO, first or behind one AUTH, is processed (section 5.1). */
   readonly COOKIE_ECHO: 2;
   /** `reply` returns what is sent back. */
   readonly SHUTDOWN_COMPLETE: 3;
@@ -789,13 +789,13 @@ export const Rule: {
   readonly INITIATE_TAG_ZERO: 0x10;
   /** The number of outbound or inbound streams is 0 (RFC 9260 sections 3.3.2 and 3.3.3). */
   readonly NO_STREAMS: 0x20;
-  /** INIT or INIT ACK advertises a window below 1,500 bytes (RFC 9260 section 6). */
+  /** INIT or INIT ACK advertises a window below 1,500 bytes (RFC 9260 sections 3.3.2 and 6). */
   readonly SMALL_WINDOW: 0x40;
   /** INIT ACK has no State Cookie (RFC 9260 section 3.3.3). */
   readonly INIT_ACK_COOKIE: 0x80;
   /** HEARTBEAT has no Heartbeat Info (RFC 9260 section 3.3.5). */
   readonly HEARTBEAT_INFO: 0x100;
-  /** DATA or I-DATA has no user data (RFC 9260 section 6.2). */
+  /** DATA or I-DATA has no user data (RFC 9260 section 3.3.1). */
   readonly NO_USER_DATA: 0x200;
   /** An association has both DATA and I-DATA (RFC 8260 section 2.2.1). */
   readonly DATA_BESIDE_IDATA: 0x400;
@@ -829,7 +829,7 @@ export interface Known {
   hasIData?: boolean;
 }
 /** Returns the rules that a packet breaks, in the order of their numbers. Its common header and its chunks are looked at, up to the
-    first chunk whose length is impossible: what can't be read breaks no rule. Its CRC32c is computed here. */
+    first chunk whose length is impossible: a field that isn't there breaks no rule. Its CRC32c is computed here. */
 export function brokenRules(bytes: Uint8Array, known?: Known): Rule[];
 
 // ---- what is authenticated, under keys of yours

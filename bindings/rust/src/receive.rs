@@ -86,7 +86,7 @@ numbered! {
     TagVerdict;
     /// The tag is right: the packet is processed.
     Accept = 0,
-    /// An INIT alone under the tag 0, or COOKIE ECHO first or behind AUTH: section 5 says what is
+    /// An INIT alone under the tag 0, or COOKIE ECHO first or behind one AUTH: section 5 says what is
     /// done.
     Establish = 1,
     /// The packet is treated as if it belonged to no association: see [`out_of_the_blue`].
@@ -103,7 +103,7 @@ numbered! {
     Discard = 0,
     /// Its INIT is processed (section 5.1).
     Init = 1,
-    /// Its COOKIE ECHO, first or behind AUTH, is processed (section 5.1).
+    /// Its COOKIE ECHO, first or behind one AUTH, is processed (section 5.1).
     CookieEcho = 2,
     /// [`PacketBuilder::reply`](crate::PacketBuilder::reply) writes what is sent back.
     ShutdownComplete = 3,

@@ -30,7 +30,7 @@ pub enum TagVerdict {
     /// The tag is right: processes the packet.
     Accept,
     /// Follows the procedures of RFC 9260 section 5: the packet is an INIT alone under the tag 0,
-    /// or begins with COOKIE ECHO, perhaps after an AUTH, whose tag these procedures look at.
+    /// or begins with COOKIE ECHO, perhaps after one AUTH, whose tag these procedures look at.
     Establish,
     /// Treats the packet as out of the blue (RFC 9260 section 8.4).
     OutOfTheBlue,

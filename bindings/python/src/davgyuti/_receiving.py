@@ -34,7 +34,7 @@ class TagVerdict(v.Documented):
     """What is done with a packet, by its verification tag (RFC 9260 sections 8.5 and 8.5.1)."""
 
     ACCEPT = 0, "The tag is right: the packet is processed."
-    ESTABLISH = 1, "An INIT alone under the tag 0, or COOKIE ECHO first or behind AUTH: section 5 says what is done."
+    ESTABLISH = 1, "An INIT alone under the tag 0, or COOKIE ECHO first or behind one AUTH: section 5 says what is done."
     OUT_OF_THE_BLUE = 2, "The packet is treated as if it belonged to no association: see `out_of_the_blue`."
     DISCARD = 3, "The packet is discarded, without an answer."
 
@@ -44,7 +44,7 @@ class Answer(v.Documented):
 
     DISCARD = 0, "It is discarded, without an answer."
     INIT = 1, "Its INIT is processed (section 5.1)."
-    COOKIE_ECHO = 2, "Its COOKIE ECHO, first or behind AUTH, is processed (section 5.1)."
+    COOKIE_ECHO = 2, "Its COOKIE ECHO, first or behind one AUTH, is processed (section 5.1)."
     SHUTDOWN_COMPLETE = 3, "`reply` returns the SHUTDOWN COMPLETE that is sent back."
     ABORT = 4, "`reply` returns the ABORT that is sent back."
 
@@ -81,10 +81,10 @@ class Rule(v.Documented):
     TAG_ZERO = 0x8, "The verification tag is 0 with a chunk other than INIT (RFC 9260 section 8.5.1)."
     INITIATE_TAG_ZERO = 0x10, "The Initiate Tag is 0 (RFC 9260 sections 3.3.2 and 3.3.3)."
     NO_STREAMS = 0x20, "The number of outbound or inbound streams is 0 (RFC 9260 sections 3.3.2 and 3.3.3)."
-    SMALL_WINDOW = 0x40, "INIT or INIT ACK advertises a window below 1,500 bytes (RFC 9260 section 6)."
+    SMALL_WINDOW = 0x40, "INIT or INIT ACK advertises a window below 1,500 bytes (RFC 9260 sections 3.3.2 and 6)."
     INIT_ACK_COOKIE = 0x80, "INIT ACK has no State Cookie (RFC 9260 section 3.3.3)."
     HEARTBEAT_INFO = 0x100, "HEARTBEAT has no Heartbeat Info (RFC 9260 section 3.3.5)."
-    NO_USER_DATA = 0x200, "DATA or I-DATA has no user data (RFC 9260 section 6.2)."
+    NO_USER_DATA = 0x200, "DATA or I-DATA has no user data (RFC 9260 section 3.3.1)."
     DATA_BESIDE_IDATA = 0x400, "An association has both DATA and I-DATA (RFC 8260 section 2.2.1)."
     GAP_BLOCKS = 0x800, "Gap ack blocks are empty, out of order or not isolated (RFC 9260 section 3.3.4)."
     RESERVED_BITS = 0x1000, "Reserved flags are set (RFC 9260 section 3.2)."
@@ -171,7 +171,7 @@ def adds_addresses(init: v.Init, known: Buffer) -> bool:
 
 def broken_rules(data: Buffer, *, refuses_zero: bool = False, has_data: bool = False, has_i_data: bool = False) -> tuple[Rule, ...]:
     """Returns the rules that a packet breaks, in their order. Its common header and its chunks are looked at, up to the first chunk
-    whose length is impossible: what can't be read breaks no rule. Its CRC32c is computed here.
+    whose length is impossible: a field that isn't there breaks no rule. Its CRC32c is computed here.
 
     What you know of its association: `refuses_zero` says that the end to which it goes sent INIT or INIT ACK without Zero Checksum
     Acceptable (RFC 9653 section 4); `has_data` and `has_i_data`, that an end sent DATA, or I-DATA."""
