@@ -1572,7 +1572,7 @@ class packet {
         return static_cast<tag_verdict>(::dcsctp_verify_tag(bytes_.data(), bytes_.size(), &known));
     }
     /// Returns what is done with it where it belongs to no association (section 8.4); `is_unicast` says whether it is to
-    /// and from unicast addresses.
+    /// and from unicast addresses. Ask only of a packet that check accepts: other bytes may be answered too.
     [[nodiscard]] answer out_of_the_blue(bool is_unicast) const noexcept
     {
         return static_cast<answer>(::dcsctp_out_of_the_blue(bytes_.data(), bytes_.size(), is_unicast));

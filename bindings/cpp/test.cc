@@ -1563,7 +1563,8 @@ void out_of_the_blue()
         dcsctp::answer answer;
     } rows[] = {
         {bare(other_tag, {{chunk_type::shutdown_ack, 0}, {chunk_type::abort, 0}}), answer::discard},
-        {bare(0, {{chunk_type::init, 0}, {chunk_type::shutdown_ack, 0}}), answer::init},
+        {bare(0, {{chunk_type::init, 0}}), answer::init},
+        {bare(0, {{chunk_type::init, 0}, {chunk_type::shutdown_ack, 0}}), answer::discard},
         {bare(other_tag, {{chunk_type::init, 0}}), answer::abort},
         {bare(other_tag, {{chunk_type::cookie_echo, 0}, {chunk_type::shutdown_ack, 0}}), answer::cookie_echo},
         {bare(other_tag, {{chunk_type::auth, 0}, {chunk_type::cookie_echo, 0}}), answer::cookie_echo},

@@ -119,7 +119,7 @@ func (a Answer) String() string {
 }
 
 // OutOfTheBlue returns what is done with the packet where it belongs to no association (section 8.4); isUnicast says
-// whether it is to and from unicast addresses.
+// whether it is to and from unicast addresses. Ask only of a packet that Check accepts: other bytes may be answered too.
 func (p Packet) OutOfTheBlue(isUnicast bool) Answer {
 	return Answer(C.dcsctp_out_of_the_blue(bytesOf(p), C.size_t(len(p)), C.bool(isUnicast)))
 }

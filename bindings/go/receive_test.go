@@ -116,7 +116,8 @@ func TestOutOfTheBlue(t *testing.T) {
 		answer davgyuti.Answer
 	}{
 		{bareOf(other, [2]int{shutdownAck, 0}, [2]int{abort, 0}), davgyuti.AnswerDiscard},
-		{bareOf(0, [2]int{init, 0}, [2]int{shutdownAck, 0}), davgyuti.AnswerInit},
+		{bareOf(0, [2]int{init, 0}), davgyuti.AnswerInit},
+		{bareOf(0, [2]int{init, 0}, [2]int{shutdownAck, 0}), davgyuti.AnswerDiscard},
 		{bareOf(other, [2]int{init, 0}), davgyuti.AnswerAbort},
 		{bareOf(other, [2]int{echo, 0}, [2]int{shutdownAck, 0}), davgyuti.AnswerCookieEcho},
 		{bareOf(other, [2]int{int(davgyuti.ChunkAuth), 0}, [2]int{echo, 0}), davgyuti.AnswerCookieEcho},

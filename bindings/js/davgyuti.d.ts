@@ -723,7 +723,7 @@ export const Answer: {
 };
 export type Answer = Of<typeof Answer>;
 /** Returns what is done with a packet that belongs to no association (section 8.4). `isUnicast` says whether it is to and from unicast
-    addresses. */
+    addresses. Ask only of a packet that `check` accepts: other bytes may be answered too. */
 export function outOfTheBlue(bytes: Uint8Array, isUnicast: boolean): Answer;
 /** Returns what is sent back to the sender of a packet with this header: the tag reflected, with the T bit. Seal it. Throws a
     WriteError of BAD_VALUE for another answer than SHUTDOWN_COMPLETE and ABORT. */

@@ -99,7 +99,8 @@ test('packets out of the blue', () => {
   assert.equal(outOfTheBlue(error.finish(), true), Answer.ABORT);
   const rows = [
     [bare(OTHER, ['SHUTDOWN_ACK'], ['ABORT']), 'DISCARD'],
-    [bare(0, ['INIT'], ['SHUTDOWN_ACK']), 'INIT'],
+    [bare(0, ['INIT']), 'INIT'],
+    [bare(0, ['INIT'], ['SHUTDOWN_ACK']), 'DISCARD'],
     [bare(OTHER, ['INIT']), 'ABORT'],
     [bare(OTHER, ['COOKIE_ECHO'], ['SHUTDOWN_ACK']), 'COOKIE_ECHO'],
     [bare(OTHER, ['AUTH'], ['COOKIE_ECHO']), 'COOKIE_ECHO'],

@@ -134,7 +134,8 @@ class OutOfTheBlue(unittest.TestCase):
             chunk.cause(registered.StaleCookie(1000))
         for data, expected in (
             (packet(OTHER, (ChunkType.SHUTDOWN_ACK, 0), (ChunkType.ABORT, 0)), Answer.DISCARD),
-            (packet(0, (ChunkType.INIT, 0), (ChunkType.SHUTDOWN_ACK, 0)), Answer.INIT),
+            (packet(0, (ChunkType.INIT, 0)), Answer.INIT),
+            (packet(0, (ChunkType.INIT, 0), (ChunkType.SHUTDOWN_ACK, 0)), Answer.DISCARD),
             (packet(OTHER, (ChunkType.INIT, 0)), Answer.ABORT),
             (packet(OTHER, (ChunkType.COOKIE_ECHO, 0), (ChunkType.SHUTDOWN_ACK, 0)), Answer.COOKIE_ECHO),
             (packet(OTHER, (ChunkType.AUTH, 0), (ChunkType.COOKIE_ECHO, 0)), Answer.COOKIE_ECHO),

@@ -223,7 +223,7 @@ pub fn verify_tag(bytes: &[u8], association: &Association) -> TagVerdict {
 
 /// Returns what is done with a packet that belongs to no association (RFC 9260 section 8.4); looks
 /// at what [`verify_tag`] looks at. `is_unicast` says whether the packet is to and from unicast
-/// addresses.
+/// addresses. Ask only of bytes that [`check`](crate::check) accepts: others may be answered too.
 ///
 /// ```
 /// use davgyuti::Answer;

@@ -110,7 +110,8 @@ fn each_step_out_of_the_blue() {
     };
     for (bytes, expected) in [
         (of(OTHER, &[ChunkType::SHUTDOWN_ACK, ChunkType::ABORT]), Discard),
-        (of(0, &[ChunkType::INIT, ChunkType::SHUTDOWN_ACK]), Init),
+        (of(0, &[ChunkType::INIT]), Init),
+        (of(0, &[ChunkType::INIT, ChunkType::SHUTDOWN_ACK]), Discard),
         (of(OTHER, &[ChunkType::INIT]), Abort),
         (of(OTHER, &[ChunkType::COOKIE_ECHO, ChunkType::SHUTDOWN_ACK]), CookieEcho),
         (of(OTHER, &[ChunkType::AUTH, ChunkType::COOKIE_ECHO]), CookieEcho),

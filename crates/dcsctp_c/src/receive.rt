@@ -123,7 +123,8 @@ pub extern "C" fn dcsctp_verify_tag(packet: &[u8], association: &DcsctpAssociati
 
 /// Returns what is done with a packet that belongs to no association (RFC 9260 section 8.4):
 /// `ANSWER_DISCARD`, `ANSWER_INIT`, `ANSWER_COOKIE_ECHO`, `ANSWER_SHUTDOWN_COMPLETE` or
-/// `ANSWER_ABORT`. `is_unicast` says whether it is to and from unicast addresses.
+/// `ANSWER_ABORT`. `is_unicast` says whether it is to and from unicast addresses. The packet has to
+/// be correctly formed, as that section begins: otherwise it may be answered.
 #[unsafe(no_mangle)]
 pub extern "C" fn dcsctp_out_of_the_blue(packet: &[u8], is_unicast: bool) -> u32
     ensures { result ≡ answer_code (answer_to is_unicast packet.now) }

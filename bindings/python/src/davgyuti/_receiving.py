@@ -121,7 +121,9 @@ def verify_tag(data: Buffer, own_tag: int, peer_tag: int | None, *, awaits_cooki
 
 def out_of_the_blue(data: Buffer, *, is_unicast: bool) -> Answer:
     """Returns what is done with a packet that belongs to no association (RFC 9260 section 8.4); looks at what `verify_tag` looks
-    at. `is_unicast` says whether the packet is to and from unicast addresses."""
+    at. `is_unicast` says whether the packet is to and from unicast addresses.
+
+    `check` the bytes first: others may be answered too."""
     data = to_bytes(data)
     return Answer(functions.dcsctp_out_of_the_blue(data, len(data), bool(is_unicast)))
 
