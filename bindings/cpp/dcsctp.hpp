@@ -477,14 +477,15 @@ enum class answer : std::uint32_t {
 };
 /// What is wrong with a packet that carries INIT or INIT ACK: the first of these that is so.
 enum class init_fault : std::uint32_t {
-    no_fault = DCSCTP_INIT_NO_FAULT,                       ///< it can be processed
+    no_fault = DCSCTP_INIT_NO_FAULT,                       ///< none of these
     not_alone = DCSCTP_INIT_NOT_ALONE,                     ///< the packet doesn't hold this chunk alone
     too_short = DCSCTP_INIT_TOO_SHORT,                     ///< the chunk has no room for its numbers
     tag_zero = DCSCTP_INIT_TAG_ZERO,                       ///< the initiate tag is 0
     small_window = DCSCTP_INIT_SMALL_WINDOW,               ///< the window is smaller than 1,500 bytes
     no_outbound_streams = DCSCTP_INIT_NO_OUTBOUND_STREAMS, ///< their number is 0
     no_inbound_streams = DCSCTP_INIT_NO_INBOUND_STREAMS,   ///< their number is 0
-    no_state_cookie = DCSCTP_INIT_NO_STATE_COOKIE          ///< INIT ACK lacks its State Cookie
+    no_state_cookie = DCSCTP_INIT_NO_STATE_COOKIE,         ///< INIT ACK lacks its State Cookie
+    host_name_address = DCSCTP_INIT_HOST_NAME_ADDRESS      ///< it has a Host Name Address (section 3.3.2.1.4)
 };
 /// What is done with a packet whose INIT or INIT ACK isn't processed.
 enum class refusal : std::uint32_t {
@@ -1578,7 +1579,7 @@ class packet {
         return static_cast<answer>(::dcsctp_out_of_the_blue(bytes_.data(), bytes_.size(), is_unicast));
     }
     /// Returns the fault of an INIT (section 3.3.2), or of an INIT ACK (section 3.3.3) where `is_ack` is true. Of the
-    /// parameters the State Cookie alone is looked for.
+    /// parameters State Cookie and Host Name Address alone are looked for.
     [[nodiscard]] dcsctp::init_fault init_fault(bool is_ack) const noexcept
     {
         return static_cast<dcsctp::init_fault>(::dcsctp_init_fault(bytes_.data(), bytes_.size(), is_ack));

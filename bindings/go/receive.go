@@ -137,7 +137,7 @@ type InitFault uint32
 
 // The faults.
 const (
-	// InitNoFault: it can be processed.
+	// InitNoFault: none of these.
 	InitNoFault InitFault = C.DCSCTP_INIT_NO_FAULT
 	// InitNotAlone: the packet doesn't hold this chunk alone.
 	InitNotAlone InitFault = C.DCSCTP_INIT_NOT_ALONE
@@ -153,16 +153,18 @@ const (
 	InitNoInboundStreams InitFault = C.DCSCTP_INIT_NO_INBOUND_STREAMS
 	// InitNoStateCookie: INIT ACK lacks its State Cookie.
 	InitNoStateCookie InitFault = C.DCSCTP_INIT_NO_STATE_COOKIE
+	// InitHostNameAddress: it has a Host Name Address (section 3.3.2.1.4).
+	InitHostNameAddress InitFault = C.DCSCTP_INIT_HOST_NAME_ADDRESS
 )
 
 // String returns what is wrong, in a few words.
 func (f InitFault) String() string {
 	return worded(uint32(f), "fault", "no fault", "not alone", "too short", "initiate tag 0", "small window", "no outbound streams",
-		"no inbound streams", "no State Cookie")
+		"no inbound streams", "no State Cookie", "Host Name Address")
 }
 
 // InitFault returns the fault of an INIT (section 3.3.2), or of an INIT ACK (section 3.3.3) where isAck is true. Of the
-// parameters the State Cookie alone is looked for.
+// parameters State Cookie and Host Name Address alone are looked for.
 func (p Packet) InitFault(isAck bool) InitFault {
 	return InitFault(C.dcsctp_init_fault(bytesOf(p), C.size_t(len(p)), C.bool(isAck)))
 }

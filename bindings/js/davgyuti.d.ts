@@ -731,7 +731,7 @@ export function reply(header: Header, answer: Answer): Uint8Array;
 
 /** What is wrong with a packet that carries INIT or INIT ACK: the first of these that is so. */
 export const InitFault: {
-  /** It can be processed. */
+  /** None of these. */
   readonly NO_FAULT: 0;
   /** The packet doesn't hold this chunk alone. */
   readonly NOT_ALONE: 1;
@@ -746,10 +746,12 @@ export const InitFault: {
   readonly NO_INBOUND_STREAMS: 6;
   /** INIT ACK lacks its State Cookie. */
   readonly NO_STATE_COOKIE: 7;
+  /** It has a Host Name Address (section 3.3.2.1.4). */
+  readonly HOST_NAME_ADDRESS: 8;
 };
 export type InitFault = Of<typeof InitFault>;
-/** Returns the fault of an INIT (section 3.3.2), or of an INIT ACK (section 3.3.3) where `isAck` is true. Of the parameters the State
-    Cookie alone is looked for. */
+/** Returns the fault of an INIT (section 3.3.2), or of an INIT ACK (section 3.3.3) where `isAck` is true. Of the parameters State
+    Cookie and Host Name Address alone are looked for. */
 export function initFault(bytes: Uint8Array, isAck: boolean): InitFault;
 /** What is done with a packet whose INIT or INIT ACK isn't processed. */
 export const Refusal: {

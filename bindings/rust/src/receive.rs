@@ -129,6 +129,8 @@ numbered! {
     NoInboundStreams = 6,
     /// INIT ACK lacks its State Cookie.
     NoStateCookie = 7,
+    /// It has a Host Name Address (section 3.3.2.1.4).
+    HostNameAddress = 8,
 }
 
 numbered! {
@@ -241,8 +243,8 @@ pub fn out_of_the_blue(bytes: &[u8], is_unicast: bool) -> Answer {
 }
 
 /// Returns what is wrong with a packet that carries INIT (RFC 9260 section 3.3.2), or INIT ACK
-/// (section 3.3.3) where `is_ack` is true; none where it can be processed. Of its parameters the
-/// State Cookie alone is looked for.
+/// (section 3.3.3) where `is_ack` is true; none where it has none of these. Of its parameters
+/// State Cookie and Host Name Address alone are looked for.
 ///
 /// ```
 /// use davgyuti::{Init, InitFault, PacketBuilder};

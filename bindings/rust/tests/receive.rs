@@ -231,6 +231,7 @@ fn refusals_and_aborts() {
         (InitFault::NoOutboundStreams, Abort, DestroyAndAbort, invalid),
         (InitFault::NoInboundStreams, Abort, DestroyAndAbort, invalid),
         (InitFault::NoStateCookie, Discard, DestroyAndAbort, missing),
+        (InitFault::HostNameAddress, Abort, DestroyAndAbort, none),
     ] {
         assert_eq!(init_refusal(fault, false, false), of_init, "{fault:?}");
         assert_eq!(init_refusal(fault, false, true), of_init, "{fault:?}");

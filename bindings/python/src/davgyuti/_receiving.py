@@ -53,7 +53,7 @@ class InitFault(v.Documented):
     """What is wrong with a packet that carries INIT or INIT ACK (RFC 9260 sections 3.3.2 and 3.3.3): the first of these that is
     so."""
 
-    NO_FAULT = 0, "It can be processed. This alone is false."
+    NO_FAULT = 0, "None of these. This alone is false."
     NOT_ALONE = 1, "The packet doesn't hold this chunk alone."
     TOO_SHORT = 2, "The chunk has no room for its numbers."
     TAG_ZERO = 3, "The initiate tag is 0."
@@ -61,6 +61,7 @@ class InitFault(v.Documented):
     NO_OUTBOUND_STREAMS = 5, "The number of outbound streams is 0."
     NO_INBOUND_STREAMS = 6, "The number of inbound streams is 0."
     NO_STATE_COOKIE = 7, "INIT ACK lacks its State Cookie."
+    HOST_NAME_ADDRESS = 8, "It has a Host Name Address (RFC 9260 section 3.3.2.1.4)."
 
 
 class Refusal(v.Documented):
@@ -137,7 +138,7 @@ def reply(header: v.Header, answer: Answer) -> bytes:
 
 def init_fault(data: Buffer, *, is_ack: bool) -> InitFault:
     """Returns what is wrong with a packet that carries INIT (RFC 9260 section 3.3.2), or INIT ACK (section 3.3.3) where `is_ack`
-    is true. Of its parameters the State Cookie alone is looked for.
+    is true. Of its parameters State Cookie and Host Name Address alone are looked for.
 
     `check` the bytes first, and ask only of a packet with this chunk: the result is InitFault.NOT_ALONE too where there is none,
     or no packet."""
