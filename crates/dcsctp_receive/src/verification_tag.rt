@@ -41,6 +41,10 @@ pub enum TagVerdict {
 /// Returns what is done with a packet, by its Verification Tag, for this association (RFC 9260
 /// sections 8.5 and 8.5.1). Bytes without a common header are discarded.
 ///
+/// The first of these rules that applies decides, wherever the chunks lie: under the tag 0 all but an
+/// INIT alone is discarded; under another, a packet with INIT, also under the right tag; ABORT, then
+/// SHUTDOWN COMPLETE, go by the T bit; then come COOKIE ECHO, SHUTDOWN ACK and the tag.
+///
 /// The packet's chunks are looked at by their types and the T bit alone, up to the first whose
 /// length is impossible.
 pub fn verify_tag(packet: &[u8], association: &Association) -> TagVerdict
