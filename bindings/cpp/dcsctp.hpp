@@ -1785,7 +1785,8 @@ template <typename Call> outcome<std::vector<std::uint8_t>> made(std::size_t mos
 /// Returns whether an INIT adds addresses to an association that is there already (section 5.2.2): an ABORT under its
 /// initiate tag answers it, with builder::add_new_addresses, and the association stays as it is. `known` are the
 /// association's addresses, as parameters: the bytes() of each IPv4 Address and IPv6 Address, one after the other. The
-/// address that the packet came from isn't in the INIT: look at it yourself.
+/// address that the packet came from isn't in the INIT: look at it yourself. Each of the INIT's addresses is compared with
+/// each known one, both of which may be the peer's: bound how many you keep.
 [[nodiscard]] inline bool adds_addresses(const chunk &of, bytes_view known) noexcept
 {
     const bytes_view list = of.list();

@@ -207,7 +207,8 @@ func (h Header) InitAbort(initiateTag uint32, fault InitFault) (Packet, error) {
 // AddsAddresses returns whether an INIT adds addresses to an association that is there already (section 5.2.2): an ABORT under its
 // InitiateTag answers it, with AddNewAddresses, and the association stays as it is. known are the association's addresses, as
 // parameters: the Bytes of each IPv4 Address and IPv6 Address, one after the other. The address that the packet came from isn't
-// in the INIT: look at it yourself.
+// in the INIT: look at it yourself. Each of the INIT's addresses is compared with each known one, both of which may be the peer's:
+// bound how many you keep.
 func (chunk Chunk) AddsAddresses(known []byte) bool {
 	bytes, length, c := chunk.inC()
 	return bool(C.go_adds_addresses(bytes, length, &c, bytesOf(known), C.size_t(len(known))))

@@ -773,7 +773,8 @@ export function initAbort(header: Header, initiateTag: number, fault: InitFault)
 /** Returns whether an INIT adds addresses to an association that is there already (section 5.2.2): an ABORT under its initiate tag
     answers it, with `addNewAddresses`, and the association stays as it is. `known` are the association's addresses, as parameters: the
     `bytes` of each IPv4 Address and IPv6 Address, one after the other. The address that the packet came from isn't in the INIT: look
-    at it yourself. */
+    at it yourself. Each of the INIT's addresses is compared with each known one, both of which may be the peer's: bound how many
+    you keep. */
 export function addsAddresses(init: UncheckedChunk, known: Uint8Array): boolean;
 
 /** A rule of the RFCs that `check` doesn't look at, which accepts a packet that breaks it: what breaks it, and the section that gives

@@ -292,6 +292,9 @@ pub fn init_refusal(fault: InitFault, is_ack: bool, in_cookie_wait: bool) -> Ref
 /// each IPv4 Address and IPv6 Address, one after the other. The address that the packet came from is
 /// not in the INIT: look at it yourself.
 ///
+/// Each of the INIT's addresses is compared with each known one, both of which may be the peer's:
+/// bound how many you keep.
+///
 /// ```
 /// use davgyuti::Parameters;
 ///

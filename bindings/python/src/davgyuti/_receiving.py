@@ -168,7 +168,9 @@ def adds_addresses(init: v.Init, known: Buffer) -> bool:
     """Returns whether an INIT adds addresses to an association that is there already (RFC 9260 section 5.2.2): an ABORT under its
     initiate tag answers it, with `ChunkWriter.new_addresses`, and the association stays as it is. `known` are the association's
     addresses, as parameters: the bytes of each IPv4 Address and IPv6 Address, one after the other. The address that the packet
-    came from isn't in the INIT: look at it yourself."""
+    came from isn't in the INIT: look at it yourself.
+
+    Each of the INIT's addresses is compared with each known one, both of which may be the peer's: bound how many you keep."""
     return bool(functions.dcsctp_adds_addresses(*_bytes(_listed(init)[0]), *_bytes(known)))
 
 
