@@ -162,7 +162,7 @@ fn is_right(pair_key: &[u8], one: &[u8], other: &[u8], bytes: &[u8]) -> bool
 {
     let mut buffer = [0; MOST_KEY + 2 * MOST_VECTOR];
     match write_shared_key(&mut buffer, pair_key, one, other) {
-        Some(size) => verify(&buffer[..size], bytes),
+        Some(size) => verify(&buffer[..size], bytes).is_right(),
         None => false,
     }
 }
