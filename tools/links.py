@@ -3,8 +3,10 @@
 """usage: tools/links.py FOLDER | --help
 
 Follows each relative link of each .md file below FOLDER: it has to lead to a file or a folder in FOLDER, and after # to a
-heading of that page, by the names that GitHub gives headings. Prints those that lead nowhere. Links in code aren't followed.
+heading of that page, by the names that GitHub gives headings. Prints those that lead nowhere. Links in code aren't followed. Of a checkout it also prints the definitions that the list
+in docs/ARCHITECTURE.md names and that aren't there, and those of the library that it doesn't name.
 """
+import glob
 import os
 import re
 import sys
@@ -24,6 +26,23 @@ def anchors_of(text):
             name = f'{base}-{count}'
         found.add(name)
     return found
+
+
+def unlisted(root, page):
+    """What is wrong in a page's tables of definitions, whose last cells have `crate/Name`, and then `Name`, of the same crate."""
+    listed, free, crate = set(), set(), None
+    for line in page.splitlines():
+        cells = line.split('|')
+        for prefix, name, rest in re.findall(r'`(?:(\w+)/)?([\w*]+)`|(the rest)', cells[-2] if len(cells) > 2 else line):
+            if prefix:
+                crate = prefix if os.path.isdir(f'{root}/crates/{prefix}') else f'dcsctp_{prefix}'
+            if rest:
+                free.add(crate)
+            elif prefix or len(cells) > 2 and name[0] in '*ABCDEFGHIJKLMNOPQRSTUVWXYZ':
+                listed.update(glob.glob(f'{root}/crates/{crate}/specs/{name}.antt') or [f'{root}/no {crate}/{name}'])
+    there = {it for it in glob.glob(f'{root}/crates/dcsctp_*/specs/*.antt')
+             if it.split('/')[-3] not in free and not it.endswith('/Lib.antt')}
+    return [os.path.relpath(it, root) for it in sorted(there - listed) + [it for it in sorted(listed) if '/no ' in it]]
 
 
 def main(root):
@@ -49,6 +68,10 @@ def main(root):
             if not is_there or anchor and anchor not in anchors_of(pages.get(to, '')):
                 wrong += 1
                 print(f'{os.path.relpath(page, root)}: {link} leads nowhere')
+    believed = pages.get(os.path.join(root, 'docs/ARCHITECTURE.md'), '').partition('## What must be believed')[2].partition('\n## ')[0]
+    for name in unlisted(root, believed) if os.path.isdir(os.path.join(root, 'crates')) else []:
+        wrong += 1
+        print(f'docs/ARCHITECTURE.md: the list of definitions: {name}')
     if wrong or not followed:
         sys.exit(f'links: {followed} followed, {wrong} wrong')
 

@@ -109,10 +109,11 @@ class Trips:
     """Round trips of DATA, and the TSNs that are awaited."""
 
     def __init__(self):
-        self.waiting, self.trips = {}, []
+        self.waiting, self.trips, self.passed = {}, [], None
 
     def wait(self, tsn, time):
-        if len(self.waiting) < MOST_WAITING:
+        is_passed = self.passed is not None and not after(tsn, self.passed)
+        if len(self.waiting) < MOST_WAITING and not is_passed:
             self.waiting[tsn] = time
 
     def leave(self, tsn):
@@ -123,6 +124,8 @@ class Trips:
             del self.waiting[waiting]
 
     def acknowledged(self, cumulative, blocks, packet, time):
+        if self.passed is None or after(cumulative, self.passed):
+            self.passed = cumulative
         for tsn in list(self.waiting):
             offset = (tsn - cumulative) % 2 ** 32
             if offset == 0 or offset >= 2 ** 31 or any(first <= offset <= last for first, last in blocks):

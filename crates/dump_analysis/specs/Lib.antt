@@ -1,5 +1,6 @@
 pub mod Acknowledged
 pub mod Announced
+pub mod Authentication
 pub mod Buckets
 pub mod Calendar
 pub mod Channels
@@ -15,6 +16,7 @@ pub mod StaleCookies
 pub mod Table
 pub mod Tsns
 pub mod Filter
+pub mod RoundTrips
 pub mod Routes
 pub mod Transports
 pub mod Firsts

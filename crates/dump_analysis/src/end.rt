@@ -13,7 +13,7 @@ use crate::chunk_type::{
 };
 use crate::counts::{Counts, SeenPacket};
 use crate::initiation::accepts_zero;
-use crate::key_vector::KeyVectors;
+use crate::key_vectors::KeyVectors;
 use crate::packet_number::PacketNumber;
 use crate::requests::Requests;
 use crate::round_trips::RoundTrips;

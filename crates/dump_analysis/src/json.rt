@@ -411,7 +411,7 @@ fn write_chunk(typ: u8, out: &mut Text<'_>) {
 
 /// Writes the chunk types that an end listed, if it listed some.
 fn write_chunk_list(end: &End, out: &mut Text<'_>) {
-    let Some(vector) = end.vectors.last() else {
+    let Some(vector) = &end.vectors.last else {
         return;
     };
     let mut separator = ",\"chunk_list\":[";

@@ -5,7 +5,7 @@ use crate::association::{Association, Began, Ended, Established, Side};
 use crate::counts::Counts;
 use crate::delays::Delays;
 use crate::end::End;
-use crate::key_vector::KeyVectors;
+use crate::key_vectors::KeyVectors;
 use crate::moment::Moment;
 use crate::packet_number::{PacketNumber, PacketText};
 use crate::path::Path;
@@ -436,7 +436,7 @@ fn write_end(end: &End, out: &mut Text<'_>) {
 
 /// Writes the line of the chunk types that an end listed (RFC 4895 section 3.2), if it listed some.
 fn write_chunk_list(vectors: &KeyVectors, out: &mut Text<'_>) {
-    let Some(vector) = vectors.last() else {
+    let Some(vector) = &vectors.last else {
         return;
     };
     let mut separator = "  Chunk List: ";

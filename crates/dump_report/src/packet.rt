@@ -21,9 +21,9 @@ use std::fmt;
 /// there.
 ///
 /// A text of the peer is between quotation marks. What isn't UTF-8 is escaped byte by byte, as
-/// `\xff`, and so are quotation marks, backslashes, control characters, controls of the direction
-/// of text, and others that aren't seen (U+061C, U+200B to U+200F, U+2028 to U+202E, U+2060 to
-/// U+206F, U+FEFF, U+FFF9 to U+FFFB, and all from U+E0000 on).
+/// `\xff`, and so are quotation marks, backslashes, control characters, and what isn't seen:
+/// blanks other than U+0020, and Unicode's Default_Ignorable_Code_Point, with the controls of the
+/// direction of text.
 #[derive(Clone, Copy)]
 pub struct PacketReport<'a, 'f> {
     /// The packet's bytes, as far as they were captured.

@@ -53,6 +53,8 @@ pub struct EventPrinter<'h, W> {
     pub failure: Option<Failure>,
     /// How many accepted packets break each rule.
     pub warnings: Warnings,
+    /// Whether a packet of a log came, of which it is known which way it went.
+    pub has_log: bool,
     is_fragment: bool,
     authentication: AuthenticationCounts,
     files: Files,
@@ -86,6 +88,7 @@ impl<'h, W: Write> EventPrinter<'h, W> {
             counts: Counts::new(),
             failure: None,
             warnings: Warnings::new(),
+            has_log: false,
             is_fragment: false,
             authentication: AuthenticationCounts::new(),
             files: Files::new(alloc),
@@ -327,6 +330,7 @@ impl<'h, W: Write> EventPrinter<'h, W> {
             passes: true,
             key: self.options.auth_key,
         };
+        self.has_log |= packet.direction.is_some();
         let arrival = self.clock.arrival_of(seen, nanoseconds);
         if self.options.is_filtered {
             let others = self.tracker.has_label(&self.options, &packet, fault)?
