@@ -23,8 +23,9 @@ the page for browsers. Peers of WebRTC talk, and their packets are read. The las
 
 Without the toolchain rt it runs what needs none, with and without --quick: the comparisons, the texts in dist/ in each language
 that is installed, among them sctp_show over its rows and sctp_dump with each option, the C tests over the text, the commands of
-the pages, the page, and peers. It says what begins, and names what it leaves out. Where a text is older than its sources, and a step over the texts fails, the
-failure is printed, but not counted. The last line says that nothing was proved, and ends in N passed, M failed'
+the pages, the page, and peers. It says what begins, and names what it leaves out: what lacks a tool, or has one that is too old.
+Where a text is older than its sources, and a step over the texts fails, the failure is printed, but not counted. The last line says
+that nothing was proved, and ends in N passed, M failed'
 
 quick= library= crates=() modules=()
 case $#:${1:-} in
@@ -246,7 +247,7 @@ has() {
     for tool in $1; do
         case $tool in
             x86-64) [ "$(uname -m)" = x86_64 ] ;;
-            python3) python3 -c 'import json, shutil' 2>/dev/null ;;
+            python-3.10) python3 -c 'import json, shutil, sys; sys.exit(sys.version_info < (3, 10))' 2>/dev/null ;;
             *) command -v "$tool" >/dev/null ;;
         esac || { leave_out "$2" "there is no $tool" && return 1; }
     done
@@ -260,16 +261,16 @@ with() {
 run_without_rt() {
     local cc=${CC:-cc} name
     mode='without rt'
-    with python3 comparisons compare
+    with python-3.10 comparisons compare
     # What comes now runs over the texts.
     older=$(changed_crates)
     if has "$cc x86-64" 'texts of dist'; then start 'texts of dist' dist/test.sh ${library:+--library}; fi
     with "$cc" C tests/c/test.sh 100000
-    with "$cc x86-64 python3" 'sums of packets' sums_agree
-    with "$cc x86-64 python3" 'commands of the pages' tools/commands.py
+    with "$cc x86-64 python-3.10" 'sums of packets' sums_agree
+    with "$cc x86-64 python-3.10" 'commands of the pages' tools/commands.py
     for_tool with node 'scripts of the page' node page/tests/units.mjs
-    for_tool with 'node python3' page page/test.sh
-    for_tool with "$cc x86-64 python3" 'real peers' tests/peers/test.sh
+    for_tool with 'node python-3.10' page page/test.sh
+    for_tool with "$cc x86-64 python-3.10" 'real peers' tests/peers/test.sh
     finish
     for name in 'the proofs, and the rows and tests of the crates' 'refused requests' 'the code of CALLING.md' \
         'whether dist/ and the WebAssembly are what the sources give'; do

@@ -12,11 +12,12 @@ installed is left out, and named. The last line is: dist: N passed, M failed, K 
 FOLDER has dist/ and bindings/, as an unpacked release; without it, this checkout has. The examples are the checkout'\''s.
 --library leaves out what runs sctp_dump over captures.
 
-Needed is a C compiler. Used where they are there: Python; gcc, clang, a C++ compiler, CMake, pkg-config, cargo (from
-1.85 on), pip, go, node (from 18 on), tsc; musl-gcc and qemu-x86_64; for arm64 aarch64-linux-gnu-gcc and qemu-aarch64; for Windows
-x86_64-w64-mingw32-gcc and Wine; for riscv64 clang from 22 on and riscv64-linux-gnu-gcc; pion/sctp for Go. Debian has musl-tools,
-qemu-user, gcc-aarch64-linux-gnu with libc6-dev-arm64-cross, gcc-mingw-w64-x86-64, wine64 and golang-github-pion-sctp-dev. For the
-archive of a release git, and for Debian'\''s packages dpkg-dev, debhelper, lintian and mandoc, by these names.'
+Needed is a C compiler. Used where they are there: Python (from 3.10 on); gcc, clang, a C++ compiler, CMake, pkg-config, cargo (from
+1.85 on), pip, go (from 1.19 on), node (from 18 on), tsc; musl-gcc and qemu-x86_64; for arm64 aarch64-linux-gnu-gcc and qemu-aarch64;
+for Windows x86_64-w64-mingw32-gcc and Wine; for riscv64 clang from 22 on and riscv64-linux-gnu-gcc; pion/sctp for Go. Debian has
+musl-tools, qemu-user, gcc-aarch64-linux-gnu with libc6-dev-arm64-cross, gcc-mingw-w64-x86-64, wine64 and
+golang-github-pion-sctp-dev. For the archive of a release git, and for Debian'\''s packages dpkg-dev, what they are built with (by
+dpkg-checkbuilddeps), lintian and mandoc.'
 
 library=
 [ "${1:-}" != --library ] || { library=yes && shift; }
@@ -98,11 +99,12 @@ with() {
 
 has() {
     case $1 in
-        python3) python3 -c 'import json, shutil' 2>/dev/null ;;
+        python-3.10) python3 -c 'import json, shutil, sys; sys.exit(sys.version_info < (3, 10))' 2>/dev/null ;;
         rustc-1.85) rustc --edition 2024 --crate-type lib --emit metadata -o "$work/probe" - </dev/null 2>"$work/log" ;;
         python3-venv) python3 -c 'import ensurepip' 2>"$work/log" ;;
         Python.h) [ -f "$(python3 -c 'import sysconfig; print(sysconfig.get_path("include"))')/Python.h" ] ;;
         git-checkout) git -C "$root" rev-parse --git-dir >/dev/null 2>&1 ;;
+        go-1.19) printf '%s\n' go1.19 "$(go version 2>/dev/null | cut -d ' ' -f 3)" | sort -CV ;;
         pion) [ -d /usr/share/gocode/src/github.com/pion/sctp ] ;;
         clang-memory)
             echo 'int main(void) { return 0; }' | clang -fsanitize=memory -o "$work/probe" -x c - 2>"$work/log" && "$work/probe" ;;
@@ -119,7 +121,7 @@ expected() {
 
 # What it answers to the packets made at random, by Python: the first that runs says it, and the others have to say the same.
 answers_as_others() {
-    has python3 || return 0
+    has python-3.10 || return 0
     "$@" "$work/packets.txt" >printed || return
     [ -f answers ] || cp printed answers
     cmp printed answers
@@ -746,12 +748,12 @@ random() {
 # ---- what is tried, in groups that run side by side
 
 first() {
-    with python3 '4,000 packets are made at random' random
+    with python-3.10 '4,000 packets are made at random' random
     try 'no toolchain is on PATH' no_toolchain
     try 'the sums of MANIFEST' sums
-    with python3 'the copies in the packages' "$root/dist/make.py" --copies --compare
+    with python-3.10 'the copies in the packages' "$root/dist/make.py" --copies --compare
     try 'one version' one_version
-    with python3 'the stack of each call' "$root/dist/stack.py" --compare
+    with python-3.10 'the stack of each call' "$root/dist/stack.py" --compare
     with "$cc" 'cc -o answer answer.c dcsctp-x86_64-elf.s' answer
     with gcc 'gcc' by gcc
 }
@@ -798,7 +800,7 @@ cmake_and_cpp() {
 
 programs() {
     with "$cc" 'sctp_dump' sctp_dump "$cc"
-    with "$cc python3" 'sctp_dump, interrupted' interrupted "$cc"
+    with "$cc python-3.10" 'sctp_dump, interrupted' interrupted "$cc"
     with 'musl-gcc readelf' 'sctp_dump, as a static PIE by musl-gcc' static_pie
     with 'musl-gcc qemu-x86_64' 'sctp_dump on an old processor' old_processor
 }
@@ -821,19 +823,19 @@ rust() {
 }
 
 python_and_javascript() {
-    with python3-venv 'pip install' python_package && try 'pip wheel, of the archive of sources' python_archives &&
+    with 'python-3.10 python3-venv' 'pip install' python_package && try 'pip wheel, of the archive of sources' python_archives &&
         with Python.h 'pip install: the tests by ctypes' python_by_ctypes
     with 'node-18 npm' 'node --test' node_package
 }
 
 go_and_release() {
-    with 'go' 'go test' go_package
-    with 'go python3' 'go get, of the release' go_module
-    with 'go pion' 'Go: a net.Conn for pion/sctp' go_pion
-    with 'go aarch64-linux-gnu-gcc qemu-aarch64' 'go test, arm64 under qemu' go_arm64
-    with "go x86_64-w64-mingw32-gcc ${wine:-wine64}" 'go test, Windows under Wine' go_windows
-    with python3 'the text of each system' systems
-    with 'git-checkout python3' 'the archive of a release' archive &&
+    with go-1.19 'go test' go_package
+    with 'go-1.19 python-3.10' 'go get, of the release' go_module
+    with 'go-1.19 pion' 'Go: a net.Conn for pion/sctp' go_pion
+    with 'go-1.19 aarch64-linux-gnu-gcc qemu-aarch64' 'go test, arm64 under qemu' go_arm64
+    with "go-1.19 x86_64-w64-mingw32-gcc ${wine:-wine64}" 'go test, Windows under Wine' go_windows
+    with python-3.10 'the text of each system' systems
+    with 'git-checkout python-3.10' 'the archive of a release' archive &&
         with "dpkg-checkbuilddeps $(lacks_for_debian)" 'packages for Debian' debian
 }
 

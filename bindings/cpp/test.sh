@@ -51,8 +51,11 @@ for compiler in g++ clang++; do
     if ! { "$compiler" "${sanitizers[@]}" -o "$work/probe" "$work/probe.cc" && "$work/probe"; } >"$work/log" 2>&1; then
         echo "bindings/cpp: $compiler has no sanitizers" && sanitizers=()
     fi
-    "$compiler" -std=c++20 "${flags[@]}" -fsyntax-only test.cc
-    for standard in 17 2b; do
+    for standard in 20 17 2b; do
+        if ! "$compiler" -std=c++$standard -fsyntax-only "$work/probe.cc" 2>"$work/log"; then
+            echo "bindings/cpp: left out, since $compiler hasn't it: C++$standard" && continue
+        fi
+        [ $standard != 20 ] || { "$compiler" -std=c++20 "${flags[@]}" -fsyntax-only test.cc && continue; }
         "$compiler" -std=c++$standard "${flags[@]}" "${sanitizers[@]}" -Wl,--wrap=malloc,--wrap=realloc -o "$work/test" test.cc "$text"
         "$work/test" "${rows[@]}"
         tried=$((tried + 1))

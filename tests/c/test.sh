@@ -52,7 +52,10 @@ left_out() {
 }
 
 has() {
-    command -v "$1" >/dev/null
+    case $1 in
+        python-3.10) python3 -c 'import json, shutil, sys; sys.exit(sys.version_info < (3, 10))' 2>/dev/null ;;
+        *) command -v "$1" >/dev/null ;;
+    esac
 }
 
 finish() {
@@ -282,14 +285,14 @@ else
     try 'the library is built from the text in dist/' tools/build.sh --text "$prefix"
 fi
 [ "$failed" -eq 0 ] || finish
-if has python3; then
+if has python-3.10; then
     try 'the header declares the library' tools/check_header.py
     try 'a wrong header is noticed' tools/check_header.py --must-fail
     try 'the binary interface is that of dist/dcsctp.abi' tools/abi.py
     try 'another binary interface is noticed' tools/abi.py --must-fail
     try 'sizes, offsets and prototypes' interface_is_the_compilers
 else
-    left_out python3 'the header against the library'
+    left_out python-3.10 'the header against the library'
 fi
 try 'the header is C99' header_is_c99
 try 'values' assertions_hold
@@ -324,10 +327,10 @@ if has valgrind; then
 else
     left_out valgrind 'the instructions that it takes to compare HMACs'
 fi
-if has python3; then
+if has python-3.10; then
     try 'the example with several addresses, beside Python, scapy and tshark' multihomed
 else
-    left_out python3 'the example with several addresses'
+    left_out python-3.10 'the example with several addresses'
 fi
 try "the responder's answers, those of the responders in other languages too" rows
 if has_usrsctp; then

@@ -75,8 +75,8 @@ leave_out() {
 if [ -n "$quick" ]; then
     look() { :; }
     leave_out() { :; }
-elif ! python3 -c 'import json, shutil' 2>/dev/null; then
-    look() { leave_out "$1" python3; }
+elif ! python3 -c 'import json, shutil, sys; sys.exit(sys.version_info < (3, 10))' 2>/dev/null; then
+    look() { leave_out "$1" python-3.10; }
 fi
 
 # The same, if the tools that the first word names are there.
