@@ -410,7 +410,8 @@ def _sack_lists(data: bytes, chunk: Any, size: int) -> tuple[tuple[v.GapAckBlock
 
 def _blocks(pairs: Iterator[tuple[int, ...]]) -> tuple[v.GapAckBlock, ...]:
     # (`_make` calls the same, one by one)
-    return tuple(map(tuple.__new__, repeat(v.GapAckBlock), pairs))  # type: ignore[arg-type]
+    make: Any = tuple.__new__
+    return tuple(map(make, repeat(v.GapAckBlock), pairs))
 
 
 def _shutdown(data: bytes, chunk: c.Chunk) -> v.Shutdown | None:
@@ -653,8 +654,10 @@ _CAUSES: _Kinds = {
     v.CauseCode.USER_INITIATED_ABORT: lambda data, item: v.UserInitiatedAbort(_item_value(data, item)),
     v.CauseCode.PROTOCOL_VIOLATION: lambda data, item: v.ProtocolViolation(_item_value(data, item)),
 }
-_parameter, _parameters = (partial(it, _PARAMETERS, _raw_parameter) for it in (_part, _parts))
-_cause, _causes = (partial(it, _CAUSES, _raw_cause) for it in (_part, _parts))
+_parameter: Callable[..., Any] = partial(_part, _PARAMETERS, _raw_parameter)
+_parameters: Callable[..., Any] = partial(_parts, _PARAMETERS, _raw_parameter)
+_cause: Callable[..., Any] = partial(_part, _CAUSES, _raw_cause)
+_causes: Callable[..., Any] = partial(_parts, _CAUSES, _raw_cause)
 
 # ---- the rest of the registry
 

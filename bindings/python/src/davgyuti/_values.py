@@ -35,7 +35,8 @@ class Documented(Named):
 
     _value_: int
 
-    def __new__(cls, number: int, text: str) -> "Documented":
+    # (for mypy `Result(0)` calls this, and not the lookup of a member)
+    def __new__(cls, number: int, text: str = "") -> "Documented":
         member = int.__new__(cls, number)
         member._value_ = number
         member.__doc__ = text

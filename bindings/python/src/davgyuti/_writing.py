@@ -93,7 +93,7 @@ def _registered(part: Any) -> tuple[Any, bytes, c_size_t]:
     return byref(values), *_bytes(data)
 
 
-def _parts(kind: type, name: str, parts: Iterable[Any]) -> bytes:
+def _parts(kind: type[Any], name: str, parts: Iterable[Any]) -> bytes:
     """A list of parameters or error causes, as it is written: all but the last with their padding."""
     data = bytearray()
     for it in parts:
@@ -191,7 +191,7 @@ _PARAMETER_RECORDS: dict[type, Callable[[Any], bytes]] = {
     v.ForwardTsnSupported: lambda it: _FORWARD_TSN_SUPPORTED,
     v.ZeroChecksumAcceptable: lambda it: _NUMBER(NUMBER, it.method, v.ParameterType.ZERO_CHECKSUM_ACCEPTABLE),
 }
-_FORWARD_TSN_SUPPORTED = _parameter_record(v.ParameterType.FORWARD_TSN_SUPPORTED)
+_FORWARD_TSN_SUPPORTED: bytes = _parameter_record(v.ParameterType.FORWARD_TSN_SUPPORTED)
 _HEARTBEAT, _HEARTBEAT_ACK, _COOKIE_ACK = map(
     _chunk_record, (v.ChunkType.HEARTBEAT, v.ChunkType.HEARTBEAT_ACK, v.ChunkType.COOKIE_ACK)
 )
