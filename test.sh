@@ -247,6 +247,7 @@ has() {
     for tool in $1; do
         case $tool in
             x86-64) [ "$(uname -m)" = x86_64 ] ;;
+            node-*) node -e "process.exit(parseInt(process.versions.node) < ${tool#node-} ? 1 : 0)" 2>/dev/null ;;
             python-3.10) python3 -c 'import json, shutil, sys; sys.exit(sys.version_info < (3, 10))' 2>/dev/null ;;
             *) command -v "$tool" >/dev/null ;;
         esac || { leave_out "$2" "there is no $tool" && return 1; }
@@ -268,8 +269,8 @@ run_without_rt() {
     with "$cc" C tests/c/test.sh 100000
     with "$cc x86-64 python-3.10" 'sums of packets' sums_agree
     with "$cc x86-64 python-3.10" 'commands of the pages' tools/commands.py
-    for_tool with node 'scripts of the page' node page/tests/units.mjs
-    for_tool with 'node python-3.10' page page/test.sh
+    for_tool with node-18 'scripts of the page' node page/tests/units.mjs
+    for_tool with 'node-20 python-3.10' page page/test.sh
     for_tool with "$cc x86-64 python-3.10" 'real peers' tests/peers/test.sh
     finish
     for name in 'the proofs, and the rows and tests of the crates' 'refused requests' 'the code of CALLING.md' \

@@ -32,6 +32,7 @@ import argparse
 import glob
 import os
 import platform
+import re
 import shutil
 import subprocess
 import sys
@@ -90,10 +91,15 @@ def run(*words, **options):
     return ran.stdout
 
 
-def needed(tool):
+def needed(tool, least=(0,)):
+    """The path of a tool, which is at least of this version."""
     found = shutil.which(tool)
     if not found:
         raise Missing('%s is not there' % tool)
+    if any(least):
+        said = run(found, '--version' if tool == 'node' else 'version')
+        if tuple(map(int, re.search(r'(\d+)\.(\d+)', said).groups())) < least:
+            raise Missing('%s is older than %s' % (said.strip(), '.'.join(map(str, least))))
     return found
 
 
@@ -204,7 +210,7 @@ davgyuti = { path = "%s" }
 
 def rust_program():
     folder = os.path.join(OUT, 'rust')
-    cargo = needed('cargo')
+    cargo = needed('cargo', (1, 85))
     os.makedirs(folder, exist_ok=True)
     with open(os.path.join(folder, 'Cargo.toml'), 'w', encoding='utf-8') as file:
         file.write(CARGO % (os.path.join(BENCH, 'plain.rs'), ROOT))
@@ -239,7 +245,7 @@ def ctypes_program():
 
 def go_program():
     needed('gcc')
-    go, pion = needed('go'), os.path.join(GO_PATH, 'src', 'github.com', 'pion', 'sctp')
+    go, pion = needed('go', (1, 19)), os.path.join(GO_PATH, 'src', 'github.com', 'pion', 'sctp')
     if not os.path.isdir(pion):
         raise Missing('pion/sctp is not there')
     # A GOPATH with a copy of pion among whose files ours is, and the package.
@@ -253,7 +259,7 @@ def go_program():
 
 
 def javascript_program():
-    node = needed('node')
+    node = needed('node', (18,))
     return [node, os.path.join(BENCH, 'plain.mjs')], {}, 'node ' + run(node, '--version').strip()
 
 

@@ -5,7 +5,7 @@
 Tries which text of dist/ each package takes on each system, on whichever this runs: Python's backend.py under other names of
 the system, the conditions of Rust's text.rs under the cfgs of each target, also of those in its README.md, the files that Go
 lists, and CMakeLists.txt by `cmake -P`. Nothing is compiled. FOLDER has dist/ and bindings/; without it, this checkout has.
-What isn't installed (rustc, go, cmake) is left out, and named.
+What isn't installed (rustc from 1.85 on, go, cmake) is left out, and named.
 """
 
 import filecmp
@@ -176,26 +176,34 @@ def of_cmake(folder, system, processor):
     return re.search(r"^text (.*)", ran.stderr, re.M)[1]
 
 
+def has(tool):
+    if tool == "rustc-1.85":
+        words = ["rustc", "--edition", "2024", "--print", "cfg"]
+        return shutil.which("rustc") and not subprocess.run(words, capture_output=True).returncode
+    return shutil.which(tool)
+
+
 def main():
     folder = os.path.abspath(sys.argv[1] if len(sys.argv) > 1 else os.path.join(os.path.dirname(__file__), os.pardir))
     tried, wrong = 0, 0
-    packages = {"Python": (of_python, None), "Rust": (of_rust, "rustc"), "Go": (of_go, "go"), "CMake": (of_cmake, "cmake")}
-    for package, (_, tool) in packages.items():
-        if tool and not shutil.which(tool):
+    packages = {"Python": (of_python, None), "Rust": (of_rust, "rustc-1.85"), "Go": (of_go, "go"), "CMake": (of_cmake, "cmake")}
+    for package, (_, tool) in list(packages.items()):
+        if tool and not has(tool):
             print(f"{package}: left out, since there is no {tool}")
+            del packages[package]
     for line in SYSTEMS.split("\n")[1:-1]:
         text, python, machine, target, go, cmake, processor = line.split()
         expected = None if text == "-" else f"dcsctp-{text}.s"
         names = {"Python": (python, machine), "Rust": (target,), "Go": (go,), "CMake": (cmake, processor)}
-        for package, (of, tool) in packages.items():
-            if names[package][0] == "-" or tool and not shutil.which(tool):
+        for package, (of, _) in packages.items():
+            if names[package][0] == "-":
                 continue
             found = of(folder, *names[package])
             tried += 1
             if found != expected:
                 wrong += 1
                 print(f"{package} on {' '.join(names[package])}: takes {found}, not {expected}")
-    for target, expected, found in targets_of_rust(folder) if shutil.which("rustc") else ():
+    for target, expected, found in targets_of_rust(folder) if "Rust" in packages else ():
         tried += 1
         if found != expected:
             wrong += 1

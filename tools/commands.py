@@ -97,6 +97,8 @@ def environment(work):
 
 
 def has(tool):
+    if tool == 'cargo-1.85':
+        return bool(shutil.which('cargo')) and not subprocess.run(['cargo', 'read-manifest'], cwd=ROOT, capture_output=True).returncode
     return bool(importlib.util.find_spec('ensurepip') if tool == 'python3-venv' else shutil.which(tool))
 
 
@@ -181,7 +183,7 @@ def main(folder):
                 report(f'{page}: {command}', 'left out' if why else 'failed' if fault else 'passed', why or fault)
             for begin, tried in README.items() if page == 'README.md' else ():
                 lines = next(lines for lines in blocks_of(text) if lines[0].startswith(begin))
-                tool = 'cargo' if tried is rust else 'python3-venv'
+                tool = 'cargo-1.85' if tried is rust else 'python3-venv'
                 fault = has(tool) and tried(lines, work, variables)
                 outcome = 'left out' if not has(tool) else 'failed' if fault else 'passed'
                 report(f'{page}: {lines[0]}', outcome, fault or f'there is no {tool}')
