@@ -20,6 +20,7 @@ pub mod Event
 pub mod Reassembly
 pub mod Expanded
 pub mod Decoding
+pub mod HexBytes
 pub mod PcapEvents
 pub mod Text
 pub mod Pcapng

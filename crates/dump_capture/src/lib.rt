@@ -2,8 +2,8 @@
 //! text.
 //!
 //! Every function takes bytes in memory. What is returned of files and frames, a definition of
-//! `specs/` says; what lines of text hold is tested. Only `TextDecoder::new`,
-//! `PcapngDecoder::new` and what puts fragments together allocate.
+//! `specs/` says, and so it does what digits say; the forms of lines of text are tested. Only
+//! `TextDecoder::new`, `PcapngDecoder::new` and what puts fragments together allocate.
 #![tactic(auto)]
 
 pub mod decoder;
@@ -29,6 +29,7 @@ pub mod pcapng_decoder;
 mod ppp;
 pub mod reassembler;
 pub mod reassembly;
+mod row;
 pub mod stamp;
 pub mod text;
 mod tunnel;
