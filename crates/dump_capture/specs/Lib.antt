@@ -14,6 +14,7 @@ pub mod Frame
 pub mod Tunnels
 pub mod IpFragment
 pub mod Found
+pub mod Icmp
 pub mod Stamp
 pub mod Sent
 pub mod Event

@@ -15,6 +15,7 @@ mod geneve;
 mod gre;
 mod gtp;
 pub mod hex_bytes;
+pub mod icmp;
 pub mod ip_fragment;
 pub mod laws;
 pub mod line;
