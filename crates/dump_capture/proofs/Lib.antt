@@ -9,6 +9,7 @@ pub mod JoinedPackets
 pub mod Readings
 pub mod Fronts
 pub mod PcapItems
+pub mod HexLemmas
 pub mod Handed
 pub mod TextLines
 pub mod Options

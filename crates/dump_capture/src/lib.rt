@@ -2,8 +2,8 @@
 //! text.
 //!
 //! Every function takes bytes in memory. What is returned of files and frames, a definition of
-//! `specs/` says; what lines of text hold is tested. Only `TextDecoder::new`,
-//! `PcapngDecoder::new` and what puts fragments together allocate.
+//! `specs/` says, and so it does what digits say; the forms of lines of text are tested. Only
+//! `TextDecoder::new`, `PcapngDecoder::new` and what puts fragments together allocate.
 #![tactic(auto)]
 
 pub mod decoder;
@@ -15,6 +15,7 @@ mod geneve;
 mod gre;
 mod gtp;
 pub mod hex_bytes;
+pub mod icmp;
 pub mod ip_fragment;
 pub mod laws;
 pub mod line;
@@ -29,6 +30,7 @@ pub mod pcapng_decoder;
 mod ppp;
 pub mod reassembler;
 pub mod reassembly;
+mod row;
 pub mod stamp;
 pub mod text;
 mod tunnel;

@@ -86,8 +86,8 @@ impl<'a, 'f> fmt::Display for PacketJson<'a, 'f> {
     }
 }
 
-/// What can be read of a packet, in one line that has no line break: its tag, or `-` without a
-/// header, what is known of its checksum field (`right`, `zero`, `wrong`, `unknown`), and its
+/// What can be read of a packet, in one line that has no line break: its tag, or `-` if it has none,
+/// what is known of its checksum field (`right`, `zero`, `wrong`, `unknown`), and its
 /// chunks, with ` | ` between each two. A refused packet ends in `! KIND at OFFSET: REASON`, and
 /// one that was cut off, if it has no fault, in `! cut off`.
 ///

@@ -120,6 +120,7 @@ unread c part.NoInterface = record c { malformed = one_more c.malformed }
 unread c part.TooLong = record c { long = one_more c.long }
 unread c part.Unknown = record c { unknown = one_more c.unknown }
 unread c part.Apart = record c { unknown = one_more c.unknown }
+unread c part.UnreadDump = record c { unknown = one_more c.unknown }
 
 abbrev pub CountsFrame : Options → Counts → Result Packet NoPacket → Counts → Type 0
 CountsFrame o before (Ok p) after = CountsPacket o before p after

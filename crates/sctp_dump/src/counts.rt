@@ -252,7 +252,9 @@ impl Counts {
             }
             Skipped::Malformed | Skipped::NoInterface => increase(&mut self.malformed),
             Skipped::TooLong => increase(&mut self.long),
-            Skipped::Unknown | Skipped::Apart => increase(&mut self.unknown),
+            Skipped::Unknown | Skipped::Apart | Skipped::UnreadDump => {
+                increase(&mut self.unknown)
+            }
         }
     }
 }

@@ -48,7 +48,8 @@ impl fmt::Display for Failure {
             Failure::Open(None) => "can't be opened",
             Failure::Arguments => "the arguments can't be read",
             Failure::Usage(usage) => usage,
-            Failure::Compressed => "is compressed by gzip: zcat FILE | sctp_dump reads it",
+            Failure::Compressed =>
+                "is compressed: zcat, xzcat, zstdcat or bzcat FILE | sctp_dump reads it",
             Failure::Endless => "has too many parts",
             Failure::Unfinished => "ends inside a record",
             Failure::Fault(Fault::NotCapture) => "doesn't begin as a file of its format",
