@@ -18,3 +18,4 @@ pub mod PcapReads
 pub mod OneReading
 pub mod OneFile
 pub mod SomeFile
+pub mod PcapngWritten

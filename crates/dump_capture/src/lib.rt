@@ -26,6 +26,7 @@ pub mod pcap;
 pub mod pcap_decoder;
 pub mod pcapng;
 pub mod pcapng_decoder;
+pub mod pcapng_writer;
 mod ppp;
 pub mod reassembler;
 pub mod reassembly;
