@@ -5,13 +5,13 @@ use Rattle.std.specs.Prelude.{slice_get, option_map}
 use Rattle.std.specs.Int.{w16, w32}
 use Rattle.std.proofs.Math.Nat.{div-add-mod}
 use Rattle.std.proofs.lemmas.Bool.Decides.{nat_tests}
-use Rattle.std.proofs.lemmas.List.{length-append, length-map, length-replicate, map-append, take_at}
+use Rattle.std.proofs.lemmas.List.{length-append, length-map, length-replicate, map-append, take_at, drop_at}
 use Rattle.std.proofs.lemmas.Nat.{from_le_bytes-to_le_bytes_2, from_le_bytes-to_le_bytes_4}
 use Rattle.std.proofs.lemmas.Option.{slice_get-map}
 use Rattle.dump_capture.specs.Number.{number_in, one_more}
 use Rattle.dump_capture.specs.Pcapng.{body_of, is_length, option_in}
 use Rattle.dump_capture.specs.PcapngEvents.{State, before_blocks, interface_at, captured_event, packet_event, block_events, Item, End}
-use Rattle.dump_capture.specs.PcapngFile.{Frame, words, block, section_block, interface_block, padded, direction_options, packet_block, Fits, IsFile, nothing, section, interface, packet, frame_seen, frames_seen, links_of}
+use Rattle.dump_capture.specs.PcapngFile.{Frame, words, block, section_block, interface_block, padded, direction_options, packet_body, packet_block, Fits, IsFile, nothing, section, interface, packet, frame_seen, frames_seen, flags_in, flags_of, links_of}
 use Rattle.dump_capture.specs.Event.{Event, Saw}
 use Rattle.dump_capture.specs.Decoding.{Items, none, more, Reads}
 use Rattle.dump_capture.specs.declared.event.Part.TheVariants as part
@@ -22,6 +22,7 @@ use Rattle.dump_capture.specs.declared.pcap.ByteOrder.{ByteOrder}
 use Rattle.dump_capture.specs.declared.pcap.ByteOrder.TheVariants.{LittleEndian}
 use Rattle.dump_capture.specs.declared.pcapng.BlockHeader.{BlockHeader}
 use Rattle.dump_capture.specs.declared.pcapng.Interface.{Interface}
+use Rattle.dump_capture.proofs.Options.{Option-short, Option-found}
 
 -- ---- sizes
 
@@ -371,6 +372,44 @@ file_reads bytes links frames file = record {
   split = sym (append-nil bytes);
   whole = sym (append-nil (frames_seen 1 frames));
 }
+
+-- ---- directions
+
+flags_found : (d : Option Direction) (m : ℕ) → 1 ≤ m
+    → option_in m LittleEndian 2 4 (words (direction_options d)) ≡ flags_of d
+flags_found None m some = Option-short m LittleEndian 2 4 [] (omega arith)
+flags_found (Some Incoming) m some =
+    Option-found m (m - 1) LittleEndian 2 4 (words (direction_options (Some Incoming)))
+    (omega arith) (omega arith) (λ e. omega (arith, e)) refl
+flags_found (Some Outgoing) m some =
+    Option-found m (m - 1) LittleEndian 2 4 (words (direction_options (Some Outgoing)))
+    (omega arith) (omega arith) (λ e. omega (arith, e)) refl
+
+pad_ends : (n : ℕ) → (n + 3) / 4 * 4 ≡ n + (4 - n % 4) % 4
+pad_ends n = omega arith
+
+pub direction_read : (i : ℕ) (f : Frame) → Fits f
+    → flags_in LittleEndian (packet_body i f) ≡ flags_of f.direction
+direction_read i f fits =
+    let captured = fits.captured in
+    let zeros : List ℕ = replicate ((4 - length f.bytes % 4) % 4) 0 in
+    let options = words (direction_options f.direction) in
+    let front = words (i ∷ (f.time / 2 ^ 32) ∷ (f.time % 2 ^ 32) ∷ length f.bytes
+    ∷ f.original_length ∷ []) ++ padded f.bytes in
+    let all = packet_body i f in
+    let again : number_in LittleEndian w32 (drop 12 all) ≡ length f.bytes =
+    from_le_bytes-to_le_bytes_4 (length f.bytes) (omega (arith, captured)) in
+    let ends : length front ≡ 20 + (length f.bytes + 3) / 4 * 4 =
+    omega (
+      arith,
+      length-append f.bytes zeros,
+      pad_ends (length f.bytes),
+      length-replicate {A = ℕ} ((4 - length f.bytes % 4) % 4) 0,
+    ) in
+    ap (λ (k : ℕ). option_in (length all) LittleEndian 2 4 (drop (20 + (k + 3) / 4 * 4) all)) again
+    ∙ ap (λ (x : List ℕ). option_in (length all) LittleEndian 2 4 x)
+    (drop_at front options (20 + (length f.bytes + 3) / 4 * 4) ends)
+    ∙ flags_found f.direction (length all) (omega arith)
 
 -- ---- what is added to a file
 

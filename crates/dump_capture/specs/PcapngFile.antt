@@ -1,14 +1,16 @@
 -- The pcapng file that is written of frames (draft-ietf-opsawg-pcapng): numbers with the least
 -- significant byte first, times in nanoseconds.
-use Rattle.std.specs.Prelude.{◌≡◌, ◌+◌, ◌-◌, ◌/◌, ◌%◌, ◌^◌, ◌≤◌, ◌<◌, ℕ, pos, Bool, true, false, min, List, [], ◌∷◌, ◌++◌, Option, None, Some, length, take, replicate, slice_get}
+use Rattle.std.specs.Prelude.{◌≡◌, ◌+◌, ◌-◌, ◌*◌, ◌/◌, ◌%◌, ◌^◌, ◌≤◌, ◌<◌, ℕ, pos, Bool, true, false, min, List, [], ◌∷◌, ◌++◌, Option, None, Some, length, take, drop, replicate, slice_get}
 use Rattle.std.specs.List.{flat_map}
 use Rattle.std.specs.Int.{w32, to_le_bytes}
-use Rattle.dump_capture.specs.Number.{one_more}
+use Rattle.dump_capture.specs.Number.{number_in, one_more}
+use Rattle.dump_capture.specs.Pcapng.{option_in}
 use Rattle.dump_capture.specs.Event.{Event, Saw}
 use Rattle.dump_capture.specs.declared.event.Part.TheVariants as part
 use Rattle.dump_capture.specs.declared.event.Time.TheVariants.{Ticks}
 use Rattle.dump_capture.specs.declared.line.Direction.{Direction}
 use Rattle.dump_capture.specs.declared.line.Direction.TheVariants.{Incoming, Outgoing}
+use Rattle.dump_capture.specs.declared.pcap.ByteOrder.{ByteOrder}
 use Rattle.dump_capture.specs.declared.pcapng_writer.PcapngFrame.{PcapngFrame}
 use Rattle.dump_capture.specs.declared.pcapng_writer.PcapngWriter.{PcapngWriter}
 
@@ -53,10 +55,13 @@ direction_options (Some Outgoing) = 0x00040002 ∷ 2 ∷ 0 ∷ []
 
 -- an enhanced packet (4.3): its interface, both halves of its time, both lengths, its bytes, and
 -- its options
+abbrev pub packet_body : ℕ → Frame → List ℕ
+packet_body interface f =
+    words (interface ∷ (f.time / 2 ^ 32) ∷ (f.time % 2 ^ 32) ∷ length f.bytes
+    ∷ f.original_length ∷ []) ++ (padded f.bytes ++ words (direction_options f.direction))
+
 abbrev pub packet_block : ℕ → Frame → List ℕ
-packet_block interface f =
-    block 6 (words (interface ∷ (f.time / 2 ^ 32) ∷ (f.time % 2 ^ 32) ∷ length f.bytes
-    ∷ f.original_length ∷ []) ++ (padded f.bytes ++ words (direction_options f.direction)))
+packet_block interface f = block 6 (packet_body interface f)
 
 -- ---- a file
 
@@ -99,6 +104,19 @@ frame_seen number f = Saw (record {
 abbrev pub frames_seen : ℕ → List Frame → List Event
 frames_seen number [] = []
 frames_seen number (f ∷ frames) = frame_seen number f ∷ frames_seen (one_more number) frames
+
+-- The value of epb_flags in an enhanced packet's body: of the first such option after the frame and
+-- the zeros up to a multiple of 4 bytes (4.3). Empty if there is none.
+abbrev pub flags_in : ByteOrder → List ℕ → List ℕ
+flags_in order body =
+    option_in (length body) order 2 4
+    (drop (20 + (number_in order w32 (drop 12 body) + 3) / 4 * 4) body)
+
+-- the flags that say a direction: 1 inbound, 2 outbound
+abbrev pub flags_of : Option Direction → List ℕ
+flags_of None = []
+flags_of (Some Incoming) = 1 ∷ 0 ∷ 0 ∷ 0 ∷ []
+flags_of (Some Outgoing) = 2 ∷ 0 ∷ 0 ∷ 0 ∷ []
 
 -- ---- the writer
 

@@ -1,9 +1,9 @@
 //! Finds SCTP packets in captures: in pcap and pcapng files, in frames of a link, and in lines of
 //! text.
 //!
-//! Every function takes bytes in memory. What is returned of files and frames, a definition of
-//! `specs/` says; what lines of text hold is tested. Only `TextDecoder::new`,
-//! `PcapngDecoder::new` and what puts fragments together allocate.
+//! Every function takes bytes in memory. What is returned of files and frames, and written of them,
+//! a definition of `specs/` says; what lines of text hold is tested. Only `TextDecoder::new`,
+//! `PcapngDecoder::new`, `PcapngWriter` and what puts fragments together allocate.
 #![tactic(auto)]
 
 pub mod decoder;

@@ -1,10 +1,11 @@
 //! Writes frames as the blocks of a pcapng file (draft-ietf-opsawg-pcapng), in little-endian byte
 //! order.
 
-ghost use Rattle.std.specs.Prelude.{◌≡◌, ◌≤◌, ◌<◌, ◌+◌, ◌-◌, ◌%◌, ◌^◌, ◌++◌, ℕ, List, [], ◌∷◌, true, false, Option, Some, None, IfOk, IfSome, OnOk, length, replicate, slice_get};
+ghost use Rattle.std.specs.Prelude.{◌≡◌, ◌≤◌, ◌<◌, ◌-◌, ◌%◌, ◌++◌, ℕ, List, [], ◌∷◌, Some, None, IfOk, IfSome, OnOk, length, replicate, slice_get};
 ghost use Rattle.dump_capture.specs.Decoding.{Reads};
 ghost use Rattle.dump_capture.specs.PcapngEvents.{before_blocks, Item, End};
-ghost use Rattle.dump_capture.specs.PcapngFile.{Frame, frame_of, words, section_block, interface_block, packet_block, direction_options, Fits, IsFile, kept, links, IsBegun, frames_seen, Adds};
+ghost use Rattle.dump_capture.specs.declared.pcap.ByteOrder.TheVariants.{LittleEndian};
+ghost use Rattle.dump_capture.specs.PcapngFile.{Frame, frame_of, words, packet_body, packet_block, direction_options, Fits, IsFile, frames_seen, flags_in, flags_of, links, IsBegun, kept, Adds};
 
 use crate::line::Direction;
 use crate::pcapng_decoder::MOST_INTERFACES;
@@ -144,11 +145,14 @@ impl PcapngWriter {
 }
 
 /// Proves that a file is read as the frames that were written, in order, with their bytes, link
-/// types, original lengths and times in nanoseconds.
+/// types, original lengths and times in nanoseconds; and that the options of a frame's block say its
+/// direction.
 pub fn reads_back()
-    ensures { (bytes links : List ℕ) (frames : List Frame)
+    ensures frames { (bytes links : List ℕ) (frames : List Frame)
         → IsFile bytes frames (Some links)
         → Reads Item End before_blocks bytes (frames_seen 1 frames) None }
+    ensures direction { (interface : ℕ) (f : Frame) → Fits f
+        → flags_in LittleEndian (packet_body interface f) ≡ flags_of f.direction }
 {}
 
 /// Returns the number of the interface of a link type, if there is one.
