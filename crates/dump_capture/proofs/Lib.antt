@@ -19,3 +19,4 @@ pub mod PcapReads
 pub mod OneReading
 pub mod OneFile
 pub mod SomeFile
+pub mod PcapngWritten

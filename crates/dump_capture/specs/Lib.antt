@@ -27,3 +27,4 @@ pub mod Text
 pub mod Pcapng
 pub mod PcapngEvents
 pub mod PcapngState
+pub mod PcapngFile

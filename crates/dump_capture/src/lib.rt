@@ -1,9 +1,10 @@
 //! Finds SCTP packets in captures: in pcap and pcapng files, in frames of a link, and in lines of
 //! text.
 //!
-//! Every function takes bytes in memory. What is returned of files and frames, a definition of
-//! `specs/` says, and so it does what digits say; the forms of lines of text are tested. Only
-//! `TextDecoder::new`, `PcapngDecoder::new` and what puts fragments together allocate.
+//! Every function takes bytes in memory. What is returned of files and frames, and written of them,
+//! a definition of `specs/` says, and so it does what digits say; the forms of lines of text are
+//! tested. Only `TextDecoder::new`, `PcapngDecoder::new`, `PcapngWriter` and what puts fragments
+//! together allocate.
 #![tactic(auto)]
 
 pub mod decoder;
@@ -27,6 +28,7 @@ pub mod pcap;
 pub mod pcap_decoder;
 pub mod pcapng;
 pub mod pcapng_decoder;
+pub mod pcapng_writer;
 mod ppp;
 pub mod reassembler;
 pub mod reassembly;

@@ -11,7 +11,7 @@ use crate::failure::Failure;
 use crate::files::Files;
 use crate::message_files::MessageFiles;
 use crate::options::{Options, OutputForm};
-use crate::pcapng_blocks::PcapngBlocks;
+use crate::pcapng_frame::pcapng_frame;
 use crate::printer::Printer;
 use crate::progress::Progress;
 use crate::seen::{SeenFrame, SeenLines};
@@ -32,6 +32,7 @@ use dump_analysis::{
 };
 use dump_capture::event::{Part, Seen, Sink, Skipped, Time};
 use dump_capture::frame::{FoundPacket, NoPacket, packet_in};
+use dump_capture::pcapng_writer::PcapngWriter;
 use dump_capture::reassembler::PacketSink;
 use dump_io::output::Output;
 use dump_io::watched::Watched;
@@ -64,7 +65,7 @@ pub struct EventPrinter<'h, W> {
     message_files: Option<MessageFiles<'h>>,
     /// How much was read.
     pub progress: Progress<'h>,
-    blocks: PcapngBlocks,
+    blocks: PcapngWriter,
     output: Output<W>,
 }
 
@@ -100,7 +101,7 @@ impl<'h, W: Write> EventPrinter<'h, W> {
                 None => None,
             },
             progress: Progress::new(rt),
-            blocks: PcapngBlocks::new(alloc),
+            blocks: PcapngWriter::new(alloc),
             output: Output::new(alloc, writer),
         }
     }
@@ -215,7 +216,8 @@ impl<'h, W: Write> EventPrinter<'h, W> {
         }
         let is_file = self.options.output == OutputForm::Pcapng;
         if is_file {
-            self.blocks.push(frame, &seen.time, nanoseconds)?;
+            self.blocks
+                .push(pcapng_frame(frame, &seen.time, nanoseconds))?;
             return Ok(());
         }
         let shown = Shown {
