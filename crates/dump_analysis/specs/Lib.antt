@@ -3,6 +3,7 @@ pub mod Announced
 pub mod Buckets
 pub mod Calendar
 pub mod Channels
+pub mod ChunkTypes
 pub mod Counts
 pub mod Details
 pub mod Messages
