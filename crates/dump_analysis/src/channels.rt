@@ -112,15 +112,26 @@ impl Channels {
         ensures others { self.new.others ≡ self.old.others }
         ensures counts { AreAlike self.old.list.items self.new.list.items }
     {
-        let Some(news) = news_of(parameter, sender, packet) else {
-            return;
-        };
-        let is_again = match news {
-            News::Asked { number, .. } => !self.asks(sender, number, packet),
-            _ => false,
-        };
-        if !is_again {
-            notify(&mut self.list, news);
+        if let Some(news) = news_of(parameter, sender, packet) {
+            if self.is_new(news) {
+                notify(&mut self.list, news);
+            }
+        }
+    }
+
+    /// Returns whether this isn't a request that was sent again.
+    fn is_new(&mut self, news: News<'_>) -> bool
+        ensures list { self.new.list ≡ self.old.list }
+        ensures others { self.new.others ≡ self.old.others }
+    {
+        match news {
+            News::Asked {
+                by,
+                number,
+                packet,
+                ..
+            } => self.asks(by, number, packet),
+            _ => true,
         }
     }
 
