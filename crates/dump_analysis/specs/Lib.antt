@@ -4,7 +4,9 @@ pub mod Authentication
 pub mod Buckets
 pub mod Calendar
 pub mod Channels
+pub mod ChunkTypes
 pub mod Counts
+pub mod Details
 pub mod Messages
 pub mod Order
 pub mod Paths

@@ -70,13 +70,13 @@ pub use crate::authentication::{AuthVerdict, Authentication, AuthenticationCount
 pub use crate::authentication_text::{
     AuthenticationBrief, AuthenticationCountsJson, AuthenticationJson, AuthenticationLines,
 };
-pub use crate::channel::{Channel, Reset, Tally, Traffic};
+pub use crate::channel::{Channel, Reset, Span, Tally, Traffic};
 pub use crate::channel_report::{ChannelJson, ChannelReport};
-pub use crate::channels::{ChannelTable, Channels};
+pub use crate::channels::Channels;
 pub use crate::counts::{Counts, LeastWindow, SeenPacket};
 pub use crate::data_channel::{Opened, PeerText, label_of};
 pub use crate::delays::Delays;
-pub use crate::details::PathTable;
+pub use crate::details::{ChannelTable, PathTable};
 pub use crate::end::{Acknowledged, Closed, End, Skipped};
 pub use crate::fragment::{MessageKey, stream_of};
 pub use crate::json::AssociationJson;

@@ -1,6 +1,9 @@
 //! The associations of the packets so far, if associations, messages or rules are asked for, and
 //! what is kept beside them: their paths, their messages and their channels.
 
+ghost use Rattle.std.specs.Prelude.{IfOk};
+ghost use Rattle.sctp_dump.specs.Tracked.{CountsEnded};
+
 use crate::labels::LabelledStreams;
 use crate::options::{Options, OutputForm};
 use dump_analysis::filter::asks_nothing;
@@ -135,15 +138,16 @@ impl Tracker {
     }
 
     /// Returns the messages that are over since this was asked last, each counted of its channel.
-    pub fn take_messages(&mut self) -> Result<Vec<EndedMessage>, AllocError> {
-        let Some(messages) = &mut self.messages else {
-            return Ok(Vec::new(self.alloc));
+    pub fn take_messages(&mut self) -> Result<Vec<EndedMessage>, AllocError>
+        ensures { IfOk result (λ ended.
+            CountsEnded self.old.channels ended.items self.new.channels) }
+    {
+        let ended = match &mut self.messages {
+            Some(messages) => messages.take(),
+            None => Vec::new(self.alloc),
         };
-        let ended = messages.take();
         if let Some(channels) = &mut self.channels {
-            for one in &ended {
-                channels.add(&one.message)?;
-            }
+            channels.add_all(&ended)?;
         }
         Ok(ended)
     }
