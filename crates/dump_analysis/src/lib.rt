@@ -35,6 +35,7 @@ mod json;
 mod key;
 mod key_vector;
 mod keys;
+mod last_messages;
 pub mod laws;
 mod membership;
 mod message;
@@ -60,6 +61,7 @@ mod time;
 mod transport;
 mod tsns;
 mod unanswered;
+mod wait;
 pub mod warnings;
 
 pub use crate::announced::{Announced, Announcements, Announcer, RequestId, Statement};

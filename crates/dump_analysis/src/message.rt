@@ -6,11 +6,12 @@ ghost use Rattle.dump_analysis.specs.Channels.{ComesBefore};
 use crate::association::Side;
 use crate::counts::increase;
 use crate::end::Closed;
-use crate::fragment::{Fragment, MessageKey};
+use crate::fragment::{Fragment, Late, MessageKey};
 use crate::moment::Moment;
 use crate::packet_number::PacketNumber;
 use crate::payloads::Payloads;
 use crate::serial::is_after;
+use crate::wait::Wait;
 use dcsctp_borrowed::part::Item;
 use std::alloc::{AllocError, Global};
 use std::mem;
@@ -81,9 +82,11 @@ pub struct Message {
     pub is_odd: bool,
     /// The TSN of the first fragment that was sent again with other bytes.
     pub changed: Option<u32>,
-    /// The TSN for which it waited in its stream: it was acknowledged, but an earlier message was
-    /// not.
-    pub waited_for: Option<u32>,
+    /// The first of its fragments that was seen first after a later TSN.
+    pub late: Option<Late>,
+    /// For what it waited in its stream: it was acknowledged, but an earlier message was not; or
+    /// all of it was seen, but some of an earlier message wasn't.
+    pub waited_for: Option<Wait>,
     /// When its receiver had no room while it was outstanding.
     pub closed: Option<Closed>,
     /// Whether a filter passes a packet with one of its fragments.
@@ -112,6 +115,7 @@ impl Message {
             has_end: false,
             is_odd: false,
             changed: None,
+            late: None,
             waited_for: None,
             closed: None,
             passes: false,
@@ -178,6 +182,7 @@ impl Message {
         if piece.is_changed && self.changed.is_none() {
             self.changed = Some(piece.tsn);
         }
+        self.late = self.late.or(piece.late);
         self.closed = joined(self.closed, piece.closed);
         self.passes |= piece.passes;
     }
