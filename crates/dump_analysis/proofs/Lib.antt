@@ -8,3 +8,4 @@ pub mod Marks
 pub mod Questions
 pub mod Firsts
 pub mod PathCounts
+pub mod Fates

@@ -4,6 +4,7 @@ pub mod Buckets
 pub mod Calendar
 pub mod Channels
 pub mod Counts
+pub mod Fates
 pub mod Messages
 pub mod Order
 pub mod Paths

@@ -55,6 +55,14 @@ impl LastMessages {
         Ok(())
     }
 
+    /// Notes that a message was skipped, and those before it.
+    pub fn skip(&mut self, key: MessageKey) -> Result<(), AllocError> {
+        if self.has(&key) {
+            return Ok(());
+        }
+        self.note(key)
+    }
+
     /// Returns the number of the message that comes next in the stream of another one, if that is
     /// known.
     pub fn next(&self, key: &MessageKey) -> Option<u32> {

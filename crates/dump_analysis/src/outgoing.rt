@@ -1,6 +1,7 @@
 //! The user messages of one end that are outstanding.
 
-ghost use Rattle.std.specs.Prelude.{◌≡◌, ◌≤◌, vec_len};
+ghost use Rattle.std.specs.Prelude.{◌≡◌, ◌≤◌, length, vec_len, OnOk, IfSome};
+ghost use Rattle.dump_analysis.specs.Fates.{AddsBy};
 
 use crate::acknowledgement::Acknowledgement;
 use crate::association::Side;
@@ -223,7 +224,9 @@ impl Outgoing {
         moment: Moment,
         ended: &mut EndedMessages,
     ) -> Result<(), AllocError>
-        ensures { vec_len self.new.fragments ≤ vec_len self.old.fragments }
+        ensures count { vec_len self.new.fragments ≤ vec_len self.old.fragments }
+        ensures fate { OnOk result (AddsBy (Fate.Acknowledged moment) ended.old.list.items
+            ended.new.list.items) }
     {
         self.mark(&acknowledged);
         let before = self.passed;
@@ -297,7 +300,9 @@ impl Outgoing {
         ended: &mut EndedMessages,
     ) -> Result<(), AllocError>
         requires { 4 ≤ length value.now }
-        ensures { vec_len self.new.fragments ≤ vec_len self.old.fragments }
+        ensures count { vec_len self.new.fragments ≤ vec_len self.old.fragments }
+        ensures fate { OnOk result (AddsBy (Fate.Abandoned chunk moment) ended.old.list.items
+            ended.new.list.items) }
     {
         let fate = Fate::Abandoned { chunk, moment };
         let before = self.passed;
@@ -313,9 +318,7 @@ impl Outgoing {
                 break;
             };
             self.end_named(key, fate, ended)?;
-            if !self.last.has(&key) {
-                self.last.note(key)?;
-            }
+            self.last.skip(key)?;
         }
         Ok(())
     }
@@ -327,7 +330,8 @@ impl Outgoing {
         fate: Fate,
         ended: &mut EndedMessages,
     ) -> Result<(), AllocError>
-        ensures { vec_len self.new.fragments ≡ vec_len self.old.fragments }
+        ensures count { vec_len self.new.fragments ≡ vec_len self.old.fragments }
+        ensures fate { OnOk result (AddsBy fate ended.old.list.items ended.new.list.items) }
     {
         if !key.is_i_data {
             return Ok(());
@@ -399,21 +403,44 @@ impl Outgoing {
         fate: Fate,
         ended: &mut EndedMessages,
     ) -> Result<(), AllocError>
-        ensures { vec_len self.new.fragments ≡ vec_len self.old.fragments }
+        ensures count { vec_len self.new.fragments ≡ vec_len self.old.fragments }
+        ensures fate { OnOk result (AddsBy fate ended.old.list.items ended.new.list.items) }
     {
         for place in 0..self.fragments.len() {
             self.note_passed(place, fate);
-            if let Some(fragment) = self.fragments.get(place) {
-                let is_new = match before {
-                    Some(before) => !is_after(before, fragment.tsn),
-                    None => true,
-                };
-                if fragment.is_fresh || is_new && self.has_passed(fragment.tsn) {
-                    self.end_at(place, fate, ended)?;
-                }
-            }
+            self.end_new(place, before, fate, ended)?;
         }
         Ok(())
+    }
+
+    /// Adds the message of the fragment in a place, if that is news, and it is over by this fate.
+    fn end_new(
+        &mut self,
+        place: usize,
+        before: Option<u32>,
+        fate: Fate,
+        ended: &mut EndedMessages,
+    ) -> Result<(), AllocError>
+        ensures count { vec_len self.new.fragments ≡ vec_len self.old.fragments }
+        ensures fate { OnOk result (AddsBy fate ended.old.list.items ended.new.list.items) }
+    {
+        if self.is_news(place, before) {
+            return self.end_at(place, fate, ended);
+        }
+        Ok(())
+    }
+
+    /// Returns whether the fragment in a place was acknowledged just now, or passed since `before`
+    /// was the last one that is passed.
+    fn is_news(&self, place: usize, before: Option<u32>) -> bool {
+        let Some(fragment) = self.fragments.get(place) else {
+            return false;
+        };
+        let is_new = match before {
+            Some(before) => !is_after(before, fragment.tsn),
+            None => true,
+        };
+        fragment.is_fresh || is_new && self.has_passed(fragment.tsn)
     }
 
     /// Notes what becomes of the message of the fragment in a place, if that is passed and nothing
@@ -437,7 +464,8 @@ impl Outgoing {
         fate: Fate,
         ended: &mut EndedMessages,
     ) -> Result<(), AllocError>
-        ensures { vec_len self.new.fragments ≡ vec_len self.old.fragments }
+        ensures count { vec_len self.new.fragments ≡ vec_len self.old.fragments }
+        ensures fate { OnOk result (AddsBy fate ended.old.list.items ended.new.list.items) }
     {
         let (first, end) = self.span(place);
         let pieces = self.pieces(place, first, end)?;
@@ -455,7 +483,9 @@ impl Outgoing {
         fate: Option<Fate>,
         ended: &mut EndedMessages,
     ) -> Result<(), AllocError>
-        ensures { vec_len self.new.fragments ≡ vec_len self.old.fragments }
+        ensures count { vec_len self.new.fragments ≡ vec_len self.old.fragments }
+        ensures fate { IfSome fate (λ fate. OnOk result (AddsBy fate ended.old.list.items
+            ended.new.list.items)) }
     {
         let (first, end) = self.span(place);
         let pieces = self.pieces(place, first, end)?;
@@ -475,7 +505,8 @@ impl Outgoing {
         fate: Fate,
         ended: &mut EndedMessages,
     ) -> Result<(), AllocError>
-        ensures { vec_len self.new.fragments ≡ vec_len self.old.fragments }
+        ensures count { vec_len self.new.fragments ≡ vec_len self.old.fragments }
+        ensures fate { OnOk result (AddsBy fate ended.old.list.items ended.new.list.items) }
     {
         let Some(lead) = pieces.first() else {
             return Ok(());
