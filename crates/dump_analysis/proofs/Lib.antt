@@ -9,3 +9,4 @@ pub mod Questions
 pub mod Firsts
 pub mod PathCounts
 pub mod PacketTypes
+pub mod Fates

@@ -7,6 +7,7 @@ pub mod Channels
 pub mod ChunkTypes
 pub mod Counts
 pub mod Details
+pub mod Fates
 pub mod Messages
 pub mod Order
 pub mod Paths

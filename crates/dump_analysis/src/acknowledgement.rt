@@ -42,6 +42,21 @@ impl<'a> Acknowledgement<'a> {
         })
     }
 
+    /// Returns how many gap blocks there are.
+    pub fn block_count(self) -> usize {
+        self.count.min(self.blocks.len() / 4)
+    }
+
+    /// Returns the first and the last TSN of a gap block, as far after the Cumulative TSN Ack;
+    /// `None` where there is none.
+    pub fn block(self, index: usize) -> Option<(u16, u16)> {
+        let block = self.blocks.get(index.saturating_mul(4)..)?;
+        if block.len() < 4 {
+            return None;
+        }
+        Some((read_u16_be(block), read_u16_be(&block[2..])))
+    }
+
     /// Returns whether a TSN is acknowledged.
     pub fn has(self, tsn: u32) -> bool
         ensures { IsTrue result ↔ IsAcknowledgedBy self.entry tsn }

@@ -36,6 +36,7 @@ mod key;
 mod key_vector;
 mod key_vectors;
 mod keys;
+mod last_messages;
 pub mod laws;
 mod membership;
 mod message;
@@ -61,6 +62,7 @@ mod time;
 mod transport;
 mod tsns;
 mod unanswered;
+mod wait;
 pub mod warnings;
 
 pub use crate::announced::{Announced, Announcements, Announcer, RequestId, Statement};
