@@ -1,5 +1,6 @@
 pub mod Acknowledged
 pub mod Announced
+pub mod Attribution
 pub mod Buckets
 pub mod Calendar
 pub mod Channels
