@@ -1,5 +1,6 @@
 pub mod Acknowledged
 pub mod Announced
+pub mod Attribution
 pub mod Authentication
 pub mod Buckets
 pub mod Calendar

@@ -8,9 +8,9 @@
 //! too. What a filter asks and what a rule says is defined by what is in a packet's header and
 //! chunks: in `specs/` and in those of `dcsctp_receive`. What is counted of a packet for an
 //! association is what `specs/` defines, and each packet is counted once: of one end of one
-//! association, or as unknown; and of an association on one path, or as on others. The rest is
-//! proved safe and total: no clause says which association a
-//! packet belongs to, nor what a text is.
+//! association, or as unknown; and of an association on one path, or as on others. It is said to be
+//! of an association only if its tag allows that. The rest is proved safe and total: no clause says
+//! what a text is.
 #![tactic(auto)]
 
 mod acknowledgement;

@@ -1,7 +1,8 @@
 //! The associations of the packets so far, if associations, messages or rules are asked for, and
 //! what is kept beside them: their paths, their messages and their channels.
 
-ghost use Rattle.std.specs.Prelude.{IfOk};
+ghost use Rattle.std.specs.Prelude.{◌≡◌, IfOk, IfSome, IfNone};
+ghost use Rattle.dump_analysis.specs.Attribution.{IsKnownOf, nothing_known};
 ghost use Rattle.sctp_dump.specs.Tracked.{CountsEnded};
 
 use crate::labels::LabelledStreams;
@@ -182,16 +183,13 @@ impl Tracker {
     }
 
     /// Returns what is known of a packet's association.
-    pub fn known_of(&self, packet: &SeenPacket<'_>) -> Known {
+    pub fn known_of(&self, packet: &SeenPacket<'_>) -> Known
+        ensures known { IfSome self.now.associations (λ a. IsKnownOf a.keys.flows a.table.items packet.now
+            result) }
+        ensures none { IfNone self.now.associations (result ≡ nothing_known) }
+    {
         match &self.associations {
-            Some(associations) => {
-                let (has_data, has_idata) = associations.user_data(packet);
-                Known {
-                    accepts_zero: associations.accepts_zero(packet),
-                    has_data,
-                    has_idata,
-                }
-            }
+            Some(associations) => associations.known_of(packet),
             None => Known::NOTHING,
         }
     }
