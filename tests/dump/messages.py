@@ -99,7 +99,7 @@ class Sender:
     def __init__(self, association, side):
         self.association, self.side, self.all, self.passed, self.last, self.over = association, side, [], None, 0, False
         # of each stream the number of the message that is over last, and whether that is 'none yet' of the others
-        self.ended, self.is_fresh, self.request = {}, False, None
+        self.ended, self.is_fresh, self.request, self.is_told = {}, False, None, False
 
     def counted_on(self, tsn):
         """Serial Number Arithmetic (RFC 9260 section 2.6), from the last TSN on."""
@@ -108,7 +108,7 @@ class Sender:
     def begin(self, tsn):
         if self.passed is None and not self.all:
             self.passed = self.last = (tsn - 1) % 2 ** 32
-            self.is_fresh = True
+            self.is_fresh = self.is_told = True
 
     def reset(self, number, streams):
         if self.request is None or not is_not_after(True, number, self.request):
@@ -118,6 +118,10 @@ class Sender:
     def send(self, fragment, moment):
         """Returns the lines of messages of which this shows that nothing comes any more."""
         fragment.at = self.counted_on(fragment.tsn)
+        if self.is_told and fragment.at <= self.passed:
+            # it begins elsewhere than its INIT says
+            self.passed, self.is_fresh = None, False
+        self.is_told = False
         if self.over or self.passed is not None and fragment.at <= self.passed:
             return []
         self.last, fragment.sent = fragment.at, moment
@@ -203,7 +207,7 @@ class Sender:
 
     def pass_to(self, cumulative, fate):
         """Passes the TSNs up to this one, and returns the messages that are over by that."""
-        new, before = self.counted_on(cumulative), self.passed
+        new, before, self.is_told = self.counted_on(cumulative), self.passed, False
         self.passed = new if before is None else max(before, new)
         self.is_blind = before is not None and self.passed - before > sum(before < one.at <= self.passed for one in self.all)
         for one in self.all:

@@ -34,6 +34,11 @@ impl LastMessages {
         self.has_all = true;
     }
 
+    /// Notes that it isn't known what the end sent before.
+    pub fn doubt(&mut self) {
+        self.has_all = false;
+    }
+
     /// Notes that a message is over.
     pub fn note(&mut self, key: MessageKey) -> Result<(), AllocError> {
         if key.is_unordered && !key.is_i_data {

@@ -34,6 +34,8 @@ pub struct Outgoing {
     fragments: Vec<Fragment>,
     // the greatest TSN that is passed
     passed: Option<u32>,
+    // whether the end's INIT alone says so
+    is_told: bool,
     // of the messages whose fragments are forgotten, or that were skipped
     last: LastMessages,
     // whether a fragment found no room, or its header wasn't captured
@@ -53,6 +55,7 @@ impl Outgoing {
             sender,
             fragments: Vec::new(alloc),
             passed: None,
+            is_told: false,
             last: LastMessages::new(alloc),
             has_lost: false,
             is_over: false,
@@ -72,6 +75,7 @@ impl Outgoing {
     {
         if self.passed.is_none() && self.fragments.is_empty() {
             self.passed = Some(tsn.wrapping_sub(1));
+            self.is_told = true;
             self.last.begin();
         }
     }
@@ -101,6 +105,12 @@ impl Outgoing {
     ) -> Result<bool, AllocError>
         ensures { vec_len self.old.fragments ≤ MOST → vec_len self.new.fragments ≤ MOST }
     {
+        if self.is_told && self.has_passed(fragment.tsn) {
+            // It begins elsewhere than its INIT says.
+            self.passed = None;
+            self.last.doubt();
+        }
+        self.is_told = false;
         if self.is_over || self.has_passed(fragment.tsn) {
             return Ok(false);
         }
@@ -373,6 +383,7 @@ impl Outgoing {
     fn pass(&mut self, tsn: u32) -> bool
         ensures { self.new.fragments ≡ self.old.fragments }
     {
+        self.is_told = false;
         if self.has_passed(tsn) {
             return false;
         }
