@@ -487,9 +487,7 @@ impl<'h, W: Write> Sink for EventPrinter<'h, W> {
             Err(why) => {
                 self.is_fragment = why == NoPacket::Fragment;
                 self.counts.count_no_packet(why);
-                if why == NoPacket::Other {
-                    self.note_error(seen, link_type, original_length, bytes);
-                }
+                self.note_error(seen, link_type, original_length, bytes);
                 let outcome = self.print_skipped(seen.part, seen.place, frame_reason_of(why));
                 self.note(outcome);
             }
