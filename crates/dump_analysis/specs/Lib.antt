@@ -25,4 +25,5 @@ pub mod Routes
 pub mod Transports
 pub mod Firsts
 pub mod Seen
+pub mod IcmpErrors
 pub mod Warnings

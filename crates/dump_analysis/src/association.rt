@@ -16,6 +16,7 @@ use crate::membership::Sequence;
 use crate::packet_number::PacketNumber;
 use crate::transport::Transport;
 use dcsctp_borrowed::part::Item;
+use dump_capture::icmp::IcmpError;
 use std::alloc::{AllocError, Global};
 
 /// Which end of an association.
@@ -190,6 +191,17 @@ impl Association {
             tag,
             before,
         });
+    }
+
+    /// Counts an ICMP error that quotes a packet of an end, in the packet of this number.
+    pub fn note_error(&mut self, sender: Side, number: PacketNumber, error: &IcmpError<'_>)
+        ensures first { self.new.first.counts ≡ self.old.first.counts }
+        ensures second { self.new.second.counts ≡ self.old.second.counts }
+    {
+        match sender {
+            Side::First => self.first.icmp_errors.note(number, error),
+            Side::Second => self.second.icmp_errors.note(number, error),
+        }
     }
 
     /// Returns the tag that answered this tag of an end, beside it: that of the last packet, of the

@@ -19,8 +19,13 @@ use crate::key::{Arrival, Route};
 use crate::keys::{Flow, Keys};
 use crate::membership::Membership;
 use crate::order::Order;
+use crate::packet_number::PacketNumber;
 use crate::rule::Known;
 use crate::transport::TransportNames;
+use dcsctp_borrowed::checksum::Checksum;
+use dcsctp_wire::packet::sctp_packet::COMMON_HEADER_SIZE;
+use dump_capture::frame::FoundPacket;
+use dump_capture::icmp::IcmpError;
 use std::alloc::{AllocError, Global};
 use std::mem;
 
@@ -112,6 +117,45 @@ impl Associations {
             None => increase(&mut self.unknown),
         }
         Ok(Noted { of, left: None })
+    }
+
+    /// Counts an ICMP error, in the packet of this number, of the end that sent the packet which it
+    /// quotes (RFC 9260 section 10), if that is of an association. Counts no packet.
+    pub fn note_error(&mut self, number: PacketNumber, error: &IcmpError<'_>)
+        ensures unknown { self.new.unknown ≡ self.old.unknown }
+        ensures order { self.new.order ≡ self.old.order }
+        ensures keys { self.new.keys ≡ self.old.keys }
+        ensures counted { counted self.new.table.items self.new.unknown
+            ≡ counted self.old.table.items self.old.unknown }
+    {
+        // At least the ports and the tag are quoted, maybe no whole header.
+        let mut header = [0; COMMON_HEADER_SIZE];
+        let bytes = error.quoted.packet;
+        let packet = if bytes.len() < COMMON_HEADER_SIZE {
+            header[..bytes.len()].copy_from_slice(bytes);
+            &header[..]
+        } else {
+            bytes
+        };
+        let quoted = SeenPacket {
+            number,
+            nanoseconds: None,
+            found: FoundPacket {
+                addresses: error.quoted.addresses,
+                udp_ports: error.quoted.udp_ports,
+                length: error.quoted.length,
+                packet,
+            },
+            direction: None,
+            transport: b"",
+            checksum: Checksum::Unknown,
+            is_refused: false,
+            passes: false,
+            key: None,
+        };
+        if let Some(flow) = self.owner(&quoted) {
+            count_error(&mut self.table, flow, number, error);
+        }
     }
 
     /// Returns what is known of the association of a packet that wasn't counted yet, by the packets
@@ -606,6 +650,22 @@ fn count_beside(table: &mut Vec<Box<Association>>, flow: Flow, tag: Option<u32>)
 {
     if let Some(association) = table.get_mut(flow.slot) {
         association.note_beside(flow.sender, tag);
+    }
+}
+
+/// Counts an ICMP error that quotes a packet of an end of the association in a slot, if there is
+/// one.
+fn count_error(
+    table: &mut Vec<Box<Association>>,
+    flow: Flow,
+    number: PacketNumber,
+    error: &IcmpError<'_>,
+)
+    ensures size { vec_len table.new ≡ vec_len table.old }
+    ensures packets { packets_in table.new.items ≡ packets_in table.old.items }
+{
+    if let Some(association) = table.get_mut(flow.slot) {
+        association.note_error(flow.sender, number, error);
     }
 }
 

@@ -13,6 +13,7 @@ use crate::chunk_type::{
     RE_CONFIG, SACK,
 };
 use crate::counts::{Counts, SeenPacket};
+use crate::icmp_errors::IcmpErrors;
 use crate::initiation::accepts_zero;
 use crate::key_vectors::KeyVectors;
 use crate::packet_number::PacketNumber;
@@ -99,6 +100,8 @@ pub struct End {
     pub opened: Option<PacketNumber>,
     /// Its HEARTBEATs that weren't answered.
     pub heartbeats: Unanswered,
+    /// The ICMP errors that quote what it sent.
+    pub icmp_errors: IcmpErrors,
     /// Its requests to reconfigure streams.
     pub requests: Requests,
     /// The round trips of its DATA.
@@ -139,6 +142,7 @@ impl End {
             closed: None,
             opened: None,
             heartbeats: Unanswered::new(),
+            icmp_errors: IcmpErrors::new(),
             requests: Requests::new(),
             round_trips: RoundTrips::new(),
         }

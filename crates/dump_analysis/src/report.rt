@@ -5,6 +5,7 @@ use crate::association::{Association, Began, Ended, Established, Side};
 use crate::counts::Counts;
 use crate::delays::Delays;
 use crate::end::End;
+use crate::icmp_errors::IcmpErrors;
 use crate::key_vectors::KeyVectors;
 use crate::moment::Moment;
 use crate::packet_number::{PacketNumber, PacketText};
@@ -193,6 +194,7 @@ impl<'a> AssociationReport<'a> {
         self.write_skipped(end, out);
         self.write_sacks(end, out);
         self.write_heartbeats(end, out);
+        self.write_icmp_errors(&end.icmp_errors, out);
         self.write_requests(end, out);
         write_stale_cookies(&end.counts, out);
         if end.authentication.are_some() {
@@ -342,6 +344,24 @@ impl<'a> AssociationReport<'a> {
         if let Some(last) = end.heartbeats.last() {
             let packet = self.packet(last);
             write!(out, " (last {packet})");
+        }
+        out.say("\n")
+    }
+
+    /// Writes the line of ICMP errors, if there are some.
+    fn write_icmp_errors(&self, errors: &IcmpErrors, out: &mut Text<'_>) {
+        let Some(last) = errors.last else {
+            return;
+        };
+        let (count, kind, code) = (errors.count, last.kind, last.code);
+        let packet = self.packet(last.packet);
+        write!(
+            out,
+            "  ICMP errors {count}: last type {kind}, code {code} in {packet}"
+        );
+        if let Some(least) = errors.least_mtu {
+            let (mtu, packet) = (least.mtu, self.packet(least.packet));
+            write!(out, "; least mtu {mtu} ({packet})");
         }
         out.say("\n")
     }

@@ -32,6 +32,7 @@ use dump_analysis::{
 };
 use dump_capture::event::{Part, Seen, Sink, Skipped, Time};
 use dump_capture::frame::{FoundPacket, NoPacket, packet_in};
+use dump_capture::icmp::icmp_error_in;
 use dump_capture::pcapng_writer::PcapngWriter;
 use dump_capture::reassembler::PacketSink;
 use dump_io::output::Output;
@@ -371,6 +372,28 @@ impl<'h, W: Write> EventPrinter<'h, W> {
         written
     }
 
+    /// Counts the ICMP error in a frame, if there is one, of the association whose packet it quotes,
+    /// if associations are printed.
+    fn note_error(&mut self, seen: &Seen<'_>, link_type: u16, original_length: u32, bytes: &[u8])
+        ensures options { self.new.options ≡ self.old.options }
+        ensures counts { self.new.counts ≡ self.old.counts }
+        ensures failure { self.new.failure ≡ self.old.failure }
+        ensures warnings { self.new.warnings ≡ self.old.warnings }
+    {
+        if !self.options.associations {
+            return;
+        }
+        let number = self.files.number_of(seen.number);
+        if let Some(error) = icmp_error_in(
+            self.options.udp_port,
+            link_type,
+            original_length,
+            bytes,
+        ) {
+            self.tracker.note_error(number, &error);
+        }
+    }
+
     /// Prints a record or a line without a packet, if a reason is to be said.
     fn print_skipped(
         &mut self,
@@ -464,6 +487,7 @@ impl<'h, W: Write> Sink for EventPrinter<'h, W> {
             Err(why) => {
                 self.is_fragment = why == NoPacket::Fragment;
                 self.counts.count_no_packet(why);
+                self.note_error(seen, link_type, original_length, bytes);
                 let outcome = self.print_skipped(seen.part, seen.place, frame_reason_of(why));
                 self.note(outcome);
             }

@@ -10,9 +10,10 @@ use crate::options::{Options, OutputForm};
 use dump_analysis::filter::asks_nothing;
 use dump_analysis::rule::Known;
 use dump_analysis::{
-    Associations, ChannelTable, Channels, EndedMessage, Membership, Messages, Noted, PathTable,
-    Paths, Resent, SeenPacket, Sendings,
+    Associations, ChannelTable, Channels, EndedMessage, Membership, Messages, Noted, PacketNumber,
+    PathTable, Paths, Resent, SeenPacket, Sendings,
 };
+use dump_capture::icmp::IcmpError;
 use std::alloc::{AllocError, Global};
 
 /// The associations of the packets so far, if they are asked for.
@@ -71,6 +72,13 @@ impl Tracker {
             }
         }
         Ok(noted)
+    }
+
+    /// Counts an ICMP error, in the packet of this number, of the end that sent what it quotes.
+    pub fn note_error(&mut self, number: PacketNumber, error: &IcmpError<'_>) {
+        if let Some(associations) = &mut self.associations {
+            associations.note_error(number, error);
+        }
     }
 
     /// Returns whether a packet that wasn't counted yet has user data of a channel whose label is
