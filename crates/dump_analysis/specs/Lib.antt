@@ -12,6 +12,7 @@ pub mod Fates
 pub mod Messages
 pub mod Order
 pub mod Paths
+pub mod Payloads
 pub mod Questions
 pub mod Delays
 pub mod Serial

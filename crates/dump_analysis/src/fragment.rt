@@ -1,6 +1,8 @@
 //! The fragments of user messages: the DATA and I-DATA that one end sent.
 
-ghost use Rattle.std.specs.Prelude.{◌≡◌};
+ghost use Rattle.std.specs.Prelude.{◌≡◌, ◌≤◌, ◌↔◌, true, length, IfSome, IsSome};
+ghost use Rattle.dcsctp_tlv.specs.Number.{number32};
+ghost use Rattle.dump_analysis.specs.Payloads.{has_user_data, header_size};
 ghost use Rattle.dump_analysis.specs.Messages.{is_whole};
 
 use crate::chunk_type::{DATA, I_DATA, I_FORWARD_TSN};
@@ -94,7 +96,12 @@ pub struct Numbers {
 
 impl Numbers {
     /// Returns those of a chunk; `None` where it has none, or they weren't captured.
-    pub fn of(chunk: Item<'_>) -> Option<Numbers> {
+    pub fn of(chunk: Item<'_>) -> Option<Numbers>
+        ensures some { IsSome result ↔ ((has_user_data chunk.entry.first ≡ true)
+            × (header_size chunk.entry.first ≤ length chunk.entry.value.bytes.now)) }
+        ensures tsn { IfSome result (λ n. n.tsn ≡ number32 chunk.entry.value.bytes.now) }
+        ensures header { IfSome result (λ n. n.header ≡ header_size chunk.entry.first) }
+    {
         let value = chunk.value.bytes;
         match chunk.first {
             DATA if value.len() >= DataNumbers::SIZE => {
