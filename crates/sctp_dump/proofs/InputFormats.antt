@@ -1,7 +1,7 @@
 -- What an input is, and the events that its decoder handed on.
 use Rattle.std.proofs.Common.{◌≡◌, ◌⊎◌, inl, inr, ◌≤◌, ℕ, if◌then◌else◌, List, [], ◌∷◌, ◌++◌, length, take, Option, None, Some, IfSome, Result, Ok, Err, OnOk, IfErr, refl, sym, ap, subst, ◌∙◌, arith}
 use Rattle.std.proofs.lemmas.List.{take-append-le}
-use Rattle.std.specs.Io.KnownBytes.{Keeps}
+use Rattle.std.specs.Io.KnownBytes.{Keeps, prepend_known}
 use Rattle.dump_capture.specs.Event.{Event, Hands}
 use Rattle.dump_capture.specs.Decoding.{none}
 use Rattle.dump_capture.specs.Pcap.{magic_format, input_kind, input_kind_by}
@@ -49,6 +49,13 @@ format_front form.Detected held rest size =
     ap (λ (k : InputFormat). if is_compressed (held ++ rest) then format.Compressed else k)
     (uncompressed_front held rest size)
     ∙ rw (two, three, four) refl
+
+-- what is left of the input begins with what is held
+pub format_known : (f : FormatOption) (held : List ℕ) (found : InputFormat) (remaining : Option (List ℕ))
+    → 4 ≤ length held → found ≡ format_of f held
+    → IfSome (prepend_known held remaining) (λ l. found ≡ format_of f l)
+format_known f held found None size is = tt
+format_known f held found (Some rest) size is = is ∙ sym (format_front f held rest size)
 
 kept : (Q : List ℕ → Type 0) (a b : Option (List ℕ)) → Keeps a b → IfSome b Q → IfSome a Q
 kept Q None b keeps holds = tt
