@@ -309,7 +309,7 @@ class Model:
 
     def sender(self, packet):
         """Returns the association of a packet, and which end sent it; None if it begins another."""
-        key, tag, types = packet['key'], packet['tag'], packet['types']
+        key, types = packet['key'], packet['types']
         found = self.with_tag(packet)
         if found or packet['reflected']:
             return found

@@ -40,6 +40,7 @@ VALUES = DATA, I_DATA, INIT, INIT_ACK, RE_CONFIG, FORWARD_TSN, I_FORWARD_TSN
 
 # ---- the model
 
+
 class Fragment:
     """A DATA or an I-DATA, by its fields; `at` is its TSN, counted on beyond 2^32."""
 
@@ -346,7 +347,8 @@ def payloads(path):
         while at + 4 <= len(frame):
             kind, _, size = struct.unpack_from('>BBH', frame, at)
             if kind in VALUES:
-                yield frame[at + {DATA: 16, I_DATA: 20}.get(kind, 4):at + size]
+                before = {DATA: 16, I_DATA: 20}.get(kind, 4)
+                yield frame[at + before:at + size]
             at += max(4, (size + 3) // 4 * 4)
 
     return of_packet
