@@ -71,7 +71,7 @@ FOR_THE_TOOL = [r'dcsctp_receive::(chunk_test|chunk_type|fields)\b']
 
 # What the doc comment of a public function begins with. One verb says one thing: a call returns, and doesn't give or yield.
 VERBS = set('''
-    Accepts Adds Appends Begins Brings Builds Checks Copies Counts Drops Ends Fills Finds Forgets Hands Keeps Locates Makes Notes Opens
+    Accepts Adds Appends Begins Brings Builds Checks Copies Counts Drops Ends Fills Finds Forgets Goes Hands Keeps Locates Makes Notes Opens
     Prints Proves Puts Reads Remembers Replaces Returns Runs Sets Shows Splits Takes Verifies Waits Watches Writes
 '''.split())
 

@@ -70,7 +70,7 @@ def main(root):
                 wrong += 1
                 print(f'{os.path.relpath(page, root)}: {link} leads nowhere')
     believed = pages.get(os.path.join(root, 'docs/ARCHITECTURE.md'), '').partition('## What must be believed')[2].partition('\n## ')[0]
-    for name in unlisted(root, believed) if os.path.isdir(os.path.join(root, 'crates')) else []:
+    for name in unlisted(root, believed) if os.path.isdir(os.path.join(root, 'crates/dcsctp_wire/specs')) else []:
         wrong += 1
         print(f'docs/ARCHITECTURE.md: the list of definitions: {name}')
     if wrong or not followed:

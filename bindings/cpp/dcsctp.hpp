@@ -463,7 +463,7 @@ enum class action : std::uint32_t {
 /// What is done with a packet, by its verification tag.
 enum class tag_verdict : std::uint32_t {
     accept = DCSCTP_TAG_ACCEPT,                   ///< the tag is right: the packet is processed
-    establish = DCSCTP_TAG_ESTABLISH, ///< an INIT alone under the tag 0, or COOKIE ECHO first or behind AUTH: see section 5
+    establish = DCSCTP_TAG_ESTABLISH, ///< an INIT alone under the tag 0, or COOKIE ECHO first or behind one AUTH: see section 5
     out_of_the_blue = DCSCTP_TAG_OUT_OF_THE_BLUE, ///< the packet is treated as if it belonged to no association
     discard = DCSCTP_TAG_DISCARD                  ///< the packet is discarded, without an answer
 };
@@ -471,20 +471,21 @@ enum class tag_verdict : std::uint32_t {
 enum class answer : std::uint32_t {
     discard = DCSCTP_ANSWER_DISCARD,                     ///< it is discarded, without an answer
     init = DCSCTP_ANSWER_INIT,                           ///< its INIT is processed (section 5.1)
-    cookie_echo = DCSCTP_ANSWER_COOKIE_ECHO,             ///< its COOKIE ECHO, first or behind AUTH, is processed (section 5.1)
+    cookie_echo = DCSCTP_ANSWER_COOKIE_ECHO,             ///< its COOKIE ECHO, first or behind one AUTH, is processed (section 5.1)
     shutdown_complete = DCSCTP_ANSWER_SHUTDOWN_COMPLETE, ///< reply returns what is sent back
     abort = DCSCTP_ANSWER_ABORT                          ///< the same
 };
 /// What is wrong with a packet that carries INIT or INIT ACK: the first of these that is so.
 enum class init_fault : std::uint32_t {
-    no_fault = DCSCTP_INIT_NO_FAULT,                       ///< it can be processed
+    no_fault = DCSCTP_INIT_NO_FAULT,                       ///< none of these
     not_alone = DCSCTP_INIT_NOT_ALONE,                     ///< the packet doesn't hold this chunk alone
     too_short = DCSCTP_INIT_TOO_SHORT,                     ///< the chunk has no room for its numbers
     tag_zero = DCSCTP_INIT_TAG_ZERO,                       ///< the initiate tag is 0
     small_window = DCSCTP_INIT_SMALL_WINDOW,               ///< the window is smaller than 1,500 bytes
     no_outbound_streams = DCSCTP_INIT_NO_OUTBOUND_STREAMS, ///< their number is 0
     no_inbound_streams = DCSCTP_INIT_NO_INBOUND_STREAMS,   ///< their number is 0
-    no_state_cookie = DCSCTP_INIT_NO_STATE_COOKIE          ///< INIT ACK lacks its State Cookie
+    no_state_cookie = DCSCTP_INIT_NO_STATE_COOKIE,         ///< INIT ACK lacks its State Cookie
+    host_name_address = DCSCTP_INIT_HOST_NAME_ADDRESS      ///< it has a Host Name Address (section 3.3.2.1.4)
 };
 /// What is done with a packet whose INIT or INIT ACK isn't processed.
 enum class refusal : std::uint32_t {
@@ -513,13 +514,13 @@ enum class rule : std::uint32_t {
     initiate_tag_zero = DCSCTP_RULE_INITIATE_TAG_ZERO,
     /// the number of outbound or inbound streams is 0 (RFC 9260 sections 3.3.2 and 3.3.3)
     no_streams = DCSCTP_RULE_NO_STREAMS,
-    /// INIT or INIT ACK advertises a window below 1,500 bytes (RFC 9260 section 6)
+    /// INIT or INIT ACK advertises a window below 1,500 bytes (RFC 9260 sections 3.3.2 and 6)
     small_window = DCSCTP_RULE_SMALL_WINDOW,
     /// INIT ACK has no State Cookie (RFC 9260 section 3.3.3)
     init_ack_cookie = DCSCTP_RULE_INIT_ACK_COOKIE,
     /// HEARTBEAT has no Heartbeat Info (RFC 9260 section 3.3.5)
     heartbeat_info = DCSCTP_RULE_HEARTBEAT_INFO,
-    /// DATA or I-DATA has no user data (RFC 9260 section 6.2)
+    /// DATA or I-DATA has no user data (RFC 9260 section 3.3.1)
     no_user_data = DCSCTP_RULE_NO_USER_DATA,
     /// an association has both DATA and I-DATA (RFC 8260 section 2.2.1)
     data_beside_idata = DCSCTP_RULE_DATA_BESIDE_IDATA,
@@ -1572,19 +1573,19 @@ class packet {
         return static_cast<tag_verdict>(::dcsctp_verify_tag(bytes_.data(), bytes_.size(), &known));
     }
     /// Returns what is done with it where it belongs to no association (section 8.4); `is_unicast` says whether it is to
-    /// and from unicast addresses.
+    /// and from unicast addresses. Ask only of a packet that check accepts: other bytes may be answered too.
     [[nodiscard]] answer out_of_the_blue(bool is_unicast) const noexcept
     {
         return static_cast<answer>(::dcsctp_out_of_the_blue(bytes_.data(), bytes_.size(), is_unicast));
     }
     /// Returns the fault of an INIT (section 3.3.2), or of an INIT ACK (section 3.3.3) where `is_ack` is true. Of the
-    /// parameters the State Cookie alone is looked for.
+    /// parameters State Cookie and Host Name Address alone are looked for.
     [[nodiscard]] dcsctp::init_fault init_fault(bool is_ack) const noexcept
     {
         return static_cast<dcsctp::init_fault>(::dcsctp_init_fault(bytes_.data(), bytes_.size(), is_ack));
     }
     /// Returns the rules that it breaks. Its common header and its chunks are looked at, up to the first chunk whose length
-    /// is impossible: what can't be read breaks no rule. Its CRC32c is computed here.
+    /// is impossible: a field that isn't there breaks no rule. Its CRC32c is computed here.
     [[nodiscard]] rules broken_rules(const known_association &of = {}) const noexcept
     {
         return rules(::dcsctp_broken_rules(bytes_.data(), bytes_.size(), &of));
@@ -1784,7 +1785,8 @@ template <typename Call> outcome<std::vector<std::uint8_t>> made(std::size_t mos
 /// Returns whether an INIT adds addresses to an association that is there already (section 5.2.2): an ABORT under its
 /// initiate tag answers it, with builder::add_new_addresses, and the association stays as it is. `known` are the
 /// association's addresses, as parameters: the bytes() of each IPv4 Address and IPv6 Address, one after the other. The
-/// address that the packet came from isn't in the INIT: look at it yourself.
+/// address that the packet came from isn't in the INIT: look at it yourself. Each of the INIT's addresses is compared with
+/// each known one, both of which may be the peer's: bound how many you keep.
 [[nodiscard]] inline bool adds_addresses(const chunk &of, bytes_view known) noexcept
 {
     const bytes_view list = of.list();

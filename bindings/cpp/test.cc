@@ -1573,7 +1573,8 @@ void out_of_the_blue()
         dcsctp::answer answer;
     } rows[] = {
         {bare(other_tag, {{chunk_type::shutdown_ack, 0}, {chunk_type::abort, 0}}), answer::discard},
-        {bare(0, {{chunk_type::init, 0}, {chunk_type::shutdown_ack, 0}}), answer::init},
+        {bare(0, {{chunk_type::init, 0}}), answer::init},
+        {bare(0, {{chunk_type::init, 0}, {chunk_type::shutdown_ack, 0}}), answer::discard},
         {bare(other_tag, {{chunk_type::init, 0}}), answer::abort},
         {bare(other_tag, {{chunk_type::cookie_echo, 0}, {chunk_type::shutdown_ack, 0}}), answer::cookie_echo},
         {bare(other_tag, {{chunk_type::auth, 0}, {chunk_type::cookie_echo, 0}}), answer::cookie_echo},
@@ -1640,16 +1641,20 @@ void init_faults()
     }
     const bytes empty = bare(0, {{chunk_type::init, 0}});
     CHECK(packet(empty).init_fault(false) == init_fault::too_short && packet().init_fault(false) == init_fault::not_alone);
+    bytes named;
+    builder to(named, 5000, 5001, 0);
+    CHECK(to.add_init({1, 1500, 1, 1, 0}) && to.add_parameter(parameter_type::host_name_address, as_bytes("a.")));
+    CHECK(packet(named).init_fault(false) == init_fault::host_name_address);
 
     // Of an INIT (sections 3.3.2 and 8.5.1), and of an INIT ACK in COOKIE-WAIT (sections 3.3.3 and 5.1), by the fault's
     // number; and the ABORT: under the initiate tag, or reflected where there is none, with its cause.
-    const std::uint32_t of_init[] = {0, 0, 0, 0, 1, 1, 1, 0, 0}, of_ack[] = {0, 0, 0, 2, 1, 2, 2, 2, 0};
+    const std::uint32_t of_init[] = {0, 0, 0, 0, 1, 1, 1, 0, 1, 0}, of_ack[] = {0, 0, 0, 2, 1, 2, 2, 2, 2, 0};
     const char *const none = "1389 1388 090a0b0c 00000000 06000004",
                       *const invalid = "1389 1388 090a0b0c 00000000 06000008 00070004",
                       *const reflected = "1389 1388 01020304 00000000 06010008 00070004",
                       *const missing = "1389 1388 090a0b0c 00000000 0600000e 0002000a 00000001 0007 0000";
-    const char *const aborts[] = {"", none, none, reflected, invalid, invalid, invalid, missing, ""};
-    for (unsigned i = 0; i < 9; i++) {
+    const char *const aborts[] = {"", none, none, reflected, invalid, invalid, invalid, missing, none, ""};
+    for (unsigned i = 0; i < 10; i++) {
         const auto fault = static_cast<init_fault>(i);
         CHECK(number(init_refusal(fault, false, false)) == of_init[i]);
         CHECK(number(init_refusal(fault, false, true)) == of_init[i]);

@@ -71,7 +71,7 @@ type TagVerdict uint32
 const (
 	// TagAccept: the tag is right, and the packet is processed.
 	TagAccept TagVerdict = C.DCSCTP_TAG_ACCEPT
-	// TagEstablish: an INIT alone under the tag 0, or COOKIE ECHO first or behind AUTH, under any other; section 5 says what is done.
+	// TagEstablish: an INIT alone under the tag 0, or COOKIE ECHO first or behind one AUTH, under any other; section 5 says what is done.
 	// It goes where AnswerInit and AnswerCookieEcho go. Of an association that is there already INIT gets an INIT ACK with another
 	// tag, and a State Cookie with the Tie-Tags (section 5.2.2), and COOKIE ECHO what Table 12 says (section 5.2.4).
 	TagEstablish TagVerdict = C.DCSCTP_TAG_ESTABLISH
@@ -105,7 +105,7 @@ const (
 	AnswerDiscard Answer = C.DCSCTP_ANSWER_DISCARD
 	// AnswerInit: its INIT is processed (section 5.1).
 	AnswerInit Answer = C.DCSCTP_ANSWER_INIT
-	// AnswerCookieEcho: its COOKIE ECHO, first or behind AUTH, is processed (section 5.1).
+	// AnswerCookieEcho: its COOKIE ECHO, first or behind one AUTH, is processed (section 5.1).
 	AnswerCookieEcho Answer = C.DCSCTP_ANSWER_COOKIE_ECHO
 	// AnswerShutdownComplete: Header.Reply has what is sent back.
 	AnswerShutdownComplete Answer = C.DCSCTP_ANSWER_SHUTDOWN_COMPLETE
@@ -119,7 +119,7 @@ func (a Answer) String() string {
 }
 
 // OutOfTheBlue returns what is done with the packet where it belongs to no association (section 8.4); isUnicast says
-// whether it is to and from unicast addresses.
+// whether it is to and from unicast addresses. Ask only of a packet that Check accepts: other bytes may be answered too.
 func (p Packet) OutOfTheBlue(isUnicast bool) Answer {
 	return Answer(C.dcsctp_out_of_the_blue(bytesOf(p), C.size_t(len(p)), C.bool(isUnicast)))
 }
@@ -137,7 +137,7 @@ type InitFault uint32
 
 // The faults.
 const (
-	// InitNoFault: it can be processed.
+	// InitNoFault: none of these.
 	InitNoFault InitFault = C.DCSCTP_INIT_NO_FAULT
 	// InitNotAlone: the packet doesn't hold this chunk alone.
 	InitNotAlone InitFault = C.DCSCTP_INIT_NOT_ALONE
@@ -153,16 +153,18 @@ const (
 	InitNoInboundStreams InitFault = C.DCSCTP_INIT_NO_INBOUND_STREAMS
 	// InitNoStateCookie: INIT ACK lacks its State Cookie.
 	InitNoStateCookie InitFault = C.DCSCTP_INIT_NO_STATE_COOKIE
+	// InitHostNameAddress: it has a Host Name Address (section 3.3.2.1.4).
+	InitHostNameAddress InitFault = C.DCSCTP_INIT_HOST_NAME_ADDRESS
 )
 
 // String returns what is wrong, in a few words.
 func (f InitFault) String() string {
 	return worded(uint32(f), "fault", "no fault", "not alone", "too short", "initiate tag 0", "small window", "no outbound streams",
-		"no inbound streams", "no State Cookie")
+		"no inbound streams", "no State Cookie", "Host Name Address")
 }
 
 // InitFault returns the fault of an INIT (section 3.3.2), or of an INIT ACK (section 3.3.3) where isAck is true. Of the
-// parameters the State Cookie alone is looked for.
+// parameters State Cookie and Host Name Address alone are looked for.
 func (p Packet) InitFault(isAck bool) InitFault {
 	return InitFault(C.dcsctp_init_fault(bytesOf(p), C.size_t(len(p)), C.bool(isAck)))
 }
@@ -205,7 +207,8 @@ func (h Header) InitAbort(initiateTag uint32, fault InitFault) (Packet, error) {
 // AddsAddresses returns whether an INIT adds addresses to an association that is there already (section 5.2.2): an ABORT under its
 // InitiateTag answers it, with AddNewAddresses, and the association stays as it is. known are the association's addresses, as
 // parameters: the Bytes of each IPv4 Address and IPv6 Address, one after the other. The address that the packet came from isn't
-// in the INIT: look at it yourself.
+// in the INIT: look at it yourself. Each of the INIT's addresses is compared with each known one, both of which may be the peer's:
+// bound how many you keep.
 func (chunk Chunk) AddsAddresses(known []byte) bool {
 	bytes, length, c := chunk.inC()
 	return bool(C.go_adds_addresses(bytes, length, &c, bytesOf(known), C.size_t(len(known))))
@@ -229,13 +232,13 @@ const (
 	RuleInitiateTagZero Rules = C.DCSCTP_RULE_INITIATE_TAG_ZERO
 	// RuleNoStreams: the number of outbound or inbound streams is 0 (RFC 9260 sections 3.3.2 and 3.3.3).
 	RuleNoStreams Rules = C.DCSCTP_RULE_NO_STREAMS
-	// RuleSmallWindow: INIT or INIT ACK advertises a window below 1,500 bytes (RFC 9260 section 6).
+	// RuleSmallWindow: INIT or INIT ACK advertises a window below 1,500 bytes (RFC 9260 sections 3.3.2 and 6).
 	RuleSmallWindow Rules = C.DCSCTP_RULE_SMALL_WINDOW
 	// RuleInitAckCookie: INIT ACK has no State Cookie (RFC 9260 section 3.3.3).
 	RuleInitAckCookie Rules = C.DCSCTP_RULE_INIT_ACK_COOKIE
 	// RuleHeartbeatInfo: HEARTBEAT has no Heartbeat Info (RFC 9260 section 3.3.5).
 	RuleHeartbeatInfo Rules = C.DCSCTP_RULE_HEARTBEAT_INFO
-	// RuleNoUserData: DATA or I-DATA has no user data (RFC 9260 section 6.2).
+	// RuleNoUserData: DATA or I-DATA has no user data (RFC 9260 section 3.3.1).
 	RuleNoUserData Rules = C.DCSCTP_RULE_NO_USER_DATA
 	// RuleDataBesideIData: an association has both DATA and I-DATA (RFC 8260 section 2.2.1).
 	RuleDataBesideIData Rules = C.DCSCTP_RULE_DATA_BESIDE_IDATA
@@ -293,7 +296,7 @@ type Known struct {
 }
 
 // BrokenRules returns the rules that the packet breaks. Its common header and its chunks are looked at, up to the first chunk
-// whose length is impossible: what can't be read breaks no rule. Its CRC32c is computed here.
+// whose length is impossible: a field that isn't there breaks no rule. Its CRC32c is computed here.
 func (p Packet) BrokenRules(known Known) Rules {
 	return Rules(C.go_broken_rules(bytesOf(p), C.size_t(len(p)), C.struct_dcsctp_known{
 		refuses_zero: C.bool(known.RefusesZero),

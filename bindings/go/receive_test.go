@@ -116,7 +116,8 @@ func TestOutOfTheBlue(t *testing.T) {
 		answer davgyuti.Answer
 	}{
 		{bareOf(other, [2]int{shutdownAck, 0}, [2]int{abort, 0}), davgyuti.AnswerDiscard},
-		{bareOf(0, [2]int{init, 0}, [2]int{shutdownAck, 0}), davgyuti.AnswerInit},
+		{bareOf(0, [2]int{init, 0}), davgyuti.AnswerInit},
+		{bareOf(0, [2]int{init, 0}, [2]int{shutdownAck, 0}), davgyuti.AnswerDiscard},
 		{bareOf(other, [2]int{init, 0}), davgyuti.AnswerAbort},
 		{bareOf(other, [2]int{echo, 0}, [2]int{shutdownAck, 0}), davgyuti.AnswerCookieEcho},
 		{bareOf(other, [2]int{int(davgyuti.ChunkAuth), 0}, [2]int{echo, 0}), davgyuti.AnswerCookieEcho},
@@ -199,12 +200,15 @@ func TestInitFault(t *testing.T) {
 	}
 	equal(t, "short", bareOf(0, [2]int{int(davgyuti.ChunkInit), 0}).InitFault(false), davgyuti.InitTooShort)
 	equal(t, "no bytes", davgyuti.Packet(nil).InitFault(false), davgyuti.InitNotAlone)
+	named := packetOf(false, davgyuti.Init{InitiateTag: 1, ARwnd: 1500, OutboundStreams: 1, InboundStreams: 1}, nil)
+	equal(t, "a name", named.AddParameter(davgyuti.ParameterHostNameAddress, []byte("a.")), nil)
+	equal(t, "named", faultOf(named, false), davgyuti.InitHostNameAddress)
 }
 
 // Of an INIT (sections 3.3.2 and 8.5.1), and of an INIT ACK in COOKIE-WAIT (sections 3.3.3 and 5.1), by the fault's number.
 func TestRefusal(t *testing.T) {
-	ofInit, ofAck := []davgyuti.Refusal{0, 0, 0, 0, 1, 1, 1, 0, 0}, []davgyuti.Refusal{0, 0, 0, 2, 1, 2, 2, 2, 0}
-	for fault := davgyuti.InitFault(0); fault < 9; fault++ {
+	ofInit, ofAck := []davgyuti.Refusal{0, 0, 0, 0, 1, 1, 1, 0, 1, 0}, []davgyuti.Refusal{0, 0, 0, 2, 1, 2, 2, 2, 2, 0}
+	for fault := davgyuti.InitFault(0); fault < 10; fault++ {
 		equal(t, fault.String(), []davgyuti.Refusal{fault.Refusal(false, false), fault.Refusal(false, true)},
 			[]davgyuti.Refusal{ofInit[fault], ofInit[fault]})
 		equal(t, fault.String(), fault.Refusal(true, true), ofAck[fault])
@@ -219,7 +223,7 @@ func TestInitAbort(t *testing.T) {
 	header := davgyuti.Header{SourcePort: 5000, DestinationPort: 5001, VerificationTag: own, Checksum: 77}
 	const front, invalid = "1389 1388 090a0b0c 00000000 ", "06000008 00070004"
 	for fault, wanted := range []string{"", front + "06000004", front + "06000004", "1389 1388 01020304 00000000 06010008 00070004",
-		front + invalid, front + invalid, front + invalid, front + "0600000e 0002000a 00000001 0007 0000", ""} {
+		front + invalid, front + invalid, front + invalid, front + "0600000e 0002000a 00000001 0007 0000", front + "06000004", ""} {
 		fault := davgyuti.InitFault(fault)
 		tag := uint32(other)
 		if fault == davgyuti.InitTagZero {
@@ -247,8 +251,10 @@ func TestWords(t *testing.T) {
 		{[]davgyuti.Answer{davgyuti.AnswerDiscard, davgyuti.AnswerInit, davgyuti.AnswerCookieEcho, davgyuti.AnswerShutdownComplete,
 			davgyuti.AnswerAbort, 5}, "[discard INIT COOKIE ECHO SHUTDOWN COMPLETE ABORT answer 5]"},
 		{[]davgyuti.InitFault{davgyuti.InitNoFault, davgyuti.InitNotAlone, davgyuti.InitTooShort, davgyuti.InitTagZero,
-			davgyuti.InitSmallWindow, davgyuti.InitNoOutboundStreams, davgyuti.InitNoInboundStreams, davgyuti.InitNoStateCookie, 8},
-			"[no fault not alone too short initiate tag 0 small window no outbound streams no inbound streams no State Cookie fault 8]"},
+			davgyuti.InitSmallWindow, davgyuti.InitNoOutboundStreams, davgyuti.InitNoInboundStreams, davgyuti.InitNoStateCookie,
+			davgyuti.InitHostNameAddress, 9},
+			"[no fault not alone too short initiate tag 0 small window no outbound streams no inbound streams no State Cookie " +
+				"Host Name Address fault 9]"},
 		{[]davgyuti.Refusal{davgyuti.RefusalDiscard, davgyuti.RefusalAbort, davgyuti.RefusalDestroyAndAbort, 3},
 			"[discard abort destroy and abort refusal 3]"},
 	} {

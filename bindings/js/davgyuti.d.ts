@@ -697,7 +697,7 @@ export interface Association {
 export const TagVerdict: {
   /** The tag is right: the packet is processed. */
   readonly ACCEPT: 0;
-  /** An INIT alone under the tag 0, or COOKIE ECHO first or behind AUTH: section 5 says what is done. */
+  /** An INIT alone under the tag 0, or COOKIE ECHO first or behind one AUTH: section 5 says what is done. */
   readonly ESTABLISH: 1;
   /** The packet is treated as if it belonged to no association. */
   readonly OUT_OF_THE_BLUE: 2;
@@ -714,7 +714,7 @@ export const Answer: {
   readonly DISCARD: 0;
   /** Its INIT is processed (section 5.1). */
   readonly INIT: 1;
-  /** Its COOKIE ECHO, first or behind AUTH, is processed (section 5.1). */
+  /** Its COOKIE ECHO, first or behind one AUTH, is processed (section 5.1). */
   readonly COOKIE_ECHO: 2;
   /** `reply` returns what is sent back. */
   readonly SHUTDOWN_COMPLETE: 3;
@@ -723,7 +723,7 @@ export const Answer: {
 };
 export type Answer = Of<typeof Answer>;
 /** Returns what is done with a packet that belongs to no association (section 8.4). `isUnicast` says whether it is to and from unicast
-    addresses. */
+    addresses. Ask only of a packet that `check` accepts: other bytes may be answered too. */
 export function outOfTheBlue(bytes: Uint8Array, isUnicast: boolean): Answer;
 /** Returns what is sent back to the sender of a packet with this header: the tag reflected, with the T bit. Seal it. Throws a
     WriteError of BAD_VALUE for another answer than SHUTDOWN_COMPLETE and ABORT. */
@@ -731,7 +731,7 @@ export function reply(header: Header, answer: Answer): Uint8Array;
 
 /** What is wrong with a packet that carries INIT or INIT ACK: the first of these that is so. */
 export const InitFault: {
-  /** It can be processed. */
+  /** None of these. */
   readonly NO_FAULT: 0;
   /** The packet doesn't hold this chunk alone. */
   readonly NOT_ALONE: 1;
@@ -746,10 +746,12 @@ export const InitFault: {
   readonly NO_INBOUND_STREAMS: 6;
   /** INIT ACK lacks its State Cookie. */
   readonly NO_STATE_COOKIE: 7;
+  /** It has a Host Name Address (section 3.3.2.1.4). */
+  readonly HOST_NAME_ADDRESS: 8;
 };
 export type InitFault = Of<typeof InitFault>;
-/** Returns the fault of an INIT (section 3.3.2), or of an INIT ACK (section 3.3.3) where `isAck` is true. Of the parameters the State
-    Cookie alone is looked for. */
+/** Returns the fault of an INIT (section 3.3.2), or of an INIT ACK (section 3.3.3) where `isAck` is true. Of the parameters State
+    Cookie and Host Name Address alone are looked for. */
 export function initFault(bytes: Uint8Array, isAck: boolean): InitFault;
 /** What is done with a packet whose INIT or INIT ACK isn't processed. */
 export const Refusal: {
@@ -771,7 +773,8 @@ export function initAbort(header: Header, initiateTag: number, fault: InitFault)
 /** Returns whether an INIT adds addresses to an association that is there already (section 5.2.2): an ABORT under its initiate tag
     answers it, with `addNewAddresses`, and the association stays as it is. `known` are the association's addresses, as parameters: the
     `bytes` of each IPv4 Address and IPv6 Address, one after the other. The address that the packet came from isn't in the INIT: look
-    at it yourself. */
+    at it yourself. Each of the INIT's addresses is compared with each known one, both of which may be the peer's: bound how many
+    you keep. */
 export function addsAddresses(init: UncheckedChunk, known: Uint8Array): boolean;
 
 /** A rule of the RFCs that `check` doesn't look at, which accepts a packet that breaks it: what breaks it, and the section that gives
@@ -789,13 +792,13 @@ export const Rule: {
   readonly INITIATE_TAG_ZERO: 0x10;
   /** The number of outbound or inbound streams is 0 (RFC 9260 sections 3.3.2 and 3.3.3). */
   readonly NO_STREAMS: 0x20;
-  /** INIT or INIT ACK advertises a window below 1,500 bytes (RFC 9260 section 6). */
+  /** INIT or INIT ACK advertises a window below 1,500 bytes (RFC 9260 sections 3.3.2 and 6). */
   readonly SMALL_WINDOW: 0x40;
   /** INIT ACK has no State Cookie (RFC 9260 section 3.3.3). */
   readonly INIT_ACK_COOKIE: 0x80;
   /** HEARTBEAT has no Heartbeat Info (RFC 9260 section 3.3.5). */
   readonly HEARTBEAT_INFO: 0x100;
-  /** DATA or I-DATA has no user data (RFC 9260 section 6.2). */
+  /** DATA or I-DATA has no user data (RFC 9260 section 3.3.1). */
   readonly NO_USER_DATA: 0x200;
   /** An association has both DATA and I-DATA (RFC 8260 section 2.2.1). */
   readonly DATA_BESIDE_IDATA: 0x400;
@@ -829,7 +832,7 @@ export interface Known {
   hasIData?: boolean;
 }
 /** Returns the rules that a packet breaks, in the order of their numbers. Its common header and its chunks are looked at, up to the
-    first chunk whose length is impossible: what can't be read breaks no rule. Its CRC32c is computed here. */
+    first chunk whose length is impossible: a field that isn't there breaks no rule. Its CRC32c is computed here. */
 export function brokenRules(bytes: Uint8Array, known?: Known): Rule[];
 
 // ---- what is authenticated, under keys of yours

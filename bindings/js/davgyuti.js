@@ -44,6 +44,7 @@ const InitFault = Object.freeze({
   NO_OUTBOUND_STREAMS: 5,
   NO_INBOUND_STREAMS: 6,
   NO_STATE_COOKIE: 7,
+  HOST_NAME_ADDRESS: 8,
 });
 
 const Refusal = Object.freeze({ DISCARD: 0, ABORT: 1, DESTROY_AND_ABORT: 2 });

@@ -95,11 +95,13 @@ static bool answer_init(const struct dcsctp_header *header)
                               DCSCTP_PARAMETER_HOST_NAME_ADDRESS, DCSCTP_PARAMETER_SUPPORTED_ADDRESS_TYPES,
                               DCSCTP_PARAMETER_SUPPORTED_EXTENSIONS};
     const size_t list = dcsctp_list_offset(&chunk);
+    const uint32_t fault = dcsctp_init_fault(bytes, length, false);
     uint16_t types[8] = {DCSCTP_PARAMETER_IPV4_ADDRESS, DCSCTP_PARAMETER_IPV6_ADDRESS};
     size_t type_count = 2, at, end;
     struct dcsctp_init init;
     struct dcsctp_parameter item;
-    if (header->verification_tag != 0 || dcsctp_init_fault(bytes, length, false) != DCSCTP_INIT_NO_FAULT
+    /* (a Host Name Address is answered below, with a cause) */
+    if (header->verification_tag != 0 || (fault != DCSCTP_INIT_NO_FAULT && fault != DCSCTP_INIT_HOST_NAME_ADDRESS)
         || !dcsctp_init(CHUNK, &init))
         return false;
     memset(&peer, 0, sizeof peer);

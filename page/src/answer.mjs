@@ -17,7 +17,7 @@ const MESSAGES = [
   [/: doesn't begin as a file of its format$/, 'The file doesn’t begin as its form has to.'],
   [/: a block's length is wrong/, 'The length of a block is wrong: nothing after it can be read.'],
   [/: link type (\d+) isn't read/, 'Its frames are of link type $1, which isn’t read. Record by `tcpdump -i any`: its frames are read.'],
-  [/: (a read failed|can't be opened)$/, 'The browser couldn’t read the file. If it was changed or moved, choose it once more.'],
+  [/: (a read failed|can't be opened(: .*)?)$/, 'The browser couldn’t read the file. If it was changed or moved, choose it once more.'],
   [/: out of memory$/, 'There isn’t enough memory for the rest: `sctp_dump` on a command line needs less.'],
   [/: is compressed by gzip/, 'It is compressed by gzip twice: unpack it once, and open what comes out.'],
   [/^gzip: /, 'What gzip compressed is damaged, ends early, or has a second part: what comes before that was read.'],

@@ -124,7 +124,8 @@ static void out_of_the_blue(void)
         uint32_t answer;
     } rows[] = {
         {PACKET(OTHER, {DCSCTP_CHUNK_SHUTDOWN_ACK, 0}, {DCSCTP_CHUNK_ABORT, 0}), DCSCTP_ANSWER_DISCARD},
-        {PACKET(0, {DCSCTP_CHUNK_INIT, 0}, {DCSCTP_CHUNK_SHUTDOWN_ACK, 0}), DCSCTP_ANSWER_INIT},
+        {PACKET(0, {DCSCTP_CHUNK_INIT, 0}), DCSCTP_ANSWER_INIT},
+        {PACKET(0, {DCSCTP_CHUNK_INIT, 0}, {DCSCTP_CHUNK_SHUTDOWN_ACK, 0}), DCSCTP_ANSWER_DISCARD},
         {PACKET(OTHER, {DCSCTP_CHUNK_INIT, 0}), DCSCTP_ANSWER_ABORT},
         {PACKET(OTHER, {DCSCTP_CHUNK_COOKIE_ECHO, 0}, {DCSCTP_CHUNK_SHUTDOWN_ACK, 0}), DCSCTP_ANSWER_COOKIE_ECHO},
         {PACKET(OTHER, {DCSCTP_CHUNK_AUTH, 0}, {DCSCTP_CHUNK_COOKIE_ECHO, 0}), DCSCTP_ANSWER_COOKIE_ECHO},
@@ -211,14 +212,18 @@ static void initiations(void)
     }
     struct packet packet = PACKET(0, {DCSCTP_CHUNK_INIT, 0});
     CHECK(init_fault(&packet, false) == DCSCTP_INIT_TOO_SHORT);
+    packet = init_of(false, rows[0].init, false);
+    CHECK(dcsctp_add_parameter(packet.bytes, ROOM, &packet.size, 12, DCSCTP_PARAMETER_HOST_NAME_ADDRESS, (const uint8_t *)"a.", 2)
+          == DCSCTP_OK);
+    CHECK(init_fault(&packet, false) == DCSCTP_INIT_HOST_NAME_ADDRESS);
     CHECK(dcsctp_init_fault(NULL, 0, false) == DCSCTP_INIT_NOT_ALONE);
 }
 
 static void refusals(void)
 {
     /* of an INIT (sections 3.3.2 and 8.5.1), and of an INIT ACK in COOKIE-WAIT (sections 3.3.3 and 5.1), by the fault's number */
-    static const uint32_t of_init[] = {0, 0, 0, 0, 1, 1, 1, 0, 0}, of_ack[] = {0, 0, 0, 2, 1, 2, 2, 2, 0};
-    for (uint32_t fault = 0; fault < 9; fault++) {
+    static const uint32_t of_init[] = {0, 0, 0, 0, 1, 1, 1, 0, 1, 0}, of_ack[] = {0, 0, 0, 2, 1, 2, 2, 2, 2, 0};
+    for (uint32_t fault = 0; fault < 10; fault++) {
         CHECK(dcsctp_init_refusal(fault, false, false) == of_init[fault] && dcsctp_init_refusal(fault, false, true) == of_init[fault]);
         CHECK(dcsctp_init_refusal(fault, true, true) == of_ack[fault]);
         CHECK(dcsctp_init_refusal(fault, true, false) == DCSCTP_REFUSAL_DISCARD);
@@ -235,9 +240,10 @@ static void init_aborts(void)
     const struct {
         const uint8_t *bytes;
         size_t size;
-    } wanted[] = {{NULL, 0}, {none, 16}, {none, 16}, {reflected, 20}, {invalid, 20}, {invalid, 20}, {invalid, 20}, {missing, 28}, {NULL, 0}};
+    } wanted[] = {{NULL, 0}, {none, 16}, {none, 16}, {reflected, 20}, {invalid, 20}, {invalid, 20}, {invalid, 20}, {missing, 28},
+                {none, 16}, {NULL, 0}};
     const struct dcsctp_header header = {5000, 5001, OWN, 77};
-    for (uint32_t fault = 0; fault < 9; fault++) {
+    for (uint32_t fault = 0; fault < 10; fault++) {
         struct packet packet, before;
         memset(&packet, 0xa5, sizeof packet);
         before = packet;

@@ -109,10 +109,11 @@ class Trips:
     """Round trips of DATA, and the TSNs that are awaited."""
 
     def __init__(self):
-        self.waiting, self.trips = {}, []
+        self.waiting, self.trips, self.passed = {}, [], None
 
     def wait(self, tsn, time):
-        if len(self.waiting) < MOST_WAITING:
+        is_passed = self.passed is not None and not after(tsn, self.passed)
+        if len(self.waiting) < MOST_WAITING and not is_passed:
             self.waiting[tsn] = time
 
     def leave(self, tsn):
@@ -123,6 +124,8 @@ class Trips:
             del self.waiting[waiting]
 
     def acknowledged(self, cumulative, blocks, packet, time):
+        if self.passed is None or after(cumulative, self.passed):
+            self.passed = cumulative
         for tsn in list(self.waiting):
             offset = (tsn - cumulative) % 2 ** 32
             if offset == 0 or offset >= 2 ** 31 or any(first <= offset <= last for first, last in blocks):
@@ -157,6 +160,11 @@ class End(Trips):
         self.announced, self.more_announced, self.sequence, self.stale = [], 0, None, []
         # the correlation ids of its ASCONFs, in their order
         self.correlations = {}
+
+    def may_be_at(self, address):
+        """Returns whether an address may be its own: it used or announced it, or more than are kept."""
+        return address is None or address in self.addresses or len(self.addresses) > MOST_ADDRESSES or self.more_announced > 0 or \
+            address in [one['address'] for one in self.announced]
 
     def tsn(self, tsn, packet, time):
         """Counts a TSN. Returns the key and the number by which it counts for its packet."""
@@ -256,8 +264,27 @@ class Association:
     def __init__(self, number, packet, time, chunk, ends, restart_of):
         self.number, self.packet, self.time, self.chunk, self.ends = number, packet, time, chunk, ends
         self.restart_of, self.ended, self.last, self.established, self.strays = restart_of, None, time, None, 0
+        # sides and tags of packets beside it, in their order
+        self.beside = []
         # by the sender's side and both addresses, in the order of their first packets, and how many packets went on others
         self.paths, self.other_paths = {}, 0
+
+    def answer(self, side, packet):
+        """Notes the tag of a packet beside it. Returns the tag with which it answered one another: after a packet with it one of the other
+        end came, without T, and no other tag of this end between; None if there is none."""
+        if packet['reflected'] or not packet['tag']:
+            return None
+        tag, answer = packet['tag'], None
+        for other_side, other in reversed(self.beside):
+            if other_side == side:
+                if other == tag and answer is not None:
+                    return answer
+                if other != tag:
+                    break
+            elif answer is None:
+                answer = other
+        self.beside.append((side, tag))
+        return None
 
     def path(self, side, packet):
         """Returns the path of a packet; None if there is no room for it."""
@@ -275,42 +302,65 @@ class Model:
 
     def __init__(self):
         self.all, self.by_tag, self.by_route, self.unknown = [], {}, {}, 0
+        # those that began midway, by the ports of what the second end sends
+        self.midway = {}
         # of each packet's number what is printed of its association
         self.members = {}
 
     def sender(self, packet):
         """Returns the association of a packet, and which end sent it; None if it begins another."""
-        key, tag, types = packet['key'], packet['tag'], packet['types']
-        if types[:1] == [INIT]:
-            found = self.by_tag.get((key[1], key[0], packet['initiate']))
-            if found:
-                return found[0], 1 - found[1]
-            for side in 0, 1:
-                known = self.by_route.get(packet['route'][::-1] if side else packet['route'])
-                if known and known.chunk == INIT and not known.ended and not known.ends[side].tags and \
-                        known.ends[1 - side].tags[:1] != [packet['initiate']]:
+        key, types = packet['key'], packet['types']
+        found = self.with_tag(packet)
+        if found or packet['reflected']:
+            return found
+        on_route = [(self.by_route.get(packet['route'][::-1] if side else packet['route']), side) for side in (0, 1)]
+        for known, side in on_route:
+            if not known:
+                continue
+            from_end, to_end = known.ends[side], known.ends[1 - side]
+            is_initiated = known.chunk == INIT and not known.ended
+            if types[:1] == [INIT]:
+                if is_initiated and not from_end.tags and to_end.tags[:1] != [packet['initiate']]:
                     return known, side
-            return None
-        if packet['reflected']:
-            found = self.by_tag.get((key[1], key[0], tag))
-            return found and (found[0], 1 - found[1])
-        if (*key, tag) in self.by_tag:
-            return self.by_tag[(*key, tag)]
-        for side in 0, 1:
-            known = self.by_route.get(packet['route'][::-1] if side else packet['route'])
             # an INIT that is sent again may be answered by several tags
-            is_answer = types[:1] == [COOKIE_ECHO] and known and known.chunk == INIT and not known.ended and not known.established
-            if known and (not known.ends[1 - side].tags or is_answer):
+            elif not to_end.tags or types[:1] == [COOKIE_ECHO] and is_initiated and not known.established:
                 return known, side
+        known = self.midway.get(key)
+        if known and not known.ends[0].tags and packet['chunks'] and self.goes_on(known, *packet['chunks'][0]):
+            return known, 1
         return None
 
+    def with_tag(self, packet):
+        """Returns the association whose end chose the packet's tag: of several the latest with one of its addresses, else the latest, but
+        an INIT between other addresses is of none."""
+        key, is_init = packet['key'], packet['types'][:1] == [INIT]
+        by_sender = is_init or packet['reflected']
+        chosen = (key[1], key[0], packet['initiate'] if is_init else packet['tag']) if by_sender else (*key, packet['tag'])
+        found = [(known, 1 - side if by_sender else side) for known, side in self.by_tag.get(chosen, ())]
+        near = [(known, side) for known, side in found
+                if known.ends[side].may_be_at(packet['route'][0][0]) or known.ends[1 - side].may_be_at(packet['route'][1][0])]
+        return (near or ([] if is_init else found) or [None])[-1]
+
+    @staticmethod
+    def goes_on(known, kind, value):
+        """Returns whether the second end, of which no packet was seen, goes on so: it acknowledges what the first end sent, or sends what
+        follows the TSN that the first end acknowledged."""
+        first, second = known.ends
+        if kind in (SACK, NR_SACK, SHUTDOWN) and first.last is not None:
+            return (first.last - (value if kind == SHUTDOWN else value[0])) % 2 ** 32 < 2048
+        if kind in (DATA, I_DATA) and second.cumulative:
+            return 0 < (value[0] - second.cumulative[0]) % 2 ** 32 <= 2048
+        return kind == HEARTBEAT_ACK and value in [info for info, _ in first.pending]
+
     def beside(self, packet):
-        """Returns the living association beside which a packet is out of the blue (RFC 9260 section 8.4)."""
+        """Returns the living association beside which a packet is out of the blue (RFC 9260 section 8.4), and its sender's side there."""
         route = packet['route']
-        known = self.by_route.get(route) or self.by_route.get(route[::-1])
-        if packet['types'][:1] != [INIT] and known and not known.ended and route[0] != route[1]:
-            return known
-        return None
+        known, side = self.by_route.get(route), 0
+        if not known:
+            known, side = self.by_route.get(route[::-1]), 1
+        if packet['types'][:1] == [INIT] or not known or known.ended or route[0] == route[1]:
+            return None
+        return known, side
 
     def learn(self, association, side, tag):
         """The end chose this tag: packets to it carry it. The two latest tags are known."""
@@ -321,18 +371,21 @@ class Model:
             end.tags.reverse()
             return
         if len(end.tags) == 2:
-            self.by_tag.pop((other.port, end.port, end.tags.pop()), None)
+            self.by_tag[other.port, end.port, end.tags.pop()].remove((association, 1 - side))
         end.tags.insert(0, tag)
-        self.by_tag[other.port, end.port, tag] = (association, 1 - side)
+        self.by_tag.setdefault((other.port, end.port, tag), []).append((association, 1 - side))
 
     def see(self, packet):
         member = self.members[packet['number']] = {}
         found = self.sender(packet)
-        known = None if found else self.beside(packet)
-        if known:
-            known.strays += 1
-            self.unknown += 1
-            return
+        answer = None
+        if not found and self.beside(packet):
+            known, side = self.beside(packet)
+            answer = known.answer(side, packet)
+            if answer is None:
+                known.strays += 1
+                self.unknown += 1
+                return
         if not found:
             ends = [End(packet['key'][0]), End(packet['key'][1])]
             route, restart_of = packet['route'], None
@@ -345,6 +398,9 @@ class Model:
             self.all.append(association)
             self.by_route.pop(route[::-1], None)
             self.by_route[route] = association
+            if packet['types'][:1] != [INIT]:
+                self.midway[packet['key'][::-1]] = association
+            self.learn(association, 0, answer)
             found = association, 0
         association, side = found
         self.learn(association, side, packet['initiate'])
@@ -1151,6 +1207,46 @@ def back():
     return capture
 
 
+def others():
+    """Other associations between the same places, and others with the same tags; ends of several addresses, midway."""
+    capture = Capture('others')
+    capture.add(A, B, 0xb1, data(100))
+    capture.add(B, A, 0xa1, sack(100))
+    for step in range(2):
+        capture.add(A, B, 0xb2, data(7 + step))
+        capture.add(B, A, 0xa2, sack(7 + step))
+    # the first one goes on, and a third one is begun by the answer of the other end
+    capture.add(A, B, 0xb1, data(101))
+    for tag in 0xa3, 0xa4:
+        capture.add(B, A, tag, data(9))
+    for step in range(3):
+        capture.add(B, A, 0xa3, data(9 + step))
+        capture.add(A, B, 0xb3, sack(9 + step))
+    # tags that don't answer one another, and one that is reflected
+    for tag in 0xc1, 0xc2:
+        capture.add(A, B, tag, data(7))
+    capture.add(B, A, 0xc2, chunk(ABORT, 1, b''))
+    capture.add(A, B, 0xc2, data(7))
+    capture.add(B, A, 0xc3, sack(7))
+    for tag in 0xc4, 0xc2:
+        capture.add(A, B, tag, data(7))
+    # midway, with two addresses each: DATA and its SACK, a SACK and the DATA after it, HEARTBEAT and its answer; and other hosts
+    for port, there, back in (1, data(7), sack(7)), (2, sack(99), data(100)), (3, heartbeat(b'a'), heartbeat(b'a', HEARTBEAT_ACK)), \
+            (4, data(7), sack(7 + 2 ** 31)), (5, sack(99), data(99)), (6, heartbeat(b'a'), heartbeat(b'b', HEARTBEAT_ACK)):
+        capture.add((21, port), (22, 36412), 0xd1, there)
+        capture.add((32, 36412), (31, port), 0xd2, back)
+    # the same tags between other hosts; the first one's INIT comes again from and to other addresses, one of which it has
+    there = init(INIT, 0x71, 5, address('10.0.0.41') + address('10.0.0.51'))
+    capture.add((41, 9), (42, 9), 0, there)
+    capture.add((51, 9), (52, 9), 0, there)
+    capture.add((43, 9), (44, 9), 0, init(INIT, 0x71, 6))
+    for one, other in ((41, 9), (42, 9)), ((43, 9), (44, 9)):
+        capture.add(other, one, 0x71, init(INIT_ACK, 0x72, 7, COOKIE))
+    for one, other, tsn in ((41, 9), (42, 9), 5), ((43, 9), (44, 9), 6):
+        capture.add(one, other, 0x72, data(tsn))
+    return capture
+
+
 def parts(folder):
     """One association in three files."""
     whole, files = drawn(3), []
@@ -1344,7 +1440,7 @@ def run(given, folder):
         captures = [([path], None) for path in given.captures]
     else:
         cases = [case() for case in (plain, tsns, beginnings, endings, checksums, heartbeats, homes, two_paths, abandoned, nr_sacks, requests,
-                                     announced, blue, back, whole)]
+                                     announced, blue, others, back, whole)]
         cases += [drawn(given.seed), drawn(given.seed + 1)]
         captures = [([case.write(folder)], case.refused) for case in cases] + [(parts(folder), None)]
         with open(os.path.join(DATA_FOLDER, 'associations.pcap'), 'rb') as file:

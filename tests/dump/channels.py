@@ -19,6 +19,7 @@ import random
 import struct
 import sys
 import tempfile
+from decimal import Decimal
 
 sys.dont_write_bytecode = True
 sys.path.insert(0, os.path.dirname(os.path.abspath(__file__)))
@@ -26,7 +27,7 @@ import messages  # noqa: E402
 from messages import base, BEGINS, ENDS, UNORDERED, piece, i_piece  # noqa: E402
 from associations import A, B, C, ABORT, DATA, I_DATA, RE_CONFIG  # noqa: E402
 
-OUTGOING_RESET, RESPONSE, DCEP = 13, 16, 50
+OUTGOING_RESET, RESPONSE, DCEP, IN_PROGRESS = 13, 16, 50, 6
 base.FIELDS += ['sctp.parameter_reconfig_sid', 'sctp.parameter_reconfig_response_result', 'sctp.parameter_length', 'rtcdc.message_type',
                 'rtcdc.channel_type', 'rtcdc.priority', 'rtcdc.reliability_parameter', 'rtcdc.label', 'rtcdc.protocol']
 # RFC 8832 section 5.1, RFC 6525 section 4.4
@@ -65,6 +66,11 @@ def traffic(some):
            'repeated': sum(message.get('repeated', 0) for message in some),
            'abandoned': sum('abandoned_by' in message for message in some),
            'unacknowledged': sum(messages.over_by(message) is None for message in some)}
+    if some:
+        first, *_, last = sorted([(message['sent_packet'], message['sent']) for message in some]) * 2
+        one.update(first=first[1], first_packet=first[0], last=last[1], last_packet=last[0])
+        if (span := Decimal(last[1]) - Decimal(first[1])) > 0:
+            one['bytes_per_second'] = int(one['bytes'] / span)
     delays = [message for message in some if 'delay' in message]
     if delays:
         one['delay'] = sorted((float(message['delay']), message['first_tsn'], message['acknowledged_packet']) for message in delays)
@@ -73,7 +79,7 @@ def traffic(some):
 
 class Association:
     def __init__(self, number):
-        self.number, self.channels = number, []
+        self.number, self.channels, self.asked = number, [], ([], [])
 
     def open(self, stream, opened):
         for one in self.channels:
@@ -99,15 +105,20 @@ class Association:
                 one.opened.setdefault('acknowledged_packet', moment[0])
 
     def reset(self, end, number, streams, packet):
+        # the number identifies the request (RFC 6525 section 4.1)
+        if number in self.asked[end][-8:]:
+            return
+        self.asked[end].append(number)
         for one in self.channels:
-            is_meant = not streams or one.stream in streams
-            if is_meant and not one.is_over(end, packet) and one.resets.get(end, {}).get('number') != number:
+            if (not streams or one.stream in streams) and not one.is_over(end, packet):
                 one.resets[end] = {'end': end, 'number': number, 'packet': packet}
 
     def respond(self, end, number, result, packet):
         for one in self.channels:
             reset = one.resets.get(end, {})
-            if reset.get('number') == number and reset.get('result') not in (0, 1):
+            # any other one ends the request (RFC 6525 section 5.2.7)
+            is_open = 'result' not in reset or reset['result'] == IN_PROGRESS != result
+            if reset.get('number') == number and is_open:
                 reset.update(result=result, response_packet=packet)
                 reset.pop('result_name', None)
                 if result < len(RESULTS):
@@ -202,6 +213,9 @@ def text_of(line):
     for mark, end in zip('><', line['ends']):
         text += '; %s messages %d, bytes %d, repeated %d, abandoned %d, not acknowledged %d' % (
             mark, end['messages'], end['bytes'], end['repeated'], end['abandoned'], end['unacknowledged'])
+        if 'first' in end:
+            text += ', first %(first)s (packet %(first_packet)d), last %(last)s (packet %(last_packet)d)' % end
+        text += ', %d bytes/s' % end['bytes_per_second'] if 'bytes_per_second' in end else ''
         if 'delay' in end:
             text += ', delay least %(least)s s, median %(median)s s, greatest %(greatest)s s (tsn %(greatest_tsn)d)' % end['delay']
     return text
@@ -291,9 +305,15 @@ def lives():
     to_b(response(9, 2))
     to_a(request(10))
     to_b(response(10))
+    # sent again, after it was denied and after it was performed
+    to_a(request(9, 2, 1), response(1, 2))
+    to_b(response(9, 2))
     # after the reset without and with DCEP; a third of the same stream without a reset between
     to_b(piece(102, 3, 1, 0))
     to_b(opening(103, 1, b'again', b'proto', 0x82, 500, 3, 1))
+    # of the channel before
+    to_b(request(1, 1))
+    to_a(response(1))
     to_a(base.sack(103), accepting(201))
     to_b(opening(104, 1, b'third', b'', 1, 7), base.sack(201))
     to_a(base.sack(104))

@@ -11,6 +11,9 @@ import glob
 import json
 import os
 import pty
+import resource
+import shutil
+import signal
 import struct
 import subprocess
 import sys
@@ -22,8 +25,14 @@ FILTERS = [], ['--stream', '1'], ['--not', '--stream', '1']
 MEBIBYTE = 2 ** 20
 
 
-def run(program, *words):
-    return subprocess.run([program, *words], stdin=subprocess.DEVNULL, capture_output=True, text=True, check=False)
+def run(program, *words, **more):
+    return subprocess.run([program, *words], stdin=subprocess.DEVNULL, capture_output=True, text=True, check=False, **more)
+
+
+def allow_ten_bytes():
+    """Lets no file get longer."""
+    signal.signal(signal.SIGXFSZ, signal.SIG_IGN)
+    resource.setrlimit(resource.RLIMIT_FSIZE, (10, 10))
 
 
 def cut(path, size):
@@ -71,7 +80,7 @@ def fail(program, path, work):
             os.rename(f'{folder}/{name}', f'{folder}/{name}' if name == third else f'{folder}/other-{name}')
         before = written(folder)
         ran = run(program, '--brief', '--messages', '--write-messages', folder, path)
-        said = f"sctp_dump: {folder}/{third}: exists already, or can't be written\n"
+        said = f"sctp_dump: {folder}/{third}: File exists (os error 17)\n"
         after = written(folder)
         if ran.returncode != 2 or ran.stderr != said or after[third] != before[third]:
             yield f'a file that is there: status {ran.returncode}, {ran.stderr!r}, and not {said!r}'
@@ -83,6 +92,27 @@ def fail(program, path, work):
     ran = run(program, '--brief', '--messages', '--write-messages', f'{work}/none', path)
     if ran.returncode != 2 or ran.stdout != ''.join(lines[:first + 1]):
         yield f'no folder: status {ran.returncode}, {ran.stdout!r} is printed'
+    if not ran.stderr.endswith(': No such file or directory (os error 2)\n'):
+        yield f'no folder: {ran.stderr!r}'
+    with tempfile.TemporaryDirectory(dir=work) as folder:
+        ran = run(program, '--messages', '--write-messages', folder, path, preexec_fn=allow_ten_bytes)
+        if ran.returncode != 2 or not ran.stderr.endswith(': File too large (os error 27)\n') or max(map(len, written(folder).values()), default=0) > 10:
+            yield f'no room: status {ran.returncode}, {ran.stderr!r}, {written(folder)}'
+
+
+def name(program, path, work):
+    """How the name of a file is printed."""
+    named = f'{work}/\x1b[31m\u202e\u00e9\nfile b'
+    shutil.copy(path, named)
+    shown = f'{work}/\\x1b[31m\\xe2\\x80\\xae\u00e9\\x0afile b'
+    ran = run(program, '--summary', '--associations', named, f'{named} none')
+    if f' of {shown}, ' not in ran.stdout or any(it in ran.stdout + ran.stderr for it in '\x1b\u202e'):
+        yield f'a name: {ran.stdout!r}'
+    if ran.stderr != f"sctp_dump: {shown} none: can't be opened: No such file or directory (os error 2)\n":
+        yield f'a name: {ran.stderr!r}'
+    lines = run(program, '--brief', named, named).stdout.splitlines()
+    if [it for it in lines if it.startswith('file')] != [f'file {shown}'] * 2:
+        yield f'a name: {lines[0]!r}'
 
 
 def on_terminal(program, path, *words, both=False):
@@ -132,6 +162,7 @@ def main(program):
             for words in FILTERS:
                 found += compare(program, path, words, work)
         found += fail(program, FILES[0], work)
+        found += name(program, FILES[0], work)
         found += progress(program, work)
     print('\n'.join(found), end='\n' if found else '')
     return bool(found)

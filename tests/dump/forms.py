@@ -105,6 +105,11 @@ def brief_type(name):
     return name[-5:-1] if name.startswith("chunk type") else name.replace(" ", "_")
 
 
+def has_header(seen, key):
+    """Whether this field of the header is printed: it was captured, and the packet isn't shorter than a header."""
+    return key in seen and ("verdict" in seen or "captured" in seen)
+
+
 def brief_end(seen, key, port, is_local):
     if "direction" in seen:
         name = f"({seen['transport']})" if "transport" in seen else ""
@@ -112,7 +117,7 @@ def brief_end(seen, key, port, is_local):
     else:
         host = seen.get(key, "-")
     host = f"[{host}]" if ":" in host else host
-    return f"{host}:{seen[port] if 'verdict' in seen else '-'}"
+    return f"{host}:{seen[port] if has_header(seen, port) else '-'}"
 
 
 def sent_again(seen, places):
@@ -135,7 +140,7 @@ def brief(seen, places):
     is_outgoing = seen.get("direction") == "outgoing"
     source = brief_end(seen, "from", "source", is_outgoing)
     destination = brief_end(seen, "to", "destination", not is_outgoing)
-    tag = f"{seen['tag']:#010x}" if "verdict" in seen else "-"
+    tag = f"{seen['tag']:#010x}" if has_header(seen, "tag") else "-"
     line = f"{seen['packet']} {seen.get('time', '-')} {source} > {destination} {tag} {seen.get('verdict', 'unknown')}"
     line += " |".join(" " + brief_chunk(chunk) for chunk in seen["chunks"])
     if "fault" in seen:
@@ -280,7 +285,7 @@ def made(objects, is_brief):
             yield COUNTS.format(**value)
         elif "file" in value:
             file = value["file"]
-            yield f"file {file}{between}"
+            yield f"file {printed(file.encode(), ' ')}{between}"
         else:
             yield "{0} {1} skipped: {skipped}".format(*list(value.items())[0], **value) + between
 

@@ -74,8 +74,9 @@ RESULTS = ('Success - Nothing to do', 'Success - Performed', 'Denied', 'Error - 
 # RFC 8832 section 5.1: the kinds of channels, and what is said of their reliability.
 CHANNELS = (('reliable', ''), ('partial reliable rexmit', 'reliability N, '), ('partial reliable timed', 'reliability N ms, '))
 # Controls, what crates/dump_report/specs/Printed.antt hides, and bytes that are no character of UTF-8.
-UNSEEN = re.compile('[\0-\x1f"\\\\\x7f-\x9f\u061c\u200b-\u200f\u2028-\u202e\u2060-\u206f\udc80-\udcff\ufeff\ufff9-\ufffb'
-                    '\U000e0000-\U0010ffff]')
+UNSEEN = re.compile('[\0-\x1f"\\\\\x7f-\xa0\xad\u034f\u061c\u115f\u1160\u1680\u17b4\u17b5\u180b-\u180f\u2000-\u200f\u2028-\u202f'
+                    '\u205f-\u206f\u2800\u3000\u3164\udc80-\udcff\ufe00-\ufe0f\ufeff\uffa0\ufff0-\ufffb\U0001bca0-\U0001bca3'
+                    '\U0001d173-\U0001d17a\U000e0000-\U0010ffff]')
 
 # A line that is expected: its form, the values of its fields, and whether they are scapy's or read by the layout.
 Line = collections.namedtuple('Line', 'form values source')

@@ -99,7 +99,8 @@ test('packets out of the blue', () => {
   assert.equal(outOfTheBlue(error.finish(), true), Answer.ABORT);
   const rows = [
     [bare(OTHER, ['SHUTDOWN_ACK'], ['ABORT']), 'DISCARD'],
-    [bare(0, ['INIT'], ['SHUTDOWN_ACK']), 'INIT'],
+    [bare(0, ['INIT']), 'INIT'],
+    [bare(0, ['INIT'], ['SHUTDOWN_ACK']), 'DISCARD'],
     [bare(OTHER, ['INIT']), 'ABORT'],
     [bare(OTHER, ['COOKIE_ECHO'], ['SHUTDOWN_ACK']), 'COOKIE_ECHO'],
     [bare(OTHER, ['AUTH'], ['COOKIE_ECHO']), 'COOKIE_ECHO'],
@@ -156,12 +157,14 @@ test('faults of INIT and INIT ACK', () => {
   }
   assert.equal(initFault(bare(0, ['INIT']), false), InitFault.TOO_SHORT);
   assert.equal(initFault(NOTHING, false), InitFault.NOT_ALONE);
+  const named = begun(0).addInit(init(1, 1500, 1, 1)).addParameter(ParameterType.HOST_NAME_ADDRESS, bytes('612e'));
+  assert.equal(initFault(named.finish(), false), InitFault.HOST_NAME_ADDRESS);
 });
 
 // Of an INIT (sections 3.3.2 and 8.5.1), and of an INIT ACK in COOKIE-WAIT (sections 3.3.3 and 5.1), by the fault's number.
 test('what is done where an INIT or INIT ACK has a fault', () => {
-  const ofInit = [0, 0, 0, 0, 1, 1, 1, 0, 0], ofAck = [0, 0, 0, 2, 1, 2, 2, 2, 0];
-  for (let fault = 0; fault < 9; fault++) {
+  const ofInit = [0, 0, 0, 0, 1, 1, 1, 0, 1, 0], ofAck = [0, 0, 0, 2, 1, 2, 2, 2, 2, 0];
+  for (let fault = 0; fault < 10; fault++) {
     assert.deepEqual([initRefusal(fault, false, false), initRefusal(fault, false, true)], [ofInit[fault], ofInit[fault]]);
     assert.deepEqual([initRefusal(fault, true, true), initRefusal(fault, true, false)], [ofAck[fault], Refusal.DISCARD]);
   }
@@ -172,7 +175,7 @@ test('the ABORT: under the initiate tag, or reflected where there is none; and i
   const front = '1389 1388 090a0b0c 00000000', invalid = `${front} 06000008 00070004`;
   const wanted = [
     null, `${front} 06000004`, `${front} 06000004`, '1389 1388 01020304 00000000 06010008 00070004', invalid, invalid, invalid,
-    `${front} 0600000e 0002000a 00000001 0007 0000`, null,
+    `${front} 0600000e 0002000a 00000001 0007 0000`, `${front} 06000004`, null,
   ];
   const to = { sourcePort: 5000, destinationPort: 5001, verificationTag: OWN, checksum: 77 };
   wanted.forEach((hex, fault) => {

@@ -134,7 +134,8 @@ class OutOfTheBlue(unittest.TestCase):
             chunk.cause(registered.StaleCookie(1000))
         for data, expected in (
             (packet(OTHER, (ChunkType.SHUTDOWN_ACK, 0), (ChunkType.ABORT, 0)), Answer.DISCARD),
-            (packet(0, (ChunkType.INIT, 0), (ChunkType.SHUTDOWN_ACK, 0)), Answer.INIT),
+            (packet(0, (ChunkType.INIT, 0)), Answer.INIT),
+            (packet(0, (ChunkType.INIT, 0), (ChunkType.SHUTDOWN_ACK, 0)), Answer.DISCARD),
             (packet(OTHER, (ChunkType.INIT, 0)), Answer.ABORT),
             (packet(OTHER, (ChunkType.COOKIE_ECHO, 0), (ChunkType.SHUTDOWN_ACK, 0)), Answer.COOKIE_ECHO),
             (packet(OTHER, (ChunkType.AUTH, 0), (ChunkType.COOKIE_ECHO, 0)), Answer.COOKIE_ECHO),
@@ -198,9 +199,9 @@ class Initiations(unittest.TestCase):
 
     def test_refusals(self) -> None:
         # of an INIT (sections 3.3.2 and 8.5.1), and of an INIT ACK in COOKIE-WAIT (sections 3.3.3 and 5.1), by the fault's number
-        of_init, of_ack = [0, 0, 0, 0, 1, 1, 1, 0, 0], [0, 0, 0, 2, 1, 2, 2, 2, 0]
+        of_init, of_ack = [0, 0, 0, 0, 1, 1, 1, 0, 1, 0], [0, 0, 0, 2, 1, 2, 2, 2, 2, 0]
         for number, (init, ack) in enumerate(zip(of_init, of_ack, strict=True)):
-            fault: InitFault = number  # type: ignore[assignment] # (8 is none)
+            fault: InitFault = number  # type: ignore[assignment] # (9 is none)
             for in_cookie_wait in (False, True):
                 found = davgyuti.init_refusal(fault, is_ack=False, in_cookie_wait=in_cookie_wait)
                 self.assertIs(found, Refusal(init))
@@ -218,10 +219,11 @@ class Initiations(unittest.TestCase):
             (InitFault.NO_OUTBOUND_STREAMS, invalid),
             (InitFault.NO_INBOUND_STREAMS, invalid),
             (InitFault.NO_STATE_COOKIE, "13891388 090a0b0c 00000000 0600000e 0002000a 00000001 00070000"),
+            (InitFault.HOST_NAME_ADDRESS, none),
         ):
             tag = 0 if fault == InitFault.TAG_ZERO else OTHER
             self.assertEqual(davgyuti.init_abort(header, tag, fault), davgyuti.seal(of_hex(expected)))
-        for other in (0, 8):
+        for other in (0, 9):
             self.assertRaises(BadValue, davgyuti.init_abort, header, OTHER, other)
         self.assertRaises(ValueError, davgyuti.init_abort, header, 2**32, InitFault.TAG_ZERO)
 

@@ -86,7 +86,7 @@ numbered! {
     TagVerdict;
     /// The tag is right: the packet is processed.
     Accept = 0,
-    /// An INIT alone under the tag 0, or COOKIE ECHO first or behind AUTH: section 5 says what is
+    /// An INIT alone under the tag 0, or COOKIE ECHO first or behind one AUTH: section 5 says what is
     /// done.
     Establish = 1,
     /// The packet is treated as if it belonged to no association: see [`out_of_the_blue`].
@@ -103,7 +103,7 @@ numbered! {
     Discard = 0,
     /// Its INIT is processed (section 5.1).
     Init = 1,
-    /// Its COOKIE ECHO, first or behind AUTH, is processed (section 5.1).
+    /// Its COOKIE ECHO, first or behind one AUTH, is processed (section 5.1).
     CookieEcho = 2,
     /// [`PacketBuilder::reply`](crate::PacketBuilder::reply) writes what is sent back.
     ShutdownComplete = 3,
@@ -129,6 +129,8 @@ numbered! {
     NoInboundStreams = 6,
     /// INIT ACK lacks its State Cookie.
     NoStateCookie = 7,
+    /// It has a Host Name Address (section 3.3.2.1.4).
+    HostNameAddress = 8,
 }
 
 numbered! {
@@ -223,7 +225,7 @@ pub fn verify_tag(bytes: &[u8], association: &Association) -> TagVerdict {
 
 /// Returns what is done with a packet that belongs to no association (RFC 9260 section 8.4); looks
 /// at what [`verify_tag`] looks at. `is_unicast` says whether the packet is to and from unicast
-/// addresses.
+/// addresses. Ask only of bytes that [`check`](crate::check) accepts: others may be answered too.
 ///
 /// ```
 /// use davgyuti::Answer;
@@ -241,8 +243,8 @@ pub fn out_of_the_blue(bytes: &[u8], is_unicast: bool) -> Answer {
 }
 
 /// Returns what is wrong with a packet that carries INIT (RFC 9260 section 3.3.2), or INIT ACK
-/// (section 3.3.3) where `is_ack` is true; none where it can be processed. Of its parameters the
-/// State Cookie alone is looked for.
+/// (section 3.3.3) where `is_ack` is true; none where it has none of these. Of its parameters
+/// State Cookie and Host Name Address alone are looked for.
 ///
 /// ```
 /// use davgyuti::{Init, InitFault, PacketBuilder};
@@ -289,6 +291,9 @@ pub fn init_refusal(fault: InitFault, is_ack: bool, in_cookie_wait: bool) -> Ref
 /// `parameters` are the INIT's, and `known` the association's addresses, as parameters: the bytes of
 /// each IPv4 Address and IPv6 Address, one after the other. The address that the packet came from is
 /// not in the INIT: look at it yourself.
+///
+/// Each of the INIT's addresses is compared with each known one, both of which may be the peer's:
+/// bound how many you keep.
 ///
 /// ```
 /// use davgyuti::Parameters;

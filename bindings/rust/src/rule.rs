@@ -32,13 +32,13 @@ pub enum Rule {
     InitiateTagZero = 0x10,
     /// The number of outbound or inbound streams is 0 (RFC 9260 sections 3.3.2 and 3.3.3).
     NoStreams = 0x20,
-    /// INIT or INIT ACK advertises a window below 1,500 bytes (RFC 9260 section 6).
+    /// INIT or INIT ACK advertises a window below 1,500 bytes (RFC 9260 sections 3.3.2 and 6).
     SmallWindow = 0x40,
     /// INIT ACK has no State Cookie (RFC 9260 section 3.3.3).
     InitAckCookie = 0x80,
     /// HEARTBEAT has no Heartbeat Info (RFC 9260 section 3.3.5).
     HeartbeatInfo = 0x100,
-    /// DATA or I-DATA has no user data (RFC 9260 section 6.2).
+    /// DATA or I-DATA has no user data (RFC 9260 section 3.3.1).
     NoUserData = 0x200,
     /// An association has both DATA and I-DATA (RFC 8260 section 2.2.1).
     DataBesideIdata = 0x400,
@@ -237,7 +237,7 @@ impl fmt::Debug for Rules {
 /// Returns the rules that a packet breaks, by what is known of its association.
 ///
 /// Its common header and its chunks are looked at, up to the first chunk whose length is
-/// impossible: what can't be read breaks no rule. Its CRC32c is computed here.
+/// impossible: a field that isn't there breaks no rule. Its CRC32c is computed here.
 ///
 /// ```
 /// use davgyuti::{Init, Known, PacketBuilder, Rule};

@@ -237,7 +237,7 @@ fn verdicts_are_those_of_the_header() {
     // (here a packet without a fault has none)
     compare!(
         "init_fault", "INIT", InitFault: NotAlone TooShort TagZero SmallWindow NoOutboundStreams
-        NoInboundStreams NoStateCookie; ("NoFault".into(), 0)
+        NoInboundStreams NoStateCookie HostNameAddress; ("NoFault".into(), 0)
     );
     // (here a good cookie is no error)
     let mut states = vec![("Good".into(), 0)];

@@ -110,7 +110,8 @@ fn each_step_out_of_the_blue() {
     };
     for (bytes, expected) in [
         (of(OTHER, &[ChunkType::SHUTDOWN_ACK, ChunkType::ABORT]), Discard),
-        (of(0, &[ChunkType::INIT, ChunkType::SHUTDOWN_ACK]), Init),
+        (of(0, &[ChunkType::INIT]), Init),
+        (of(0, &[ChunkType::INIT, ChunkType::SHUTDOWN_ACK]), Discard),
         (of(OTHER, &[ChunkType::INIT]), Abort),
         (of(OTHER, &[ChunkType::COOKIE_ECHO, ChunkType::SHUTDOWN_ACK]), CookieEcho),
         (of(OTHER, &[ChunkType::AUTH, ChunkType::COOKIE_ECHO]), CookieEcho),
@@ -230,6 +231,7 @@ fn refusals_and_aborts() {
         (InitFault::NoOutboundStreams, Abort, DestroyAndAbort, invalid),
         (InitFault::NoInboundStreams, Abort, DestroyAndAbort, invalid),
         (InitFault::NoStateCookie, Discard, DestroyAndAbort, missing),
+        (InitFault::HostNameAddress, Abort, DestroyAndAbort, none),
     ] {
         assert_eq!(init_refusal(fault, false, false), of_init, "{fault:?}");
         assert_eq!(init_refusal(fault, false, true), of_init, "{fault:?}");

@@ -78,6 +78,7 @@ fault_code fault.SmallWindow = 4
 fault_code fault.NoOutboundStreams = 5
 fault_code fault.NoInboundStreams = 6
 fault_code fault.NoStateCookie = 7
+fault_code fault.HostNameAddress = 8
 
 -- zero where there is none
 abbrev pub some_fault_code : Option InitFault → ℕ
@@ -93,6 +94,7 @@ fault_of code =
     if code == 5 then Some fault.NoOutboundStreams else
     if code == 6 then Some fault.NoInboundStreams else
     if code == 7 then Some fault.NoStateCookie else
+    if code == 8 then Some fault.HostNameAddress else
     None
 
 abbrev pub refusal_code : Refusal → ℕ

@@ -72,7 +72,7 @@ pub extern "C" fn dcsctp_shared_key(
 pub extern "C" fn dcsctp_verify_auth(key: &[u8], bytes: &[u8]) -> bool
     ensures { IsTrue result ↔ IsAuthenticated key.now bytes.now }
 {
-    verify(key, bytes)
+    verify(key, bytes).is_right()
 }
 
 /// Writes the HMAC of an AUTH chunk under an association shared key (RFC 4895 section 6.2) into its

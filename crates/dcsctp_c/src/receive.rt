@@ -55,7 +55,7 @@ pub const ANSWER_SHUTDOWN_COMPLETE: u32 = 3;
 /// An ABORT is sent back.
 pub const ANSWER_ABORT: u32 = 4;
 
-/// The INIT or INIT ACK can be processed.
+/// The INIT or INIT ACK has none of the faults.
 pub const INIT_NO_FAULT: u32 = 0;
 
 /// The packet doesn't hold the chunk alone.
@@ -78,6 +78,9 @@ pub const INIT_NO_INBOUND_STREAMS: u32 = 6;
 
 /// An INIT ACK has no State Cookie.
 pub const INIT_NO_STATE_COOKIE: u32 = 7;
+
+/// The chunk has a Host Name Address.
+pub const INIT_HOST_NAME_ADDRESS: u32 = 8;
 
 /// The packet is discarded.
 pub const REFUSAL_DISCARD: u32 = 0;
@@ -123,7 +126,8 @@ pub extern "C" fn dcsctp_verify_tag(packet: &[u8], association: &DcsctpAssociati
 
 /// Returns what is done with a packet that belongs to no association (RFC 9260 section 8.4):
 /// `ANSWER_DISCARD`, `ANSWER_INIT`, `ANSWER_COOKIE_ECHO`, `ANSWER_SHUTDOWN_COMPLETE` or
-/// `ANSWER_ABORT`. `is_unicast` says whether it is to and from unicast addresses.
+/// `ANSWER_ABORT`. `is_unicast` says whether it is to and from unicast addresses. The packet has to
+/// be correctly formed, as that section begins: otherwise it may be answered.
 #[unsafe(no_mangle)]
 pub extern "C" fn dcsctp_out_of_the_blue(packet: &[u8], is_unicast: bool) -> u32
     ensures { result ≡ answer_code (answer_to is_unicast packet.now) }
@@ -167,8 +171,9 @@ pub extern "C" fn dcsctp_reply(
 
 /// Returns what is wrong with a packet that carries an INIT (RFC 9260 sections 3.3.2 and 5.1), or
 /// an INIT ACK (section 3.3.3) where `is_ack` is true: the first of the faults from
-/// `INIT_NOT_ALONE` to `INIT_NO_STATE_COOKIE`; `INIT_NO_FAULT` if and only if it can be processed.
-/// Of its parameters the State Cookie alone is looked for.
+/// `INIT_NOT_ALONE` to `INIT_HOST_NAME_ADDRESS`; `INIT_NO_FAULT` if and only if it has none of
+/// them. Of its parameters these two are looked for alone, up to the first whose length is
+/// impossible. That length is no fault here, nor are bytes after the chunk that are no whole chunk.
 #[unsafe(no_mangle)]
 pub extern "C" fn dcsctp_init_fault(packet: &[u8], is_ack: bool) -> u32
     ensures { result ≡ some_fault_code (packet_fault (if is_ack then 2 else 1) packet.now) }
@@ -211,7 +216,8 @@ pub extern "C" fn dcsctp_init_refusal(fault: u32, is_ack: bool, in_cookie_wait: 
 /// a packet with this header and with this initiate tag: at the front of the buffer, 28 bytes at
 /// most. Its checksum field is zero. Its tag is the initiate tag; where this is 0, the packet's
 /// own, with the T bit. Its cause is Missing Mandatory Parameter or Invalid Mandatory Parameter;
-/// none of `INIT_NOT_ALONE` and `INIT_TOO_SHORT`, which RFC 9260 doesn't answer.
+/// none of `INIT_NOT_ALONE` and `INIT_TOO_SHORT`, which RFC 9260 doesn't answer, nor of
+/// `INIT_HOST_NAME_ADDRESS`.
 ///
 /// Returns 0; or changes nothing, and returns `BAD_VALUE` for a number that is no fault's, else
 /// `NO_ROOM`.
@@ -291,6 +297,7 @@ fn fault_code(fault: InitFault) -> u32
         InitFault::NoOutboundStreams => INIT_NO_OUTBOUND_STREAMS,
         InitFault::NoInboundStreams => INIT_NO_INBOUND_STREAMS,
         InitFault::NoStateCookie => INIT_NO_STATE_COOKIE,
+        InitFault::HostNameAddress => INIT_HOST_NAME_ADDRESS,
     }
 }
 
@@ -306,6 +313,7 @@ fn fault_of(code: u32) -> Option<InitFault>
         INIT_NO_OUTBOUND_STREAMS => Some(InitFault::NoOutboundStreams),
         INIT_NO_INBOUND_STREAMS => Some(InitFault::NoInboundStreams),
         INIT_NO_STATE_COOKIE => Some(InitFault::NoStateCookie),
+        INIT_HOST_NAME_ADDRESS => Some(InitFault::HostNameAddress),
         _ => None,
     }
 }

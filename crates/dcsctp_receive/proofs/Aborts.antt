@@ -5,7 +5,7 @@ use Rattle.dcsctp_wire.specs.Chunk.{tlv as chunk_tlv, IsChunkEncodable, IsInWidt
 use Rattle.dcsctp_buffer.{specs.Buffer.{with_item}, proofs.Items.{solid_item}}
 use Rattle.dcsctp_receive.specs.Initiation.{abort_of}
 use Rattle.dcsctp_receive.specs.declared.initiation.InitFault.{InitFault}
-use Rattle.dcsctp_receive.specs.declared.initiation.InitFault.TheVariants.{NotAlone, TooShort, InitiateTagZero, SmallWindow, NoOutboundStreams, NoInboundStreams, NoStateCookie}
+use Rattle.dcsctp_receive.specs.declared.initiation.InitFault.TheVariants.{NotAlone, TooShort, InitiateTagZero, SmallWindow, NoOutboundStreams, NoInboundStreams, NoStateCookie, HostNameAddress}
 
 -- its value, the causes
 abbrev pub value_of : InitFault → List ℕ
@@ -23,6 +23,7 @@ length-value SmallWindow = refl
 length-value NoOutboundStreams = refl
 length-value NoInboundStreams = refl
 length-value NoStateCookie = refl
+length-value HostNameAddress = refl
 
 pub size_is : (fault : InitFault) (value : List ℕ) → value ≡ value_of fault
     → 4 + length value ≡ size_of (chunk_tlv (abort_of fault))
@@ -37,6 +38,7 @@ encodable SmallWindow = (tt, lit< tt)
 encodable NoOutboundStreams = (tt, lit< tt)
 encodable NoInboundStreams = (tt, lit< tt)
 encodable NoStateCookie = (tt, lit< tt)
+encodable HostNameAddress = (tt, lit< tt)
 
 pub written_abort : (fault : InitFault) (flags : ℕ) (value old : List ℕ)
     → flags ≡ (chunk_tlv (abort_of fault)).second → value ≡ value_of fault
@@ -67,6 +69,9 @@ written_abort NoInboundStreams flags value old second is room =
 written_abort NoStateCookie flags value old second is room =
     ap₂ (λ (n : ℕ) (v : List ℕ). written (image_of (solid_tlv 6 n v)) old) second is
     ∙ solid_item (chunk_tlv (abort_of NoStateCookie)) (value_of NoStateCookie) old refl refl room
+written_abort HostNameAddress flags value old second is room =
+    ap₂ (λ (n : ℕ) (v : List ℕ). written (image_of (solid_tlv 6 n v)) old) second is
+    ∙ solid_item (chunk_tlv (abort_of HostNameAddress)) (value_of HostNameAddress) old refl refl room
 
 pub in_width : (fault : InitFault) → IsChunkInWidth (abort_of fault)
 in_width NotAlone = tt
@@ -76,3 +81,4 @@ in_width SmallWindow = (record { typ = lit< tt; value = λ i. lit< tt }, tt)
 in_width NoOutboundStreams = (record { typ = lit< tt; value = λ i. lit< tt }, tt)
 in_width NoInboundStreams = (record { typ = lit< tt; value = λ i. lit< tt }, tt)
 in_width NoStateCookie = ((lit< tt, tt), tt)
+in_width HostNameAddress = tt

@@ -1,6 +1,6 @@
 -- A reply out of the blue holds one chunk, an ABORT or a SHUTDOWN COMPLETE, so it is discarded; and
 -- how this chunk is written.
-use Rattle.std.proofs.Common.{◌≡◌, ℕ, Bool, true, false, List, [], ◌∷◌, length, drop, ◌≤◌, ◌==◌, ◌&&◌, if◌then◌else◌, refl, sym, ap, ap₂, ◌∙◌, length-drop}
+use Rattle.std.proofs.Common.{◌≡◌, ℕ, Bool, true, false, List, [], ◌∷◌, length, drop, ◌≤◌, ◌==◌, if◌then◌else◌, refl, sym, ap, ap₂, ◌∙◌, length-drop}
 use Rattle.dcsctp_tlv.specs.Image.{size_of, image_of, written, solid_tlv}
 use Rattle.dcsctp_wire.specs.{Canonical.{canonical}, Chunk.{tlv as chunk_tlv}, declared.packet.common_header.CommonHeader.{CommonHeader}}
 use Rattle.dcsctp_borrowed.specs.Grammar.{whole}
@@ -8,7 +8,7 @@ use Rattle.dcsctp_buffer.{specs.Buffer.{with_item}, proofs.Items.{solid_item}}
 use Rattle.dcsctp_receive.specs.Chunks.{has_header, tag_of, items_of, chunks_of}
 use Rattle.dcsctp_receive.specs.OutOfTheBlue.{answer_of, answer_to, reply_chunk, reply_to}
 use Rattle.dcsctp_receive.specs.declared.out_of_the_blue.OutOfTheBlue.{OutOfTheBlue}
-use Rattle.dcsctp_receive.specs.declared.out_of_the_blue.OutOfTheBlue.TheVariants.{Discard, Init}
+use Rattle.dcsctp_receive.specs.declared.out_of_the_blue.OutOfTheBlue.TheVariants.{Discard}
 use Rattle.dcsctp_receive.specs.declared.out_of_the_blue.Reply.{Reply}
 use Rattle.dcsctp_receive.specs.declared.out_of_the_blue.Reply.TheVariants.{ShutdownComplete, Abort}
 
@@ -45,7 +45,7 @@ discarded : (reply : Reply) (is_unicast : Bool) (tag : ℕ)
 discarded reply false tag = refl
 discarded Abort true tag = refl
 discarded ShutdownComplete true tag =
-    elim (tag == 0) as (λ b. (if b && false then Init else Discard) ≡ Discard)
+    elim (tag == 0) as (λ b. (if b then Discard else Discard) ≡ Discard)
     [ true ↦ refl | false ↦ refl ]
 
 pub reply_is_discarded : (h : CommonHeader) (reply : Reply) (is_unicast : Bool) (packet : List ℕ)

@@ -1,7 +1,7 @@
 -- Authenticated chunks (RFC 4895 sections 3.2, 5.1, 6.2 and 6.3).
 use Rattle.std.specs.Prelude.{◌≡◌, ◌≢◌, ℕ, ◌+◌, ◌≤◌, Contains, List, ◌++◌, drop, length, replicate, slice_index, take}
 use Rattle.dcsctp_tlv.specs.Number.{number16}
-use Rattle.dcsctp_receive.specs.declared.hmac.{HashFunction.{HashFunction}}
+use Rattle.dcsctp_receive.specs.declared.hmac.{HashFunction.{HashFunction}, HashFunction.TheVariants.{Sha1, Sha256}}
 use Rattle.dcsctp_receive.specs.Hmac.{digest_size, hmac, hmac_identifier}
 
 -- ---- section 3.2: the Chunk List
@@ -43,3 +43,12 @@ pub record IsSigned (function : HashFunction) (key bytes : List ℕ) : Type 0 wh
 
 abbrev pub IsAuthenticated : List ℕ → List ℕ → Type 0
 IsAuthenticated key bytes = (function : HashFunction) × IsSigned function key bytes
+
+-- The bytes begin with an AUTH chunk of another HMAC Identifier, with which "an ERROR chunk SHOULD be
+-- sent with the error cause defined in Section 4.1".
+pub record HasUnknownHmac (bytes : List ℕ) : Type 0 where
+  pub typ : slice_index bytes 0 ≡ 15
+  pub numbers : 8 ≤ number16 (drop 2 bytes)
+  pub whole : number16 (drop 2 bytes) ≤ length bytes
+  pub not_sha1 : number16 (drop 6 bytes) ≢ hmac_identifier Sha1
+  pub not_sha256 : number16 (drop 6 bytes) ≢ hmac_identifier Sha256

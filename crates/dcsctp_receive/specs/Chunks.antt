@@ -65,7 +65,9 @@ abbrev pub begins_with : ℕ → List Item → Bool
 begins_with typ [] = false
 begins_with typ (c ∷ cs) = is_of_type typ c
 
--- without an AUTH at the front, which says who sent what comes after it (RFC 4895 section 6.3)
+-- Where COOKIE ECHO is the first chunk: of the packet, or behind one AUTH, which authenticates it: "an
+-- AUTH chunk as a first chunk, a COOKIE-ECHO chunk as the second chunk, and possibly more chunks
+-- after them" (RFC 4895 section 6.3).
 abbrev pub after_auth : List Item → List Item
 after_auth [] = []
 after_auth (c ∷ cs) = if is_of_type 15 c then cs else c ∷ cs

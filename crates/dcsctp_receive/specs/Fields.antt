@@ -57,10 +57,6 @@ is_user_data c = is_data c || is_idata c
 abbrev pub is_init : Item → Bool
 is_init c = is_of_type 1 c || is_of_type 2 c
 
--- AUTH (RFC 4895 section 4.1)
-abbrev pub is_auth : Item → Bool
-is_auth c = is_of_type 15 c
-
 -- PAD (RFC 4820 section 3)
 abbrev pub is_pad : Item → Bool
 is_pad c = is_of_type 132 c
@@ -89,7 +85,9 @@ has_ppid ppid c =
     (is_data c && begins_with32 ppid (after 8 c.value))
     || (is_first_idata c && begins_with32 ppid (after 12 c.value))
 
--- The value ends where the payload begins (RFC 9260 section 6.2).
+-- The value ends where the payload begins: "A DATA chunk with a User Data field of length L will have
+-- the Length field set to (16 + L) (indicating 16 + L bytes) where L MUST be greater than 0." (RFC
+-- 9260 section 3.3.1)
 abbrev pub has_no_user_data : Item → Bool
 has_no_user_data c = (is_data c && c.value.size == 12) || (is_idata c && c.value.size == 16)
 
@@ -107,7 +105,7 @@ abbrev pub has_no_streams : Item → Bool
 has_no_streams c =
     is_init c && (begins_with16 0 (after 8 c.value) || begins_with16 0 (after 10 c.value))
 
--- the window that is advertised first (RFC 9260 section 6)
+-- the window that is advertised first (RFC 9260 sections 3.3.2 and 6)
 abbrev pub has_small_window : Item → Bool
 has_small_window c =
     is_init c && nat_le 8 (length c.value.bytes) && nat_lt (number32 (after 4 c.value).bytes) 1500

@@ -8,7 +8,7 @@ use Rattle.dcsctp_wire.specs.Chunk as tree
 use Rattle.dcsctp_borrowed.specs.Part.{Item, after}
 use Rattle.dcsctp_receive.specs.{Chunks.{chunks_of, items_of, is_numbered, only}, OutOfTheBlue.{back}}
 use Rattle.dcsctp_receive.specs.declared.initiation.InitFault.{InitFault}
-use Rattle.dcsctp_receive.specs.declared.initiation.InitFault.TheVariants.{NotAlone, TooShort, InitiateTagZero, SmallWindow, NoOutboundStreams, NoInboundStreams, NoStateCookie}
+use Rattle.dcsctp_receive.specs.declared.initiation.InitFault.TheVariants.{NotAlone, TooShort, InitiateTagZero, SmallWindow, NoOutboundStreams, NoInboundStreams, NoStateCookie, HostNameAddress}
 use Rattle.dcsctp_receive.specs.declared.initiation.Refusal.{Refusal}
 use Rattle.dcsctp_receive.specs.declared.initiation.Refusal.TheVariants.{Discard, Abort, DestroyAndAbort}
 
@@ -35,6 +35,12 @@ cookie_fault c =
     else Some NoStateCookie) else
     None
 
+-- Host Name Address, type 11 (section 3.3.2.1.4): "The receiver of an INIT chunk or an INIT ACK
+-- containing a Host Name Address parameter MUST send an ABORT chunk".
+abbrev pub name_fault : Item → Option InitFault
+name_fault c =
+    if list_any (is_numbered 11) (items_of (after 16 c.value)) then Some HostNameAddress else None
+
 abbrev pub first_fault : Option InitFault → Option InitFault → Option InitFault
 first_fault (Some f) others = Some f
 first_fault None others = others
@@ -42,7 +48,8 @@ first_fault None others = others
 abbrev pub chunk_fault : Item → Option InitFault
 chunk_fault c =
     if nat_lt (length c.value.bytes) 16 then Some TooShort else
-    first_fault (numbers_fault (numbers_at c.value.bytes)) (cookie_fault c)
+    first_fault (numbers_fault (numbers_at c.value.bytes))
+    (first_fault (cookie_fault c) (name_fault c))
 
 -- "An INIT or INIT ACK chunk MUST NOT be bundled with any other chunk. They MUST be the only chunks
 -- present in the SCTP packets that carry them."
@@ -66,6 +73,7 @@ refusal_of_init InitiateTagZero = Discard
 refusal_of_init SmallWindow = Abort
 refusal_of_init NoOutboundStreams = Abort
 refusal_of_init NoInboundStreams = Abort
+refusal_of_init HostNameAddress = Abort
 -- "Otherwise, the receiver MUST silently discard the packet."
 refusal_of_init fault = Discard
 
@@ -80,6 +88,8 @@ refusal_when_waiting SmallWindow = Abort
 -- "decides not to establish the new association due to missing mandatory parameters [..], it SHOULD
 -- respond with an ABORT chunk"
 refusal_when_waiting NoStateCookie = DestroyAndAbort
+-- "the endpoint MUST immediately send an ABORT chunk" (section 5.1.2)
+refusal_when_waiting HostNameAddress = DestroyAndAbort
 refusal_when_waiting fault = Discard
 
 -- with an INIT ACK: "in any state other than CLOSED or COOKIE-WAIT, it SHOULD be discarded
@@ -101,6 +111,8 @@ abbrev pub causes_of : InitFault → List CauseTree
 causes_of NoStateCookie = MissingMandatoryParameter (7 ∷ []) ∷ []
 causes_of NotAlone = []
 causes_of TooShort = []
+-- "and MAY include an "Unresolvable Address" error cause" (section 3.3.2.1.4), which holds the name
+causes_of HostNameAddress = []
 causes_of fault = Unknown (record { typ = 7; value = [] }) ∷ []
 
 abbrev pub abort_of : InitFault → ChunkTree

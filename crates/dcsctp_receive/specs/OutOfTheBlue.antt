@@ -1,11 +1,12 @@
--- What is done with an "Out of the Blue" packet (RFC 9260 section 8.4): one that is correctly
--- formed, of which the receiver can't tell to which association it belongs.
-use Rattle.std.specs.Prelude.{◌==◌, ◌&&◌, ◌||◌, not, Bool, true, ℕ, if◌then◌else◌, List, [], ◌∷◌}
+-- What is done with an "Out of the Blue" packet (RFC 9260 section 8.4): "it is correctly formed (i.e.,
+-- passed the receiver's CRC32c check; see Section 6.8), but the receiver is not able to identify the
+-- association to which this packet belongs". Whether it is correctly formed is checked before.
+use Rattle.std.specs.Prelude.{◌==◌, ◌||◌, not, Bool, true, ℕ, if◌then◌else◌, List, [], ◌∷◌}
 use Rattle.std.specs.List.{list_any}
 use Rattle.dcsctp_borrowed.specs.Part.{Item}
 use Rattle.dcsctp_wire.specs.{Packet.{Meaning}, Chunk.{ChunkTree}, declared.packet.common_header.CommonHeader.{CommonHeader}}
 use Rattle.dcsctp_wire.specs.Chunk as tree
-use Rattle.dcsctp_receive.specs.{Chunks.{has_header, tag_of, chunks_of, contains, begins_with, after_auth}, Fields.{is_stale_cookie_error}}
+use Rattle.dcsctp_receive.specs.{Chunks.{has_header, tag_of, chunks_of, contains, begins_with, after_auth, is_only}, Fields.{is_stale_cookie_error}}
 use Rattle.dcsctp_receive.specs.declared.out_of_the_blue.OutOfTheBlue.{OutOfTheBlue}
 use Rattle.dcsctp_receive.specs.declared.out_of_the_blue.OutOfTheBlue.TheVariants.{Discard, Init, CookieEcho, Respond}
 use Rattle.dcsctp_receive.specs.declared.out_of_the_blue.Reply.{Reply}
@@ -21,8 +22,10 @@ answer_of is_unicast tag chunks =
     -- packet and take no further action."
     if contains 6 chunks then Discard else
     -- 3) "If the packet contains an INIT chunk with a Verification Tag set to 0, it SHOULD be
-    -- processed as described in Section 5.1."
-    if tag == 0 && contains 1 chunks then Init else
+    -- processed as described in Section 5.1." But "When an endpoint receives an SCTP packet with the
+    -- Verification Tag set to 0, it SHOULD verify that the packet contains only an INIT chunk.
+    -- Otherwise, the receiver MUST silently discard the packet." (section 8.5.1, A)
+    if tag == 0 then (if is_only 1 chunks then Init else Discard) else
     -- 4) "If the packet contains a COOKIE ECHO chunk as the first chunk, it MUST be processed as
     -- described in Section 5.1." Or "as the second chunk" after an AUTH (RFC 4895 section 6.3).
     if begins_with 10 (after_auth chunks) then CookieEcho else
@@ -38,7 +41,7 @@ answer_of is_unicast tag chunks =
     -- 8) "The receiver SHOULD respond to the sender of the OOTB packet with an ABORT chunk."
     Respond Abort
 
--- of a packet: without a common header it isn't correctly formed
+-- of a packet, which has a tag if it has a common header
 abbrev pub answer_to : Bool → List ℕ → OutOfTheBlue
 answer_to is_unicast packet =
     if has_header packet then answer_of is_unicast (tag_of packet) (chunks_of packet) else Discard

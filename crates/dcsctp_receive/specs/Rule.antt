@@ -4,8 +4,8 @@ use Rattle.std.specs.Prelude.{◌≡◌, ◌==◌, ◌&&◌, ◌||◌, not, Bool
 use Rattle.std.specs.List.{list_any}
 use Rattle.dcsctp_borrowed.specs.Part.{Part, Item}
 use Rattle.dcsctp_chunk.specs.Flags.{is_set}
-use Rattle.dcsctp_receive.specs.Chunks.{is_of_type, items_of, chunk_part}
-use Rattle.dcsctp_receive.specs.Fields.{has_port, has_tag, has_checksum, is_whole, has_after, is_data, is_idata, is_user_data, is_auth, is_control, has_no_user_data, stands_alone, has_no_initiate_tag, has_no_streams, has_small_window, needs_checksum, has_wrong_blocks, has_reserved_flag, has_no_cookie, has_no_heartbeat_info}
+use Rattle.dcsctp_receive.specs.Chunks.{is_of_type, items_of, chunk_part, after_auth}
+use Rattle.dcsctp_receive.specs.Fields.{has_port, has_tag, has_checksum, is_whole, has_after, is_data, is_idata, is_user_data, is_control, has_no_user_data, stands_alone, has_no_initiate_tag, has_no_streams, has_small_window, needs_checksum, has_wrong_blocks, has_reserved_flag, has_no_cookie, has_no_heartbeat_info}
 use Rattle.dcsctp_receive.specs.declared.rule.Known.{Known}
 use Rattle.dcsctp_receive.specs.declared.rule.Rule.{Rule}
 use Rattle.dcsctp_receive.specs.declared.rule.Rule.TheVariants as rule
@@ -50,7 +50,7 @@ breaks rule.GapBlocks p word known chunks = list_any has_wrong_blocks chunks
 breaks rule.ReservedBits p word known chunks = list_any has_reserved_flag chunks
 breaks rule.ZeroChecksum p word known chunks = lacks_checksum p word known chunks
 breaks rule.CookieEchoFirst p word known chunks =
-    has_after (λ c. not (is_auth c)) (is_of_type 10) chunks
+    has_after (λ c. true) (is_of_type 10) (after_auth chunks)
 breaks rule.ControlFirst p word known chunks = has_after is_user_data is_control chunks
 breaks rule.AfterAbort p word known chunks = has_after (is_of_type 6) (λ c. true) chunks
 breaks rule.DataWithAbort p word known chunks =

@@ -4,7 +4,8 @@ ghost use Rattle.std.specs.{Prelude.{◌≡◌, ◌↔◌, ◌+◌, ◌≤◌, �
 ghost use Rattle.dcsctp_tlv.specs.Image.{put};
 ghost use Rattle.dcsctp_receive.specs.declared.hmac.HashFunction.{HashFunction};
 ghost use Rattle.dcsctp_receive.specs.Hmac.{hmac, digest_size, mac_bytes};
-ghost use Rattle.dcsctp_receive.specs.Auth.{IsListed, BeginsWithAuth, auth_data, IsSigned, IsAuthenticated};
+ghost use Rattle.dcsctp_receive.specs.Auth.{IsListed, BeginsWithAuth, auth_data, IsSigned, IsAuthenticated, HasUnknownHmac};
+ghost use Rattle.dcsctp_receive.specs.declared.auth.AuthVerdict.TheVariants.{Right, UnknownHmac};
 
 use crate::equality::are_equal;
 use crate::hmac::{HashFunction, Hmac, Mac};
@@ -38,12 +39,52 @@ pub fn is_listed(list: &[u8], typ: u8) -> bool
     typ != INIT && typ != INIT_ACK && typ != SHUTDOWN_COMPLETE && typ != AUTH && list.contains(&typ)
 }
 
+/// What an AUTH chunk is found to be (RFC 4895 section 6.3).
+#[derive(Clone, Copy, Debug)]
+pub enum AuthVerdict {
+    /// The HMAC is right. The chunks after it are processed.
+    Right,
+    /// The HMAC is wrong, or no AUTH chunk is there, or its HMAC hasn't the size that goes with its
+    /// HMAC Identifier. AUTH and all chunks after it are silently discarded.
+    Wrong,
+    /// The HMAC Identifier isn't that of SHA-1 or SHA-256. AUTH and all chunks after it are
+    /// discarded, and an ERROR with the cause Unsupported HMAC Identifier (RFC 4895 section 4.1) is
+    /// sent.
+    UnknownHmac,
+}
+
+impl AuthVerdict {
+    /// Returns whether the HMAC is right.
+    pub fn is_right(self) -> bool
+        ensures { IsTrue result ↔ (self ≡ Right) }
+    {
+        match self {
+            AuthVerdict::Right => true,
+            AuthVerdict::Wrong | AuthVerdict::UnknownHmac => false,
+        }
+    }
+}
+
 /// Returns whether the HMAC of an AUTH chunk is right under an association shared key (RFC 4895
 /// section 6.3). The bytes are those of the packet from the AUTH chunk on, up to its end.
 ///
-/// Returns `false` too where no AUTH chunk is there, or one whose HMAC Identifier isn't that of
-/// SHA-1 or SHA-256, or whose HMAC hasn't the size that goes with it.
-pub fn verify(key: &[u8], bytes: &[u8]) -> bool
+/// An identifier that the receiver didn't announce, and that is known here, is the caller's to
+/// refuse: it is to be answered as an unknown one.
+pub fn verify(key: &[u8], bytes: &[u8]) -> AuthVerdict
+    ensures right { (result ≡ Right) ↔ IsAuthenticated key.now bytes.now }
+    ensures unknown { (result ≡ UnknownHmac) ↔ HasUnknownHmac bytes.now }
+{
+    if is_authenticated(key, bytes) {
+        AuthVerdict::Right
+    } else if has_unknown_hmac(bytes) {
+        AuthVerdict::UnknownHmac
+    } else {
+        AuthVerdict::Wrong
+    }
+}
+
+/// Returns whether the bytes begin with an AUTH chunk whose HMAC is right.
+fn is_authenticated(key: &[u8], bytes: &[u8]) -> bool
     ensures { IsTrue result ↔ IsAuthenticated key.now bytes.now }
 {
     let Some(function) = auth_function(bytes) else {
@@ -89,6 +130,24 @@ fn begins_with_auth(function: HashFunction, bytes: &[u8]) -> bool
     bytes[0] == AUTH
         && read_u16_be(&bytes[2..]) as usize == size
         && read_u16_be(&bytes[6..]) == function.hmac_identifier()
+}
+
+/// Returns whether the bytes begin with an AUTH chunk of no hash function here.
+fn has_unknown_hmac(bytes: &[u8]) -> bool
+    ensures { IsTrue result ↔ HasUnknownHmac bytes.now }
+{
+    if bytes.len() < AUTH_SIZE {
+        return false;
+    }
+    let size = read_u16_be(&bytes[2..]) as usize;
+    let identifier = read_u16_be(&bytes[6..]);
+    let sha1 = HashFunction::Sha1.hmac_identifier();
+    let sha256 = HashFunction::Sha256.hmac_identifier();
+    bytes[0] == AUTH
+        && AUTH_SIZE <= size
+        && size <= bytes.len()
+        && identifier != sha1
+        && identifier != sha256
 }
 
 /// Returns the hash function of the AUTH chunk that the bytes begin with; `None` if they don't.

@@ -94,6 +94,9 @@ pub fn seal_cookie(buffer: &mut [u8], key: &[u8], cookie: &StateCookie) -> Optio
 /// Returns `Valid` up to the end of its lifespan, then `Stale`; and `Invalid` if and only if the
 /// bytes aren't those of any cookie that was sealed under the key. No byte after the MAC is looked
 /// at until the MAC over all of them was found right.
+///
+/// A cookie that is created after `now` is `Valid` too: the clock was set back. Where that may be,
+/// the caller refuses a cookie whose `created` is too far ahead of `now`.
 pub fn open_cookie<'a>(key: &[u8], bytes: &'a [u8], now: u64) -> OpenedCookie<'a>
     ensures sealed { (cookie : CookieTree) → IsInWidth cookie
         → bytes.now ≡ cookie_bytes key.now cookie → Answers cookie now result }

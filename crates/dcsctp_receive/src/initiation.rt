@@ -5,10 +5,10 @@ ghost use Rattle.dcsctp_borrowed.specs.Part.{item_of};
 ghost use Rattle.dcsctp_tlv.specs.Image.{zeroed};
 ghost use Rattle.dcsctp_wire.specs.Chunk.{tlv as chunk_tlv, IsChunkEncodable};
 ghost use Rattle.dcsctp_buffer.specs.{Buffer.{HasRoom, HoldsPacket}, declared.error.WriteError.TheVariants.{NoRoom}};
-ghost use Rattle.dcsctp_receive.specs.Initiation.{numbers_fault, cookie_fault, chunk_fault, packet_fault, refusal_of_init, refusal_when_waiting, refusal_of_init_ack, reflects, abort_of, abort_to};
+ghost use Rattle.dcsctp_receive.specs.Initiation.{numbers_fault, cookie_fault, name_fault, first_fault, chunk_fault, packet_fault, refusal_of_init, refusal_when_waiting, refusal_of_init_ack, reflects, abort_of, abort_to};
 
 use crate::items::{chunk_part, has_numbered, only};
-use crate::parameters::STATE_COOKIE;
+use crate::parameters::{HOST_NAME_ADDRESS, STATE_COOKIE};
 use crate::reply::write_back;
 use dcsctp_borrowed::part::Item;
 use dcsctp_buffer::error::WriteError;
@@ -20,7 +20,7 @@ use dcsctp_wire::packet::sctp_packet::CommonHeader;
 use dcsctp_wire::packet::{abort_chunk, init_ack_chunk, init_chunk};
 
 /// The least window that an INIT or an INIT ACK may advertise, in bytes (RFC 9260 sections 3.3.2
-/// and 3.3.3).
+/// and 6).
 const LEAST_WINDOW: u32 = 1500;
 
 /// The cause Missing Mandatory Parameter (RFC 9260 section 3.3.10.2) of one parameter, State
@@ -47,6 +47,8 @@ pub enum InitFault {
     NoInboundStreams,
     /// An INIT ACK has no State Cookie.
     NoStateCookie,
+    /// The chunk has a Host Name Address (RFC 9260 section 3.3.2.1.4).
+    HostNameAddress,
 }
 
 /// What is done with a packet whose INIT or INIT ACK isn't processed.
@@ -61,7 +63,11 @@ pub enum Refusal {
 }
 
 /// Returns what is wrong with a packet that carries an INIT (RFC 9260 sections 3.3.2 and 5.1).
-/// `None` if and only if it can be processed. Of its parameters none is looked at.
+/// `None` if and only if it has none of these faults.
+///
+/// Of its parameters Host Name Address alone is looked for, up to the first whose length is
+/// impossible. That length is no fault here, nor are bytes after the chunk that are no whole chunk:
+/// a check of the packet finds both.
 pub fn init_fault(packet: &[u8]) -> Option<InitFault>
     ensures { result ≡ packet_fault 1 packet.now }
 {
@@ -72,8 +78,10 @@ pub fn init_fault(packet: &[u8]) -> Option<InitFault>
 }
 
 /// Returns what is wrong with a packet that carries an INIT ACK (RFC 9260 sections 3.3.3 and 5.1).
-/// `None` if and only if it can be processed. Of its parameters State Cookie alone is looked for,
-/// up to the first whose length is impossible.
+/// `None` if and only if it has none of these faults.
+///
+/// Of its parameters State Cookie and Host Name Address alone are looked for, up to the first whose
+/// length is impossible, which is no more a fault than in `init_fault`.
 pub fn init_ack_fault(packet: &[u8]) -> Option<InitFault>
     ensures { result ≡ packet_fault 2 packet.now }
 {
@@ -92,7 +100,18 @@ fn chunk_fault(chunk: Item<'_>) -> Option<InitFault>
     }
     match numbers_fault(InitNumbers::read(chunk.value.bytes)) {
         Some(fault) => Some(fault),
-        None => cookie_fault(chunk),
+        None => parameters_fault(chunk),
+    }
+}
+
+/// Returns what is wrong with the parameters.
+fn parameters_fault(chunk: Item<'_>) -> Option<InitFault>
+    ensures { let c = item_of chunk.entry in
+        result ≡ first_fault (cookie_fault c) (name_fault c) }
+{
+    match cookie_fault(chunk) {
+        Some(fault) => Some(fault),
+        None => name_fault(chunk),
     }
 }
 
@@ -127,6 +146,17 @@ fn cookie_fault(chunk: Item<'_>) -> Option<InitFault>
     }
 }
 
+/// Returns whether there is a Host Name Address.
+fn name_fault(chunk: Item<'_>) -> Option<InitFault>
+    ensures { result ≡ name_fault (item_of chunk.entry) }
+{
+    if has_numbered(chunk.value.after(InitNumbers::SIZE), HOST_NAME_ADDRESS) {
+        Some(InitFault::HostNameAddress)
+    } else {
+        None
+    }
+}
+
 impl InitFault {
     /// Returns what is done with a packet whose INIT has this fault (RFC 9260 sections 3.3.2 and
     /// 8.5.1).
@@ -134,8 +164,10 @@ impl InitFault {
         ensures { result ≡ refusal_of_init self }
     {
         match self {
-            InitFault::SmallWindow | InitFault::NoOutboundStreams | InitFault::NoInboundStreams =>
-                Refusal::Abort,
+            InitFault::SmallWindow
+            | InitFault::NoOutboundStreams
+            | InitFault::NoInboundStreams
+            | InitFault::HostNameAddress => Refusal::Abort,
             _ => Refusal::Discard,
         }
     }
@@ -160,7 +192,8 @@ impl InitFault {
             InitFault::InitiateTagZero
             | InitFault::NoOutboundStreams
             | InitFault::NoInboundStreams
-            | InitFault::NoStateCookie => Refusal::DestroyAndAbort,
+            | InitFault::NoStateCookie
+            | InitFault::HostNameAddress => Refusal::DestroyAndAbort,
             InitFault::SmallWindow => Refusal::Abort,
             _ => Refusal::Discard,
         }
@@ -172,7 +205,8 @@ impl InitFault {
     ///
     /// Its Verification Tag is the Initiate Tag; where this is 0, the packet's own, with the T bit.
     /// Its cause is Missing Mandatory Parameter or Invalid Mandatory Parameter; none of `NotAlone`
-    /// and `TooShort`, which RFC 9260 doesn't answer.
+    /// and `TooShort`, which RFC 9260 doesn't answer, nor of `HostNameAddress`: the cause Unresolvable
+    /// Address, which may be added to the ABORT, holds the parameter.
     ///
     /// Returns `NoRoom`, and changes nothing, if and only if the buffer has no room for the packet:
     /// 28 bytes at most.
@@ -227,7 +261,7 @@ impl InitFault {
         ensures { result.now ≡ zeroed (chunk_tlv (abort_of self)).value }
     {
         match self {
-            InitFault::NotAlone | InitFault::TooShort => &[],
+            InitFault::NotAlone | InitFault::TooShort | InitFault::HostNameAddress => &[],
             InitFault::InitiateTagZero
             | InitFault::SmallWindow
             | InitFault::NoOutboundStreams

@@ -102,7 +102,7 @@ pub(crate) fn begins_with(chunks: Part<'_>, typ: u8) -> bool
     }
 }
 
-/// Returns the chunks without an AUTH at the front.
+/// Returns the chunks without an AUTH at the front: of these COOKIE ECHO is the first.
 pub(crate) fn after_auth(chunks: Part<'_>) -> Part<'_>
     ensures { items_of (part_of result) ≡ after_auth (items_of (part_of chunks.entry)) }
 {

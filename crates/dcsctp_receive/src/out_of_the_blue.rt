@@ -8,7 +8,7 @@ ghost use Rattle.dcsctp_receive.specs.Chunks.{items_of};
 ghost use Rattle.dcsctp_receive.specs.OutOfTheBlue.{answer_of, answer_to, reply_chunk, reply_to};
 
 use crate::chunk_test::{ChunkTest, some};
-use crate::items::{after_auth, begins_with, chunk_part, contains};
+use crate::items::{after_auth, begins_with, chunk_part, contains, is_only};
 use crate::reply::write_back;
 use dcsctp_borrowed::part::Part;
 use dcsctp_buffer::error::WriteError;
@@ -45,8 +45,11 @@ pub enum Reply {
 }
 
 /// Returns what is done with a packet that belongs to no association, by the steps of RFC 9260
-/// section 8.4 in their order; a COOKIE ECHO is the first chunk after an AUTH too (RFC 4895
-/// section 6.3). Bytes without a common header are discarded.
+/// section 8.4 in their order; under the tag 0, what isn't an INIT alone is discarded (section
+/// 8.5.1), and a COOKIE ECHO is the first chunk behind one AUTH too (RFC 4895 section 6.3).
+///
+/// The packet has to be correctly formed, as section 8.4 begins: check it first. Otherwise it may be
+/// answered with an ABORT; bytes without a common header are discarded.
 ///
 /// `is_unicast` says whether the packet is to and from unicast addresses. Its chunks are looked at
 /// by their types alone, and an ERROR by the codes of its causes, up to the first whose length is
@@ -70,8 +73,12 @@ fn answer_of(is_unicast: bool, tag: u32, chunks: Part<'_>) -> OutOfTheBlue
     if contains(chunks, abort_chunk::CHUNK_TYPE) {
         return OutOfTheBlue::Discard;
     }
-    if tag == 0 && contains(chunks, init_chunk::CHUNK_TYPE) {
-        return OutOfTheBlue::Init;
+    if tag == 0 {
+        return if is_only(chunks, init_chunk::CHUNK_TYPE) {
+            OutOfTheBlue::Init
+        } else {
+            OutOfTheBlue::Discard
+        };
     }
     if begins_with(after_auth(chunks), cookie_echo_chunk::CHUNK_TYPE) {
         return OutOfTheBlue::CookieEcho;

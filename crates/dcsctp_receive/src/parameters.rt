@@ -16,6 +16,9 @@ const HEARTBEAT_INFO: u8 = heartbeat_info_parameter::PARAMETER_TYPE as u8;
 /// State Cookie (RFC 9260 section 3.3.3).
 pub(crate) const STATE_COOKIE: u8 = state_cookie_parameter::PARAMETER_TYPE as u8;
 
+/// Host Name Address (RFC 9260 section 3.3.2.1.4).
+pub(crate) const HOST_NAME_ADDRESS: u8 = 11;
+
 /// The error cause Stale Cookie (RFC 9260 section 3.3.10.3).
 const STALE_COOKIE: u8 = 3;
 

@@ -20,6 +20,9 @@ const RESTART_WITH_NEW_ADDRESSES: u16 = 11;
 /// addresses, as parameters too: IPv4 Address and IPv6 Address. What comes after the first whose
 /// length is impossible isn't looked at. The address that the packet came from is none of them: the
 /// caller looks at it.
+///
+/// Each of the INIT's addresses is compared with each known one, so the time grows with the product
+/// of both sizes: the caller bounds how many addresses an association has.
 pub fn adds_addresses(list: &[u8], known: &[u8]) -> bool
     ensures { result ≡ adds_addresses known.now list.now }
 {
@@ -32,7 +35,8 @@ pub fn adds_addresses(list: &[u8], known: &[u8]) -> bool
 
 /// Adds to an ABORT, the packet's last chunk, which begins at `start`, the error cause Restart of
 /// an Association with New Addresses (RFC 9260 section 3.3.10.11): it lists the addresses that the
-/// INIT adds, in order, as they are in the INIT. `list` and `known` are as of `adds_addresses`.
+/// INIT adds, in order, as they are in the INIT. `list`, `known` and the time are as of
+/// `adds_addresses`.
 ///
 /// Returns what `add_written` of `dcsctp_buffer` returns, and then changes nothing.
 pub fn add_new_addresses(

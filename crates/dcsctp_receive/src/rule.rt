@@ -7,8 +7,9 @@ ghost use Rattle.dcsctp_chunk.specs.Flags.{is_set};
 ghost use Rattle.dcsctp_receive.specs.Rule.{AreBroken, breaks, is_broken_by, is_bundled, lacks_checksum, mixes_user_data};
 
 use crate::chunk_test::{ChunkTest, some, some_after};
-use crate::chunk_type::{ABORT, AUTH, COOKIE_ECHO, DATA, I_DATA, INIT};
+use crate::chunk_type::{ABORT, COOKIE_ECHO, DATA, I_DATA, INIT};
 use crate::fields::{has_port, is_u32};
+use crate::items::after_auth;
 use dcsctp_borrowed::part::Part;
 
 /// A rule for packets. A packet that keeps to the grammar may break it.
@@ -27,13 +28,14 @@ pub enum Rule {
     /// INIT and INIT ACK have an outbound and an inbound stream (RFC 9260 sections 3.3.2 and
     /// 3.3.3).
     NoStreams,
-    /// INIT and INIT ACK advertise a window of 1,500 bytes or more (RFC 9260 section 6).
+    /// INIT and INIT ACK advertise a window of 1,500 bytes or more (RFC 9260 sections 3.3.2 and
+    /// 6).
     SmallWindow,
     /// INIT ACK has a State Cookie (RFC 9260 section 3.3.3).
     InitAckCookie,
     /// HEARTBEAT has its Heartbeat Info (RFC 9260 section 3.3.5).
     HeartbeatInfo,
-    /// DATA and I-DATA have user data (RFC 9260 section 6.2, RFC 8260 section 2.1).
+    /// DATA and I-DATA have user data (RFC 9260 section 3.3.1, RFC 8260 section 2.1).
     NoUserData,
     /// An association has DATA or I-DATA, not both (RFC 8260 section 2.2.1).
     DataBesideIdata,
@@ -46,7 +48,7 @@ pub enum Rule {
     /// packet to an end that didn't announce Zero Checksum Acceptable have their CRC32c (RFC 9653
     /// section 5.2).
     ZeroChecksum,
-    /// No chunk comes before COOKIE ECHO (RFC 9260 section 5.1), but for AUTH (RFC 4895 section
+    /// No chunk comes before COOKIE ECHO (RFC 9260 section 5.1), but for one AUTH (RFC 4895 section
     /// 6.3).
     CookieEchoFirst,
     /// Control chunks come before DATA and I-DATA (RFC 9260 section 6.10): all chunks but these and
@@ -150,14 +152,14 @@ impl Rule {
         }
     }
 
-    /// Returns the word with which it is given: `MUST`, `MUST NOT`, `SHOULD` or `SHOULD NOT` (RFC
-    /// 2119).
+    /// Returns the word with which it is given: `MUST`, `MUST NOT` or `SHOULD` (RFC 2119).
     pub fn requirement(self) -> &'static str {
         match self {
             Rule::InitTag
             | Rule::TagZero
             | Rule::InitAckCookie
             | Rule::HeartbeatInfo
+            | Rule::NoUserData
             | Rule::ZeroChecksum
             | Rule::CookieEchoFirst
             | Rule::ControlFirst
@@ -170,7 +172,6 @@ impl Rule {
             | Rule::DataBesideIdata
             | Rule::DataWithAbort => "MUST NOT",
             Rule::GapBlocks | Rule::ReservedBits => "SHOULD",
-            Rule::NoUserData => "SHOULD NOT",
         }
     }
 
@@ -181,10 +182,10 @@ impl Rule {
             Rule::InitAlone | Rule::ControlFirst => "RFC 9260 section 6.10",
             Rule::InitTag | Rule::TagZero => "RFC 9260 section 8.5.1",
             Rule::InitiateTagZero | Rule::NoStreams => "RFC 9260 sections 3.3.2 and 3.3.3",
-            Rule::SmallWindow => "RFC 9260 section 6",
+            Rule::SmallWindow => "RFC 9260 sections 3.3.2 and 6",
             Rule::InitAckCookie => "RFC 9260 section 3.3.3",
             Rule::HeartbeatInfo => "RFC 9260 section 3.3.5",
-            Rule::NoUserData => "RFC 9260 section 6.2",
+            Rule::NoUserData => "RFC 9260 section 3.3.1",
             Rule::DataBesideIdata => "RFC 8260 section 2.2.1",
             Rule::GapBlocks => "RFC 9260 section 3.3.4",
             Rule::ReservedBits => "RFC 9260 section 3.2",
@@ -230,8 +231,8 @@ impl Rule {
             Rule::ZeroChecksum => lacks_checksum(packet, word, known),
             Rule::CookieEchoFirst => {
                 some_after(
-                    chunks,
-                    ChunkTest::OtherThan(AUTH),
+                    after_auth(chunks),
+                    ChunkTest::Any,
                     ChunkTest::Type(COOKIE_ECHO),
                 )
             }

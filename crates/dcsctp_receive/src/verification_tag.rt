@@ -30,7 +30,7 @@ pub enum TagVerdict {
     /// The tag is right: processes the packet.
     Accept,
     /// Follows the procedures of RFC 9260 section 5: the packet is an INIT alone under the tag 0,
-    /// or begins with COOKIE ECHO, perhaps after an AUTH, whose tag these procedures look at.
+    /// or begins with COOKIE ECHO, perhaps after one AUTH, whose tag these procedures look at.
     Establish,
     /// Treats the packet as out of the blue (RFC 9260 section 8.4).
     OutOfTheBlue,
@@ -40,6 +40,10 @@ pub enum TagVerdict {
 
 /// Returns what is done with a packet, by its Verification Tag, for this association (RFC 9260
 /// sections 8.5 and 8.5.1). Bytes without a common header are discarded.
+///
+/// The first of these rules that applies decides, wherever the chunks lie: under the tag 0 all but an
+/// INIT alone is discarded; under another, a packet with INIT, also under the right tag; ABORT, then
+/// SHUTDOWN COMPLETE, go by the T bit; then come COOKIE ECHO, SHUTDOWN ACK and the tag.
 ///
 /// The packet's chunks are looked at by their types and the T bit alone, up to the first whose
 /// length is impossible.

@@ -1,8 +1,9 @@
 -- A loop over a list that looks for the first element that is so.
-use Rattle.std.proofs.Common.{◌≡◌, ◌+◌, ◌<◌, ◌≤◌, ℕ, List, length, take, slice_index_or, inl, inr, sym, ap, subst, ◌∙◌, arith}
+use Rattle.std.proofs.Common.{◌≡◌, ◌+◌, ◌<◌, ◌≤◌, ℕ, List, [], ◌∷◌, length, take, slice_index_or, inl, inr, sym, ap, subst, ◌∙◌, arith}
 use Rattle.std.specs.List.{All, Any}
 use Rattle.std.proofs.lemmas.Bool.{cases_eq}
 use Rattle.std.proofs.lemmas.List.{get_or-take, get_or_default, length-take, take_all}
+use Rattle.dump_analysis.specs.Firsts.{IsFirst}
 
 module _ {X : Type 0} (P : X → Type 0) (xs : List X) (i : ℕ) where
   -- none before it is, nor is it
@@ -33,3 +34,10 @@ module _ {X : Type 0} (P : X → Type 0) (xs : List X) (i : ℕ) where
       (subst P
       (sym (ap (λ (l : List X). slice_index_or l any.0 any.1) (take_all i xs past) ∙ any.3))
       any.4)
+
+-- the one in a place is one of all
+pub any_at : {X : Type 0} (P : X → Type 0) (xs : List X) (i : ℕ) → IsFirst P xs i → Any P xs
+any_at P [] i is = absurd (omega (arith, is.0))
+any_at P (x ∷ xs) i is =
+    let y = slice_index_or (x ∷ xs) i x in
+    (i, y, is.0, get_or_default (x ∷ xs) i y x is.0, is.2 x)

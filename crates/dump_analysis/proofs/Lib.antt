@@ -8,3 +8,5 @@ pub mod Marks
 pub mod Questions
 pub mod Firsts
 pub mod PathCounts
+pub mod PacketTypes
+pub mod Fates

@@ -1,16 +1,16 @@
--- The parts of a list of questions.
+-- The parts of a list, and of one of questions.
 use Rattle.std.proofs.Common.{◌≡◌, ◌+◌, ◌<◌, ℕ, suc, List, [], ◌∷◌, ◌++◌, length, take, drop, slice_index_or, slice_set, sym, ap, ◌∙◌, refl, arith}
 use Rattle.std.proofs.lemmas.List.{drop_more, take-append-drop, set_split, set_at}
 use Rattle.dump_analysis.specs.declared.unanswered.Question.{Question}
 
 -- the elements before a place, the one at it, and those after it
-pub split : (qs : List Question) (place : ℕ) (d : Question) → place < length qs
+pub split : {X : Type 0} (qs : List X) (place : ℕ) (d : X) → place < length qs
     → qs ≡ take place qs ++ slice_index_or qs place d ∷ drop (place + 1) qs
 split qs place d within =
     sym (take-append-drop place qs)
     ∙ ap (λ rest. take place qs ++ rest) (drop_more qs place d within)
 
-pub split_set : (qs : List Question) (place : ℕ) (q : Question) → place < length qs
+pub split_set : {X : Type 0} (qs : List X) (place : ℕ) (q : X) → place < length qs
     → slice_set qs place q ≡ take place qs ++ q ∷ drop (place + 1) qs
 split_set qs place q within =
     let e : suc place ≡ place + 1 = omega arith in

@@ -1,5 +1,5 @@
 -- What is counted of the messages of a channel, and of all channels of an association.
-use Rattle.std.specs.Prelude.{◌≡◌, ◌+◌, ◌<◌, ◌⊎◌, ◌++◌, ◌∷◌, ◌||◌, ℕ, false, nat_lt, if◌then◌else◌, List, [], slice_get, slice_set, Option, Some, None, IsSome}
+use Rattle.std.specs.Prelude.{◌≡◌, ◌+◌, ◌<◌, ◌⊎◌, ◌++◌, ◌∷◌, ◌||◌, ◌&&◌, ◌==◌, ℕ, false, not, nat_lt, if◌then◌else◌, List, [], slice_get, slice_set, Option, Some, None, IsSome}
 use Rattle.std.specs.List.{sum_by}
 use Rattle.dump_capture.specs.Number.{capped, one_more}
 use Rattle.dump_analysis.specs.Firsts.{IsFirst}
@@ -76,6 +76,13 @@ IsFrom (Some first) packet = ¬ (ComesBefore packet first)
 abbrev pub succeeded_at : Option (ℕ × PacketNumber) → Option PacketNumber
 succeeded_at None = None
 succeeded_at (Some answer) = if nat_lt answer.0 2 then Some answer.1 else None
+
+-- The response to a request: the first one that isn't "In progress", which ends it (RFC 6525
+-- section 5.2.7), or else the first one. This is the one so far, and then a further one.
+abbrev pub last_answer : Option (ℕ × PacketNumber) → ℕ → PacketNumber → Option (ℕ × PacketNumber)
+last_answer None code packet = Some (code, packet)
+last_answer (Some first) code packet =
+    if (first.0 == 6) && not (code == 6) then Some (code, packet) else Some first
 
 abbrev pub reset_of : Side → Channel → Option Reset
 reset_of First c = c.first_reset

@@ -1,5 +1,5 @@
 -- The paths of an association, and how many packets were counted of them.
-use Rattle.std.specs.Prelude.{◌≡◌, ◌≢◌, ◌+◌, ◌<◌, ◌≤◌, ◌⊎◌, ◌++◌, ◌∷◌, ℕ, List, [], length, slice_index_or, Option, Some, None, Any}
+use Rattle.std.specs.Prelude.{◌≡◌, ◌≢◌, ◌+◌, ◌<◌, ◌≤◌, ◌⊎◌, ◌++◌, ◌∷◌, ℕ, List, [], length, slice_index_or, slice_get, slice_set, Option, Some, None, Any}
 use Rattle.std.specs.List.{sum_by}
 use Rattle.std.specs.Net.Addr.{IsV4And, IsV6And, ipv4_octets, ipv6_segments, segments_of}
 use Rattle.std.specs.declared.net.ip_addr.IpAddr.{IpAddr}
@@ -8,9 +8,11 @@ use Rattle.dump_capture.specs.declared.frame.Addresses.{Addresses}
 use Rattle.dump_capture.specs.declared.frame.Addresses.TheVariants.{V4, V6}
 use Rattle.dump_analysis.specs.Counts.{Packet, CountsPacket, nothing}
 use Rattle.dump_analysis.specs.Firsts.{IsFirst}
+use Rattle.dump_analysis.specs.Questions.{IsOpen, AnswersOldest}
 use Rattle.dump_analysis.specs.declared.association.Side.{Side}
 use Rattle.dump_analysis.specs.declared.counts.SeenPacket.{SeenPacket}
 use Rattle.dump_analysis.specs.declared.path.{Path.{Path}, Way.{Way}}
+use Rattle.dump_analysis.specs.declared.unanswered.Unanswered.{Unanswered}
 
 abbrev pub packets_on : List Path → ℕ
 packets_on paths = sum_by (λ p. p.counts.packets) paths
@@ -88,3 +90,22 @@ FindsPlace way before place after =
     × ((new : Path) × IsNew way new × (after ≡ before ++ new ∷ [])))
     ⊎ (¬ (Any (Goes way) before) × (16 ≤ length before) × (place ≡ length before)
     × (after ≡ before))
+
+-- ---- an answer to a HEARTBEAT (RFC 9260 section 8.3)
+
+-- It is a path of this end, on which a HEARTBEAT with this key has no answer.
+abbrev pub Awaits : Side → ℕ → Path → Type 0
+Awaits asker key path = (path.way.sender ≡ asker) × Any (IsOpen key) path.heartbeats.asked
+
+-- The oldest HEARTBEAT with this key that has no answer, of the path in this place, has one now;
+-- nothing else changes.
+abbrev pub AnswersAt : ℕ → ℕ → List Path → List Path → Type 0
+AnswersAt key place before after = (path : Path) × (answered : Unanswered)
+    × (slice_get before place ≡ Some path)
+    × (Any (IsOpen key) path.heartbeats.asked → AnswersOldest key path.heartbeats answered)
+    × (after ≡ slice_set before place (record path { heartbeats = answered }))
+
+-- the first path of this end that awaits it has the answer
+abbrev pub AnswersFirst : Side → ℕ → List Path → List Path → Type 0
+AnswersFirst asker key before after =
+    (place : ℕ) × IsFirst (Awaits asker key) before place × AnswersAt key place before after

@@ -5,6 +5,8 @@ use Rattle.std.specs.Prelude.{◌≡◌, ◌-◌, ◌++◌, ◌∷◌, ℕ, Bool
 use Rattle.std.specs.List.{find}
 use Rattle.std.specs.Option.{option_or}
 use Rattle.dump_capture.specs.Number.{one_more}
+use Rattle.dump_analysis.specs.declared.association.Side.{Side}
+use Rattle.dump_analysis.specs.declared.association.Side.TheVariants.{First, Second}
 use Rattle.dump_analysis.specs.declared.packet_number.PacketNumber.{PacketNumber}
 use Rattle.dump_analysis.specs.declared.unanswered.Question.{Question}
 use Rattle.dump_analysis.specs.declared.unanswered.Unanswered.{Unanswered}
@@ -16,6 +18,11 @@ HasKey key q = IsSome q.packet × (q.key ≡ key)
 -- it has the key, and no answer
 abbrev pub IsOpen : ℕ → Question → Type 0
 IsOpen key q = (q.is_answered ≡ false) × (q.key ≡ key)
+
+-- those of an end, of both ends' in this order
+abbrev pub asked_by : Side → Unanswered → Unanswered → List Question
+asked_by First first second = first.asked
+asked_by Second first second = second.asked
 
 -- ---- a question
 

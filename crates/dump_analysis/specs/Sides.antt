@@ -1,5 +1,5 @@
 -- The ends of an association, and one that left the table.
-use Rattle.std.specs.Prelude.{◌≡◌, ◌⊎◌, Bool, true, Box, Option, Some, None}
+use Rattle.std.specs.Prelude.{◌≡◌, true, Box, Option, Some, None}
 use Rattle.std.specs.declared.alloc.Global.{Global}
 use Rattle.dump_analysis.specs.declared.association.Side.{Side}
 use Rattle.dump_analysis.specs.declared.association.Side.TheVariants.{First, Second}
@@ -24,8 +24,3 @@ counts_of Second a = a.second.counts
 abbrev pub HasLeft : Option (Box Association Global) → Type 0
 HasLeft (Some a) = a.value.has_left ≡ true
 HasLeft None = Unit {0}
-
--- Its INIT or INIT ACK says of one of the ends whether it accepts zero checksums (RFC 9653
--- section 4).
-abbrev pub SaysOfZero : Bool → Association → Type 0
-SaysOfZero says a = (a.first.accepts_zero ≡ Some says) ⊎ (a.second.accepts_zero ≡ Some says)

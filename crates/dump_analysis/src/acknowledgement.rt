@@ -1,7 +1,8 @@
 //! What a chunk acknowledges.
 
-ghost use Rattle.std.specs.Prelude.{◌↔◌, IsTrue};
-ghost use Rattle.dump_analysis.specs.Acknowledged.{IsAcknowledged};
+ghost use Rattle.std.specs.Prelude.{◌≡◌, ◌↔◌, IsTrue, IfSome, IfNone, false};
+ghost use Rattle.dcsctp_borrowed.specs.Part.{item_of};
+ghost use Rattle.dump_analysis.specs.Acknowledged.{acknowledges, is_acknowledging, block_count, IsAcknowledgedBy, Says};
 
 use crate::chunk_type::{NR_SACK, SACK, SHUTDOWN};
 use crate::serial::is_after;
@@ -22,43 +23,43 @@ pub struct Acknowledgement<'a> {
 impl<'a> Acknowledgement<'a> {
     /// Returns what a SACK (RFC 9260 section 3.3.4), an NR-SACK or a SHUTDOWN (section 3.3.8)
     /// acknowledges; `None` for other chunks.
-    pub fn of(chunk: Item<'a>) -> Option<Acknowledgement<'a>> {
-        let value = chunk.value.bytes;
-        if value.len() < 4 {
+    pub fn of(chunk: Item<'a>) -> Option<Acknowledgement<'a>>
+        ensures some { IfSome result (Says (item_of chunk.entry)) }
+        ensures none { IfNone result (acknowledges (item_of chunk.entry) ≡ false) }
+    {
+        if !acknowledges(chunk) {
             return None;
         }
-        let cumulative = read_u32_be(value);
-        match chunk.first {
-            SACK if value.len() >= SackNumbers::SIZE => {
-                Some(Acknowledgement {
-                    cumulative,
-                    blocks: &value[SackNumbers::SIZE..],
-                    count: SackNumbers::read(value).gap_ack_block_count as usize,
-                })
-            }
-            NR_SACK if value.len() >= 16 => {
-                let count = read_u16_be(&value[8..]) as usize + read_u16_be(&value[10..]) as usize;
-                Some(Acknowledgement {
-                    cumulative,
-                    blocks: &value[16..],
-                    count,
-                })
-            }
-            SACK | NR_SACK | SHUTDOWN => {
-                Some(Acknowledgement {
-                    cumulative,
-                    blocks: &value[..0],
-                    count: 0,
-                })
-            }
-            _ => None,
+        let size = if chunk.first == SACK {
+            SackNumbers::SIZE
+        } else {
+            NR_SACK_SIZE
+        };
+        Some(Acknowledgement {
+            cumulative: read_u32_be(chunk.value.bytes),
+            blocks: chunk.value.after(size).bytes,
+            count: block_count(chunk),
+        })
+    }
+
+    /// Returns how many gap blocks there are.
+    pub fn block_count(self) -> usize {
+        self.count.min(self.blocks.len() / 4)
+    }
+
+    /// Returns the first and the last TSN of a gap block, as far after the Cumulative TSN Ack;
+    /// `None` where there is none.
+    pub fn block(self, index: usize) -> Option<(u16, u16)> {
+        let block = self.blocks.get(index.saturating_mul(4)..)?;
+        if block.len() < 4 {
+            return None;
         }
+        Some((read_u16_be(block), read_u16_be(&block[2..])))
     }
 
     /// Returns whether a TSN is acknowledged.
     pub fn has(self, tsn: u32) -> bool
-        ensures { IsTrue result
-            ↔ IsAcknowledged self.entry.cumulative self.entry.count self.entry.blocks.now tsn }
+        ensures { IsTrue result ↔ IsAcknowledgedBy self.entry tsn }
     {
         if !is_after(tsn, self.cumulative) {
             return true;
@@ -73,5 +74,36 @@ impl<'a> Acknowledgement<'a> {
             }
         }
         false
+    }
+}
+
+/// Bytes of an NR-SACK's value before its gap blocks.
+const NR_SACK_SIZE: usize = 16;
+
+/// Returns whether a chunk acknowledges TSNs.
+fn acknowledges(chunk: Item<'_>) -> bool
+    ensures { result ≡ acknowledges (item_of chunk.entry) }
+{
+    is_acknowledging(chunk.first) && chunk.value.bytes.len() >= 4
+}
+
+/// Returns whether chunks of this type acknowledge TSNs.
+fn is_acknowledging(typ: u8) -> bool
+    ensures { result ≡ is_acknowledging typ }
+{
+    typ == SACK || typ == NR_SACK || typ == SHUTDOWN
+}
+
+/// Returns how many gap blocks a chunk says that it has.
+fn block_count(chunk: Item<'_>) -> usize
+    ensures { result ≡ block_count (item_of chunk.entry) }
+{
+    let value = chunk.value.bytes;
+    if chunk.first == SACK && value.len() >= SackNumbers::SIZE {
+        read_u16_be(&value[8..]) as usize
+    } else if chunk.first == NR_SACK && value.len() >= NR_SACK_SIZE {
+        read_u16_be(&value[8..]) as usize + read_u16_be(&value[10..]) as usize
+    } else {
+        0
     }
 }

@@ -375,6 +375,18 @@ impl Announcements {
         }
     }
 
+    /// Returns whether something was said of an address, or maybe was, where one had no room.
+    fn may_have_address(&self, address: IpAddr) -> bool {
+        for known in &self.list {
+            if let Some(known) = known
+                && known.address == address
+            {
+                return true;
+            }
+        }
+        self.more > 0
+    }
+
     /// Notes a statement about an address; returns whether there was room for it.
     fn note(&mut self, address: IpAddr, topic: Topic, statement: Statement) -> bool
         ensures full { result ≡ false → IsFull self.old.list }
@@ -425,6 +437,14 @@ impl Announcer {
         match &self.0 {
             Some(said) => Some(said),
             None => None,
+        }
+    }
+
+    /// Returns whether an address may be one that the end announced: it is kept, or one had no room.
+    pub fn may_have_address(&self, address: IpAddr) -> bool {
+        match &self.0 {
+            Some(said) => said.may_have_address(address),
+            None => false,
         }
     }
 

@@ -9,13 +9,14 @@ use crate::authentication::{AuthVerdict, Authentication};
 use crate::chunk_type::{
     ABORT, ASCONF, ASCONF_ACK, COOKIE_ACK, INIT, NR_SACK, SACK, SHUTDOWN_COMPLETE,
 };
-use crate::counts::SeenPacket;
+use crate::counts::{SeenPacket, increase};
 use crate::end::{End, Learned};
 use crate::key::Route;
 use crate::membership::Sequence;
 use crate::packet_number::PacketNumber;
 use crate::transport::Transport;
 use dcsctp_borrowed::part::Item;
+use dump_capture::icmp::IcmpError;
 use std::alloc::{AllocError, Global};
 
 /// Which end of an association.
@@ -109,6 +110,19 @@ pub struct Association {
     /// How many packets went between its ends while it lived and were of no association, up to
     /// 2^64 - 1: their tag was neither end's (RFC 9260 section 8.4).
     pub out_of_the_blue: u64,
+    /// The last tag of those packets.
+    pub stray: Option<Stray>,
+}
+
+/// A tag of a packet beside an association.
+#[derive(Clone, Copy)]
+pub struct Stray {
+    /// The end that sent the packet.
+    sender: Side,
+    /// The tag.
+    tag: u32,
+    /// The last one of the other end before it.
+    before: Option<u32>,
 }
 
 impl Association {
@@ -155,6 +169,53 @@ impl Association {
             Side::First => &self.first,
             Side::Second => &self.second,
         }
+    }
+
+    /// Counts a packet of an end beside it, and its tag, if it is that of the other end.
+    pub fn note_beside(&mut self, sender: Side, tag: Option<u32>)
+        ensures first { self.new.first.counts ≡ self.old.first.counts }
+        ensures second { self.new.second.counts ≡ self.old.second.counts }
+    {
+        increase(&mut self.out_of_the_blue);
+        let Some(tag) = tag else {
+            return;
+        };
+        let last = self.stray;
+        let before = match last {
+            Some(stray) if stray.sender == sender => stray.before,
+            Some(stray) => Some(stray.tag),
+            None => None,
+        };
+        self.stray = Some(Stray {
+            sender,
+            tag,
+            before,
+        });
+    }
+
+    /// Counts an ICMP error that quotes a packet of an end, in the packet of this number.
+    pub fn note_error(&mut self, sender: Side, number: PacketNumber, error: &IcmpError<'_>)
+        ensures first { self.new.first.counts ≡ self.old.first.counts }
+        ensures second { self.new.second.counts ≡ self.old.second.counts }
+    {
+        match sender {
+            Side::First => self.first.icmp_errors.note(number, error),
+            Side::Second => self.second.icmp_errors.note(number, error),
+        }
+    }
+
+    /// Returns the tag that answered this tag of an end, beside it: that of the last packet, of the
+    /// other end, if it came after one with this tag.
+    pub fn answer_to(&self, sender: Side, tag: u32) -> Option<u32> {
+        match self.stray {
+            Some(stray) if stray.sender != sender && stray.before == Some(tag) => Some(stray.tag),
+            _ => None,
+        }
+    }
+
+    /// Returns whether a chunk of an end goes on with what was seen of the association.
+    pub fn is_continued_by(&self, sender: Side, chunk: Item<'_>) -> bool {
+        self.end(sender.other()).is_answered_by(chunk) || self.end(sender).goes_on_with(chunk)
     }
 
     /// Notes that packets to an end carry a tag.

@@ -1,10 +1,12 @@
 //! The table of associations.
 
-ghost use Rattle.std.specs.Prelude.{◌≤◌, ◌<◌, ◌≡◌, ◌+◌, ◌-◌, ◌^◌, max, if◌then◌else◌, is_some, vec_len, IfOk};
-ghost use Rattle.std.specs.List.{Any};
+ghost use Rattle.std.specs.Prelude.{◌≤◌, ◌<◌, ◌≡◌, ◌↔◌, ◌+◌, ◌-◌, ◌^◌, max, if◌then◌else◌, is_some, vec_len, IfOk, IsTrue, Option, Some};
+ghost use Rattle.std.specs.Bool.{OnTrue};
 ghost use Rattle.std.specs.List.Sorted.{IsNonDecreasingBy};
-ghost use Rattle.std.specs.Option.{IfSome, unwrap_or};
-ghost use Rattle.dump_analysis.specs.Sides.{HasLeft, SaysOfZero};
+ghost use Rattle.std.specs.Option.{IfSome, IsSomeAnd, unwrap_or};
+ghost use Rattle.dump_analysis.specs.Attribution.{IsKnownBySender, MayBeOf, Holds, HasTagOf, IsKnown, IsOwner, IsOwnerOf, IsKnownOf, known_of, owner_of};
+ghost use Rattle.dump_analysis.specs.Sides.{HasLeft};
+ghost use Rattle.dump_analysis.specs.declared.keys.Flow.{Flow};
 ghost use Rattle.dump_capture.specs.Number.{one_more};
 ghost use Rattle.dump_analysis.specs.Order.{first_of};
 ghost use Rattle.dump_analysis.specs.Table.{TakesEnd, TakesSlot, CountsUnknown, counted, packets_of, packets_in, packets_left};
@@ -17,7 +19,13 @@ use crate::key::{Arrival, Route};
 use crate::keys::{Flow, Keys};
 use crate::membership::Membership;
 use crate::order::Order;
+use crate::packet_number::PacketNumber;
+use crate::rule::Known;
 use crate::transport::TransportNames;
+use dcsctp_borrowed::checksum::Checksum;
+use dcsctp_wire::packet::sctp_packet::COMMON_HEADER_SIZE;
+use dump_capture::frame::FoundPacket;
+use dump_capture::icmp::IcmpError;
 use std::alloc::{AllocError, Global};
 use std::mem;
 
@@ -28,8 +36,8 @@ enum Owner {
     Known(Flow),
     /// It is of an association that left.
     Gone,
-    /// It is of none, but goes between the ends of the living association in this slot.
-    Beside(usize),
+    /// It is of none, but goes between the ends of a living association, from this one.
+    Beside(Flow),
     /// It begins an association.
     New,
 }
@@ -46,11 +54,13 @@ pub struct Noted {
 /// The associations of a capture, in bounded memory.
 ///
 /// A packet belongs to the association whose end chose its tag, between the same ports, and of a
-/// log in the same direction and of the same transport. One with an unknown tag belongs to the
-/// association between the same ends of which no tag of that end is known. A packet of an
-/// association that left is of none, and begins none; so is one between the ends of a living
-/// association of which it has neither tag, unless it begins with an INIT. Packets that are
-/// refused, or have a wrong checksum, belong to one as others do.
+/// log in the same direction and of the same transport; an INIT only if the association may have
+/// one of its addresses. One with an unknown tag belongs to the association between the same ends
+/// of which no tag of that end is known, or to one that began midway and that it goes on with. A
+/// packet of an association that left is of none, and begins none; so is one between the ends of a
+/// living association of which it has neither tag, unless it begins with an INIT, or its tag and
+/// another answered one another there. Packets that are refused, or have a wrong checksum, belong
+/// to one as others do.
 #[derive(Drop)]
 pub struct Associations {
     alloc: Global,
@@ -100,7 +110,7 @@ impl Associations {
                 match self.find(&arrival) {
                     Owner::Known(flow) => of = self.note(flow, &arrival)?,
                     Owner::Gone => increase(&mut self.unknown),
-                    Owner::Beside(slot) => self.note_beside(slot),
+                    Owner::Beside(flow) => self.note_beside(flow, &arrival),
                     Owner::New => return self.begin(&arrival),
                 }
             }
@@ -109,46 +119,69 @@ impl Associations {
         Ok(Noted { of, left: None })
     }
 
-    /// Returns whether the end to which a packet goes announced Zero Checksum Acceptable (RFC 9653
-    /// section 4); `None` if neither its INIT nor its INIT ACK was seen.
-    pub fn accepts_zero(&self, packet: &SeenPacket<'_>) -> Option<bool>
-        ensures { IfSome result (λ says. Any (λ a. SaysOfZero says a.value) self.now.table.items) }
+    /// Counts an ICMP error, in the packet of this number, of the end that sent the packet which it
+    /// quotes (RFC 9260 section 10), if that is of an association. Counts no packet.
+    pub fn note_error(&mut self, number: PacketNumber, error: &IcmpError<'_>)
+        ensures unknown { self.new.unknown ≡ self.old.unknown }
+        ensures order { self.new.order ≡ self.old.order }
+        ensures keys { self.new.keys ≡ self.old.keys }
+        ensures counted { counted self.new.table.items self.new.unknown
+            ≡ counted self.old.table.items self.old.unknown }
     {
-        let arrival = Arrival::of(packet, &self.names)?;
-        let Owner::Known(flow) = self.find(&arrival) else {
-            return None;
+        // At least the ports and the tag are quoted, maybe no whole header.
+        let mut header = [0; COMMON_HEADER_SIZE];
+        let bytes = error.quoted.packet;
+        let packet = if bytes.len() < COMMON_HEADER_SIZE {
+            header[..bytes.len()].copy_from_slice(bytes);
+            &header[..]
+        } else {
+            bytes
         };
-        let association = self.table.get(flow.slot)?;
-        association.end(flow.sender.other()).accepts_zero
+        let quoted = SeenPacket {
+            number,
+            nanoseconds: None,
+            found: FoundPacket {
+                addresses: error.quoted.addresses,
+                udp_ports: error.quoted.udp_ports,
+                length: error.quoted.length,
+                packet,
+            },
+            direction: None,
+            transport: b"",
+            checksum: Checksum::Unknown,
+            is_refused: false,
+            passes: false,
+            key: None,
+        };
+        if let Some(flow) = self.owner(&quoted) {
+            count_error(&mut self.table, flow, number, error);
+        }
     }
 
-    /// Returns whether an end of the association of a packet sent DATA, and whether one sent
-    /// I-DATA.
-    pub fn user_data(&self, packet: &SeenPacket<'_>) -> (bool, bool) {
-        let Some(arrival) = Arrival::of(packet, &self.names) else {
-            return (false, false);
-        };
-        let Owner::Known(flow) = self.find(&arrival) else {
-            return (false, false);
-        };
-        match self.table.get(flow.slot) {
-            Some(association) => {
-                let (first, second) = (&association.first.counts, &association.second.counts);
-                (
-                    first.has_data() || second.has_data(),
-                    first.i_data_chunks > 0 || second.i_data_chunks > 0,
-                )
-            }
-            None => (false, false),
-        }
+    /// Returns what is known of the association of a packet that wasn't counted yet, by the packets
+    /// before it: whether the end to which it goes announced Zero Checksum Acceptable (RFC 9653
+    /// section 4), and which user data was sent.
+    pub fn known_of(&self, packet: &SeenPacket<'_>) -> Known
+        ensures { IsKnownOf self.now.keys.flows self.now.table.items packet.now result }
+    {
+        known_in(&self.table, self.owner(packet))
     }
 
     /// Returns the number of the association of a packet that wasn't counted yet; `None` if it is
     /// of none, or begins one.
     pub fn number_of(&self, packet: &SeenPacket<'_>) -> Option<u64> {
+        let flow = self.owner(packet)?;
+        Some(self.table.get(flow.slot)?.number)
+    }
+
+    /// Returns the association of a packet that wasn't counted yet, and which end sent it; `None`
+    /// if it is of none, or begins one.
+    fn owner(&self, packet: &SeenPacket<'_>) -> Option<Flow>
+        ensures { IsOwnerOf self.now.keys.flows self.now.table.items packet.now result }
+    {
         let arrival = Arrival::of(packet, &self.names)?;
         match self.find(&arrival) {
-            Owner::Known(flow) => Some(self.table.get(flow.slot)?.number),
+            Owner::Known(flow) => Some(flow),
             Owner::Gone | Owner::Beside(_) | Owner::New => None,
         }
     }
@@ -179,35 +212,117 @@ impl Associations {
     }
 
     /// Returns whose packet it is.
-    fn find(&self, arrival: &Arrival<'_, '_>) -> Owner {
-        if let Some(flow) = self.keys.find(arrival) {
+    fn find(&self, arrival: &Arrival<'_, '_>) -> Owner
+        ensures { IsOwner self.now.keys.flows self.now.table.items (Some arrival.now)
+            (owner_of result) }
+    {
+        if let Some(flow) = self.by_tag(arrival) {
             return Owner::Known(flow);
         }
         if self.keys.is_gone(arrival) {
             return Owner::Gone;
         }
-        for sender in [Side::First, Side::Second] {
-            if let Some(slot) = self.keys.on_route(arrival.route, sender) {
-                if self.joins(arrival, slot, sender) {
-                    return Owner::Known(Flow { slot, sender });
-                }
-            }
+        if let Some(flow) = self.without_tag(arrival) {
+            return Owner::Known(flow);
         }
         if arrival.is_init() || !arrival.route.is_exclusive() {
             return Owner::New;
         }
-        match self.latest(arrival.route) {
-            Some(slot) if self.lives(slot) => Owner::Beside(slot),
+        match self.keys.latest(arrival.route) {
+            Some(flow) if self.is_beside(flow, arrival.tag) => Owner::Beside(flow),
             _ => Owner::New,
         }
     }
 
-    /// Returns whether a packet with an unknown tag is of the latest association on its route, in
-    /// which this end sends on it.
-    fn joins(&self, arrival: &Arrival<'_, '_>, slot: usize, sender: Side) -> bool {
-        let Some(association) = self.table.get(slot) else {
+    /// Returns whose packet it is by its tag.
+    fn by_tag(&self, arrival: &Arrival<'_, '_>) -> Option<Flow>
+        ensures known { IsKnown self.now.keys.flows self.now.table.items arrival.now
+            → IsSomeAnd result (HasTagOf self.now.table.items arrival.now) }
+        ensures sound { IfSome result (λ flow. Holds self.now.table.items flow.slot
+            (MayBeOf arrival.now flow.sender)) }
+    {
+        let latest = self.keys.find(arrival)?;
+        if !self.has_tag(latest, arrival) {
+            return None;
+        }
+        if self.is_between(latest, arrival) {
+            return Some(latest);
+        }
+        // Other hosts may have chosen the same tag.
+        for sender in [Side::First, Side::Second] {
+            if let Some(flow) = self.keys.on_route(arrival.route, sender) {
+                if self.has_tag(flow, arrival) {
+                    return Some(flow);
+                }
+            }
+        }
+        if arrival.is_init() {
+            return None;
+        }
+        Some(latest)
+    }
+
+    /// Returns whether an end of an association chose the tag by which a packet is known that this
+    /// one sent.
+    fn has_tag(&self, flow: Flow, arrival: &Arrival<'_, '_>) -> bool
+        ensures slot { OnTrue result (Holds self.now.table.items flow.slot
+            (MayBeOf arrival.now flow.sender)) }
+        ensures tag { ¬ (IsKnownBySender arrival.now)
+            → IsTrue result ↔ HasTagOf self.now.table.items arrival.now flow }
+    {
+        match (self.table.get(flow.slot), arrival.chosen()) {
+            (Some(association), Some((Side::First, tag))) => {
+                association.end(flow.sender).has_tag(tag)
+            }
+            (Some(association), Some((Side::Second, tag))) => {
+                association.end(flow.sender.other()).has_tag(tag)
+            }
+            _ => false,
+        }
+    }
+
+    /// Returns whether a packet comes from an address of its sender, or goes to one of its
+    /// receiver.
+    fn is_between(&self, flow: Flow, arrival: &Arrival<'_, '_>) -> bool {
+        let Some(association) = self.table.get(flow.slot) else {
             return false;
         };
+        let (from, to) = (arrival.route.from.address, arrival.route.to.address);
+        association.end(flow.sender).may_have_address(from)
+            || association.end(flow.sender.other()).may_have_address(to)
+    }
+
+    /// Returns whose packet with an unknown tag it is.
+    fn without_tag(&self, arrival: &Arrival<'_, '_>) -> Option<Flow>
+        ensures { IfSome result (λ flow. Holds self.now.table.items flow.slot
+            (MayBeOf arrival.now flow.sender)) }
+    {
+        for sender in [Side::First, Side::Second] {
+            if let Some(flow) = self.keys.on_route(arrival.route, sender) {
+                if self.joins(arrival, flow) {
+                    return Some(flow);
+                }
+            }
+        }
+        let flow = self.keys.midway(arrival.route)?;
+        let association = self.table.get(flow.slot)?;
+        let is_known = association.end(flow.sender.other()).tag.is_some();
+        if is_known || !association.is_continued_by(flow.sender, arrival.first()?) {
+            return None;
+        }
+        Some(flow)
+    }
+
+    /// Returns whether a packet with an unknown tag is of the latest association on its route, in
+    /// which this end sends on it.
+    fn joins(&self, arrival: &Arrival<'_, '_>, flow: Flow) -> bool
+        ensures { OnTrue result (Holds self.now.table.items flow.slot
+            (MayBeOf arrival.now flow.sender)) }
+    {
+        let Some(association) = self.table.get(flow.slot) else {
+            return false;
+        };
+        let sender = flow.sender;
         let (from, to) = (association.end(sender), association.end(sender.other()));
         let is_initiated = !association.is_midway() && association.ended.is_none();
         if arrival.route.has_equal_ends() && !association.is_midway() {
@@ -222,16 +337,21 @@ impl Associations {
             return false;
         }
         // An INIT that is sent again may be answered by several tags.
-        let is_answer = arrival.chunk() == Some(COOKIE_ECHO)
+        let is_answer = arrival.begins_with(COOKIE_ECHO)
             && is_initiated
             && association.established.is_none();
         to.tag.is_none() || is_answer
     }
 
-    /// Returns the slot of the latest association on a route, in either direction.
-    fn latest(&self, route: Route) -> Option<usize> {
-        let there = self.keys.on_route(route, Side::First);
-        there.or(self.keys.on_route(route, Side::Second))
+    /// Returns whether a packet of this end, with a tag of neither end, begins no association: this
+    /// one lives, and its tag and one of the other end haven't answered one another.
+    fn is_beside(&self, flow: Flow, tag: u32) -> bool {
+        match self.table.get(flow.slot) {
+            Some(association) => {
+                association.ended.is_none() && association.answer_to(flow.sender, tag).is_none()
+            }
+            None => false,
+        }
     }
 
     /// Returns whether an association didn't end.
@@ -243,14 +363,14 @@ impl Associations {
     }
 
     /// Counts a packet beside an association.
-    fn note_beside(&mut self, slot: usize)
+    fn note_beside(&mut self, flow: Flow, arrival: &Arrival<'_, '_>)
         ensures unknown { self.new.unknown ≡ one_more self.old.unknown }
         ensures counted { counted self.old.table.items self.old.unknown < 2 ^ 64 - 1
             → counted self.new.table.items self.new.unknown
             ≡ counted self.old.table.items self.old.unknown + 1 }
     {
         increase(&mut self.unknown);
-        count_beside(&mut self.table, slot);
+        count_beside(&mut self.table, flow, arrival.answering_tag());
     }
 
     /// Counts a packet of an association.
@@ -328,12 +448,16 @@ impl Associations {
             → IfOk result (λ noted. counted self.new.table.items self.new.unknown
             + packets_left noted.left ≡ counted self.old.table.items self.old.unknown + 1) }
     {
-        let restart_of = self.restarted(arrival);
+        let (restart_of, answer) = (self.restarted(arrival), self.answer_to(arrival));
         self.begun = self.begun.saturating_add(1);
         let association = Box::new(self.alloc, begun_by(arrival, self.begun, restart_of))?;
         let (slot, left) = self.place(association)?;
-        self.keys.add_route(arrival.route, slot)?;
+        self.keys
+            .add_route(arrival.route, slot, !arrival.is_init())?;
         let sender = Side::First;
+        if let Some(tag) = answer {
+            self.learn(slot, sender, tag)?;
+        }
         let of = self.note(Flow { slot, sender }, arrival)?;
         Ok(Noted { of, left })
     }
@@ -344,12 +468,20 @@ impl Associations {
         if !arrival.is_init() || !arrival.route.is_exclusive() {
             return None;
         }
-        let association = self.table.get(self.latest(arrival.route)?)?;
+        let latest = self.keys.latest(arrival.route)?;
+        let association = self.table.get(latest.slot)?;
         let was_established = association.is_midway() || association.established.is_some();
         if association.ended.is_some() || !was_established {
             return None;
         }
         Some(association.number)
+    }
+
+    /// Returns the tag by which the tag of a packet was answered, beside another association.
+    fn answer_to(&self, arrival: &Arrival<'_, '_>) -> Option<u32> {
+        let latest = self.keys.latest(arrival.route)?;
+        let association = self.table.get(latest.slot)?;
+        association.answer_to(latest.sender, arrival.tag)
     }
 
     /// Puts an association without packets into the table. Returns its slot, and the one that left
@@ -400,6 +532,26 @@ impl Associations {
     }
 }
 
+/// Returns what is known of an association in the table, if there is one.
+fn known_in(table: &Vec<Box<Association>>, owner: Option<Flow>) -> Known
+    ensures { result ≡ known_of table.now.items owner }
+{
+    let Some(flow) = owner else {
+        return Known::NOTHING;
+    };
+    match table.get(flow.slot) {
+        Some(association) => {
+            let (first, second) = (&association.first.counts, &association.second.counts);
+            Known {
+                accepts_zero: association.end(flow.sender.other()).accepts_zero,
+                has_data: first.has_data() || second.has_data(),
+                has_idata: first.i_data_chunks > 0 || second.i_data_chunks > 0,
+            }
+        }
+        None => Known::NOTHING,
+    }
+}
+
 /// Returns an association that a packet begins, without packets.
 fn begun_by(arrival: &Arrival<'_, '_>, number: u64, restart_of: Option<u64>) -> Association
     ensures { packets_of result ≡ 0 }
@@ -423,6 +575,7 @@ fn begun_by(arrival: &Arrival<'_, '_>, number: u64, restart_of: Option<u64>) -> 
         ended: None,
         last: packet.nanoseconds,
         out_of_the_blue: 0,
+        stray: None,
     }
 }
 
@@ -489,13 +642,30 @@ fn count_of(
     })
 }
 
-/// Counts a packet beside the association in a slot, if there is one.
-fn count_beside(table: &mut Vec<Box<Association>>, slot: usize)
+/// Counts a packet of an end beside the association in a slot, if there is one, and its tag, if
+/// it is the receiver's.
+fn count_beside(table: &mut Vec<Box<Association>>, flow: Flow, tag: Option<u32>)
     ensures size { vec_len table.new ≡ vec_len table.old }
     ensures packets { packets_in table.new.items ≡ packets_in table.old.items }
 {
-    if let Some(association) = table.get_mut(slot) {
-        increase(&mut association.out_of_the_blue);
+    if let Some(association) = table.get_mut(flow.slot) {
+        association.note_beside(flow.sender, tag);
+    }
+}
+
+/// Counts an ICMP error that quotes a packet of an end of the association in a slot, if there is
+/// one.
+fn count_error(
+    table: &mut Vec<Box<Association>>,
+    flow: Flow,
+    number: PacketNumber,
+    error: &IcmpError<'_>,
+)
+    ensures size { vec_len table.new ≡ vec_len table.old }
+    ensures packets { packets_in table.new.items ≡ packets_in table.old.items }
+{
+    if let Some(association) = table.get_mut(flow.slot) {
+        association.note_error(flow.sender, number, error);
     }
 }
 

@@ -1,19 +1,21 @@
 //! AUTH in the packets of an association (RFC 4895).
 
-ghost use Rattle.std.specs.Prelude.{◌≡◌, ◌≤◌, ◌↔◌, ◌++◌, IsTrue, length};
+ghost use Rattle.std.specs.Prelude.{◌≤◌, ◌↔◌, ◌++◌, IsTrue, length, option_map};
+ghost use Rattle.dcsctp_borrowed.specs.Part.{part_of};
 ghost use Rattle.dcsctp_receive.specs.Auth.{IsAuthenticated};
 ghost use Rattle.dcsctp_receive.specs.SharedKey.{ComesFirst};
+ghost use Rattle.dump_analysis.specs.Authentication.{FirstAuth, IsFound, IsJudged, IsRightBy, IsVerdict, IsVerdictIn, key_for, tag_of, with_tag};
 
 use crate::chunk_type::AUTH;
 use crate::counts::{SeenPacket, increase};
-use crate::key_vector::{KeyVector, KeyVectors, MOST_VECTOR};
+use crate::key_vector::{KeyVector, MOST_VECTOR};
+use crate::key_vectors::KeyVectors;
 use crate::pair_key::{MOST_KEY, PairKey};
+use dcsctp_borrowed::part::{Items, Part};
 use dcsctp_receive::auth::{is_listed, verify};
 use dcsctp_receive::hmac::HashFunction;
 use dcsctp_receive::shared_key::write_shared_key;
-use dcsctp_tlv::frame::TLV_HEADER_SIZE;
-use dcsctp_wire::packet::read_u16_be;
-use dcsctp_wire::packet::sctp_packet::CommonHeader;
+use dcsctp_wire::packet::{read_u16_be, read_u32_be};
 
 /// Bytes of an AUTH chunk before its HMAC (RFC 4895 section 5.1).
 const AUTH_SIZE: usize = 8;
@@ -73,72 +75,113 @@ impl Authentication {
     }
 
     /// Returns what is found in a packet that an end with these key vectors sent to one with those.
-    pub fn of(
-        packet: &SeenPacket<'_>,
-        sender: &KeyVectors,
-        receiver: &KeyVectors,
-    ) -> Authentication {
-        let Some(header) = CommonHeader::from_bytes(packet.found.packet) else {
+    pub fn of(packet: &SeenPacket<'_>, sender: &KeyVectors, receiver: &KeyVectors) -> Authentication
+        ensures { 8 ≤ length packet.now.found.packet.now
+            → IsVerdictIn packet.now sender.now (with_tag (tag_of packet.now) receiver.now)
+            result.verdict }
+    {
+        if packet.found.packet.len() < 8 {
             return Authentication::NOTHING;
-        };
-        let theirs = receiver.with_tag(header.verification_tag);
-        let list = list_for(sender, theirs);
-        let mut found = Authentication::NOTHING;
-        for chunk in packet.chunks() {
-            if chunk.first == AUTH {
-                let offset = chunk.value.offset.saturating_sub(TLV_HEADER_SIZE);
-                found.verdict = Some(verdict(packet, offset, sender, theirs));
-                return found;
-            }
-            if found.unauthenticated.is_none() && is_listed(list, chunk.first) {
-                found.unauthenticated = Some(chunk.first);
-            }
         }
-        found
+        let theirs = receiver.with_tag(read_u32_be(&packet.found.packet[4..]));
+        Authentication {
+            verdict: verdict_in(packet, sender, theirs),
+            unauthenticated: first_listed(packet.chunks(), list_for(sender, theirs)),
+        }
     }
 }
 
 /// Returns the Chunk List that the sender has to keep to: that of the receiver, if both use AUTH.
 fn list_for<'a>(sender: &KeyVectors, theirs: Option<&'a KeyVector>) -> &'a [u8] {
     match theirs {
-        Some(theirs) if sender.last().is_some() => theirs.chunk_list(),
+        Some(theirs) if sender.last.is_some() => theirs.chunk_list(),
         _ => &[],
     }
 }
 
-/// Returns what is found of the AUTH chunk at an offset. It is right if it is under one of the
-/// sender's key vectors, and else wrong if they are all known.
-fn verdict(
+/// Returns the type of the first chunk that is in the list, of those before any AUTH chunk.
+fn first_listed(chunks: Items<'_>, list: &[u8]) -> Option<u8> {
+    for chunk in chunks {
+        if chunk.first == AUTH {
+            return None;
+        }
+        if is_listed(list, chunk.first) {
+            return Some(chunk.first);
+        }
+    }
+    None
+}
+
+/// Returns what begins with the first AUTH chunk.
+fn first_auth<'a>(chunks: Part<'a>) -> Option<Part<'a>>
+    ensures { FirstAuth (part_of chunks.entry) (option_map part_of result) }
+{
+    let mut rest = chunks;
+    while let Some(chunk) = rest.item() {
+        if chunk.first == AUTH {
+            return Some(rest);
+        }
+        rest = rest.after(chunk.padded);
+    }
+    None
+}
+
+/// Returns what is found of the first AUTH chunk, if there is one.
+fn verdict_in(
     packet: &SeenPacket<'_>,
-    offset: usize,
     sender: &KeyVectors,
     theirs: Option<&KeyVector>,
-) -> AuthVerdict {
-    let (Some(key), Some(theirs)) = (&packet.key, theirs) else {
-        return AuthVerdict::Unknown;
-    };
-    if packet.found.packet.len() < packet.found.length {
-        return AuthVerdict::Unknown;
+) -> Option<AuthVerdict>
+    ensures { IsVerdictIn packet.now sender.now (option_map (λ v. v.now) theirs.entry) result }
+{
+    match first_auth(packet.chunks().rest()) {
+        Some(auth) => Some(verdict(packet, auth.bytes, sender, theirs)),
+        None => None,
     }
-    let bytes = packet.found.packet.get(offset..).unwrap_or(&[]);
+}
+
+/// Returns what is found of the AUTH chunk with which these bytes begin, those up to the end of the
+/// packet.
+fn verdict(
+    packet: &SeenPacket<'_>,
+    bytes: &[u8],
+    sender: &KeyVectors,
+    theirs: Option<&KeyVector>,
+) -> AuthVerdict
+    ensures { IsVerdict (key_for packet.now) sender.now (option_map (λ v. v.now) theirs.entry)
+        bytes.now result }
+{
+    match (&packet.key, theirs) {
+        (Some(key), Some(theirs)) if packet.found.packet.len() >= packet.found.length => {
+            judge(key, sender, theirs, bytes)
+        }
+        _ => AuthVerdict::Unknown,
+    }
+}
+
+/// Returns what is found of the AUTH chunk at the front under this key. It is right if it is under
+/// one of the sender's key vectors, and else wrong if they are all known.
+fn judge(key: &PairKey, sender: &KeyVectors, theirs: &KeyVector, bytes: &[u8]) -> AuthVerdict
+    ensures { IsFound key.now sender.now theirs.now bytes.now result }
+{
     if !is_judged(key.identifier, bytes) {
         return AuthVerdict::Unknown;
     }
-    for own in &sender.kept {
-        if let Some(own) = own
-            && is_right(key.as_bytes(), own.as_bytes(), theirs.as_bytes(), bytes)
-        {
-            return AuthVerdict::Right;
-        }
+    if is_right_by(key, &sender.last, theirs, bytes)
+        || is_right_by(key, &sender.before, theirs, bytes)
+    {
+        return AuthVerdict::Right;
     }
-    if sender.has_others || sender.last().is_none() {
+    if sender.has_others || sender.last.is_none() {
         return AuthVerdict::Unknown;
     }
     AuthVerdict::Wrong
 }
 
 /// Returns whether the AUTH chunk at the front names this key, and the HMAC of SHA-1 or SHA-256.
-fn is_judged(key_identifier: u16, bytes: &[u8]) -> bool {
+fn is_judged(key_identifier: u16, bytes: &[u8]) -> bool
+    ensures { IsTrue result ↔ IsJudged key_identifier bytes.now }
+{
     if bytes.len() < AUTH_SIZE {
         return false;
     }
@@ -146,6 +189,17 @@ fn is_judged(key_identifier: u16, bytes: &[u8]) -> bool {
     read_u16_be(&bytes[4..]) == key_identifier
         && (hmac_identifier == HashFunction::Sha1.hmac_identifier()
             || hmac_identifier == HashFunction::Sha256.hmac_identifier())
+}
+
+/// Returns whether the AUTH chunk at the front is right under this key vector of its sender, if it
+/// is one.
+fn is_right_by(key: &PairKey, own: &Option<KeyVector>, theirs: &KeyVector, bytes: &[u8]) -> bool
+    ensures { IsTrue result ↔ IsRightBy key.now own.now theirs.now bytes.now }
+{
+    match own {
+        Some(own) => is_right(key.as_bytes(), own.as_bytes(), theirs.as_bytes(), bytes),
+        None => false,
+    }
 }
 
 /// Returns whether the HMAC of the AUTH chunk at the front is right under the association shared
@@ -162,7 +216,7 @@ fn is_right(pair_key: &[u8], one: &[u8], other: &[u8], bytes: &[u8]) -> bool
 {
     let mut buffer = [0; MOST_KEY + 2 * MOST_VECTOR];
     match write_shared_key(&mut buffer, pair_key, one, other) {
-        Some(size) => verify(&buffer[..size], bytes),
+        Some(size) => verify(&buffer[..size], bytes).is_right(),
         None => false,
     }
 }

@@ -1,7 +1,7 @@
 //! A channel: the messages of a stream from when it was opened until it was reset.
 
 ghost use Rattle.std.specs.Prelude.{◌≡◌, ◌<◌, ◌+◌, ◌-◌, ◌^◌, ◌↔◌, IsTrue};
-ghost use Rattle.dump_analysis.specs.Channels.{nothing_sent, CountsMessage, Adds, CountsOn, messages_of, bytes_of, succeeded_at, reset_of, IsFrom, IsOver, IsOf, IsNew};
+ghost use Rattle.dump_analysis.specs.Channels.{nothing_sent, CountsMessage, Adds, CountsOn, messages_of, bytes_of, succeeded_at, last_answer, reset_of, IsFrom, IsOver, IsOf, IsNew};
 
 use crate::association::Side;
 use crate::counts::increase;
@@ -12,6 +12,32 @@ use crate::moment::Moment;
 use crate::packet_number::PacketNumber;
 use dcsctp_borrowed::part::Part;
 use dcsctp_wire::packet::read_u16_be;
+
+/// When messages were sent.
+#[derive(Clone, Copy)]
+pub struct Span {
+    /// When the first of them was.
+    pub first: Moment,
+    /// When the last of them was.
+    pub last: Moment,
+}
+
+impl Span {
+    /// Returns that of these messages and a further one.
+    fn with(self, sent: Moment) -> Span {
+        let first = if comes_before(sent.packet, self.first.packet) {
+            sent
+        } else {
+            self.first
+        };
+        let last = if comes_before(sent.packet, self.last.packet) {
+            self.last
+        } else {
+            sent
+        };
+        Span { first, last }
+    }
+}
 
 /// What is counted of the messages that one end sent, up to 2^64 - 1 each.
 #[derive(Drop)]
@@ -26,6 +52,8 @@ pub struct Traffic {
     pub abandoned: u64,
     /// Messages that were neither acknowledged nor abandoned.
     pub unacknowledged: u64,
+    /// When they were sent; `None` if there is none.
+    pub span: Option<Span>,
     /// The delays of those that were acknowledged.
     pub delays: Delays,
 }
@@ -41,6 +69,7 @@ impl Traffic {
             repeated: 0,
             abandoned: 0,
             unacknowledged: 0,
+            span: None,
             delays: Delays::new(),
         }
     }
@@ -52,6 +81,13 @@ impl Traffic {
         increase(&mut self.messages);
         self.bytes = self.bytes.saturating_add(message.size);
         self.repeated = self.repeated.saturating_add(message.repeated);
+        self.span = match self.span {
+            Some(span) => Some(span.with(message.sent)),
+            None => Some(Span {
+                first: message.sent,
+                last: message.sent,
+            }),
+        };
         match message.fate {
             Fate::Acknowledged(moment) => {
                 if let Some(delay) = message.delay() {
@@ -61,6 +97,19 @@ impl Traffic {
             Fate::Abandoned { .. } => increase(&mut self.abandoned),
             Fate::Unacknowledged => increase(&mut self.unacknowledged),
         }
+    }
+
+    /// Returns how many bytes there are for each second from when the first message was sent to when
+    /// the last one was, rounded down; `None` if a time isn't known, or the one isn't after the
+    /// other.
+    pub fn bytes_per_second(&self) -> Option<u64> {
+        let span = self.span?;
+        let nanoseconds = span.last.since(span.first)?;
+        if nanoseconds == 0 {
+            return None;
+        }
+        let rate = u128::from(self.bytes) * 1_000_000_000 / u128::from(nanoseconds);
+        Some(rate.min(u128::from(u64::MAX)) as u64)
     }
 }
 
@@ -100,6 +149,9 @@ impl Tally {
     }
 }
 
+/// The result "In progress" (RFC 6525 section 4.4): a further response follows.
+const IN_PROGRESS: u32 = 6;
+
 /// The last request of one end to reset a stream (RFC 6525 section 4.1), and its response.
 #[derive(Clone, Copy)]
 pub struct Reset {
@@ -107,7 +159,8 @@ pub struct Reset {
     pub number: u32,
     /// The first packet that had it.
     pub packet: PacketNumber,
-    /// The result in the response to it (section 4.4), and the response's packet.
+    /// The result in the response to it (section 4.4), and the response's packet: of several ones
+    /// the first that isn't "In progress", or else the first.
     pub result: Option<(u32, PacketNumber)>,
 }
 
@@ -120,6 +173,19 @@ impl Reset {
             Some((0 | 1, packet)) => Some(packet),
             _ => None,
         }
+    }
+
+    /// Returns it with a further response. One that isn't "In progress" ends the request: those
+    /// after it are discarded (RFC 6525 section 5.2.7).
+    fn answered(self, code: u32, packet: PacketNumber) -> Reset
+        ensures { result ≡ record self { result = last_answer self.result code packet } }
+    {
+        let result = match self.result {
+            None => Some((code, packet)),
+            Some((IN_PROGRESS, _)) if code != IN_PROGRESS => Some((code, packet)),
+            first => first,
+        };
+        Reset { result, ..self }
     }
 }
 
@@ -142,7 +208,7 @@ pub enum News<'a> {
         /// Its packet.
         moment: Moment,
     },
-    /// An Outgoing SSN Reset Request asks for a reset.
+    /// An Outgoing SSN Reset Request asks for a reset, for the first time.
     Asked {
         /// Which end sent it.
         by: Side,
@@ -281,9 +347,7 @@ impl Channel {
                 streams,
                 packet,
             } => {
-                let known = self.reset(by);
-                let is_again = known.is_some_and(|known| known.number == number);
-                if !is_again && has(streams, self.stream) && !self.is_over(by, packet) {
+                if has(streams, self.stream) && !self.is_over(by, packet) {
                     let result = None;
                     let reset = Reset {
                         number,
@@ -300,9 +364,8 @@ impl Channel {
                 packet,
             } => {
                 if let Some(reset) = self.reset(to) {
-                    if reset.number == number && reset.performed().is_none() {
-                        let result = Some((code, packet));
-                        self.set_reset(to, Reset { result, ..reset });
+                    if reset.number == number {
+                        self.set_reset(to, reset.answered(code, packet));
                     }
                 }
             }

@@ -128,6 +128,15 @@ impl<'a> ChannelReport<'a> {
             " messages {messages}, bytes {bytes}, repeated {repeated}, abandoned {abandoned}"
         );
         write!(out, ", not acknowledged {unacknowledged}");
+        if let Some(span) = traffic.span {
+            out.say(", first");
+            self.write_moment(span.first, out);
+            out.say(", last");
+            self.write_moment(span.last, out);
+        }
+        if let Some(rate) = traffic.bytes_per_second() {
+            write!(out, ", {rate} bytes/s");
+        }
         let delays = &traffic.delays;
         if delays.count == 0 {
             return;
@@ -235,26 +244,26 @@ impl<'a> ChannelJson<'a> {
         out.pair("reliability", opened.reliability);
         out.pair("priority", opened.priority);
         out.pair("opened_by", index_of(opened.by));
-        write_time_key("opened", opened.sent.nanoseconds, self.0.style, out);
-        write_packet_keys(
-            ("opened_packet", "opened_file"),
-            Some(opened.sent.packet),
-            self.0.files,
-            out,
-        );
+        self.write_moment(opened.sent, "opened", ("opened_packet", "opened_file"), out);
         if opened.crossed.is_some() {
             out.pair("opened_by_both", true);
         }
-        let Some(moment) = opened.acknowledged else {
-            return;
-        };
-        write_time_key("acknowledged", moment.nanoseconds, self.0.style, out);
-        write_packet_keys(
-            ("acknowledged_packet", "acknowledged_file"),
-            Some(moment.packet),
-            self.0.files,
-            out,
-        )
+        if let Some(moment) = opened.acknowledged {
+            let packet_keys = ("acknowledged_packet", "acknowledged_file");
+            self.write_moment(moment, "acknowledged", packet_keys, out);
+        }
+    }
+
+    /// Writes a time, if it is known, and its packet.
+    fn write_moment(
+        &self,
+        moment: Moment,
+        key: &'static str,
+        packet_keys: (&'static str, &'static str),
+        out: &mut Text<'_>,
+    ) {
+        write_time_key(key, moment.nanoseconds, self.0.style, out);
+        write_packet_keys(packet_keys, Some(moment.packet), self.0.files, out)
     }
 
     /// Writes a request to reset the stream, and its result, up to the end of the object.
@@ -283,6 +292,13 @@ impl<'a> ChannelJson<'a> {
         out.pair("repeated", traffic.repeated);
         out.pair("abandoned", traffic.abandoned);
         out.pair("unacknowledged", traffic.unacknowledged);
+        if let Some(span) = traffic.span {
+            self.write_moment(span.first, "first", ("first_packet", "first_file"), out);
+            self.write_moment(span.last, "last", ("last_packet", "last_file"), out);
+        }
+        if let Some(rate) = traffic.bytes_per_second() {
+            out.pair("bytes_per_second", rate);
+        }
         if traffic.delays.count > 0 {
             self.write_delays(&traffic.delays, out);
         }

@@ -1,7 +1,8 @@
-//! The channels of an association, and those of all.
+//! The channels of an association.
 
-ghost use Rattle.std.specs.Prelude.{◌≡◌, ◌≤◌, ◌<◌, ◌+◌, ◌-◌, ◌^◌, ◌||◌, vec_len, Any, IfOk, OnOk, IfSome, IfNone, IsTrue};
+ghost use Rattle.std.specs.Prelude.{◌≡◌, ◌≤◌, ◌<◌, ◌+◌, ◌-◌, ◌^◌, ◌||◌, ◌↔◌, vec_len, Any, IfOk, OnOk, IfSome, IfNone, IsTrue};
 ghost use Rattle.dump_analysis.specs.Firsts.{IsFirst};
+ghost use Rattle.dump_analysis.specs.Questions.{HasKey, asked_by};
 ghost use Rattle.dump_analysis.specs.Channels.{messages_on, messages_seen, bytes_on, bytes_seen, AreAlike, IsOf, Adds, CountsAt, AddsToFirst, AddsToNew};
 
 use crate::association::Side;
@@ -9,10 +10,10 @@ use crate::channel::{Channel, News, Tally};
 use crate::chunk_type::RE_CONFIG;
 use crate::counts::SeenPacket;
 use crate::data_channel::{Establishment, Opened};
-use crate::membership::Membership;
 use crate::message::Message;
 use crate::moment::Moment;
 use crate::packet_number::PacketNumber;
+use crate::unanswered::Unanswered;
 use dcsctp_borrowed::part::{Item, Part};
 use dcsctp_wire::packet::outgoing_ssn_reset_request_parameter::{
     OutgoingSsnResetRequestNumbers, PARAMETER_TYPE as OUTGOING_SSN_RESET,
@@ -22,13 +23,9 @@ use dcsctp_wire::packet::reconfiguration_response_parameter::{
     PARAMETER_TYPE as RESPONSE, ReconfigurationResponseNumbers,
 };
 use std::alloc::{AllocError, Global};
-use std::collections::HashMap;
 
 /// How many channels of an association are kept.
 const MOST: usize = 1_024;
-
-/// How many channels of all associations are kept.
-const MOST_OF_ALL: usize = 16_384;
 
 /// The channels of an association, in the order in which they were opened, or, where that wasn't
 /// seen, a message of them was over.
@@ -42,6 +39,9 @@ pub struct Channels {
     pub others: Tally,
     /// Whether a filter passes a packet with a fragment of one of these messages.
     pub others_pass: bool,
+    // the last 8 requests of each end to reset what it sends
+    first_asked: Unanswered,
+    second_asked: Unanswered,
     ghost bounded: { vec_len list ≤ 1024 },
 }
 
@@ -56,12 +56,19 @@ impl Channels {
             list: Vec::new(alloc),
             others: Tally::new(),
             others_pass: false,
+            first_asked: Unanswered::new(),
+            second_asked: Unanswered::new(),
         }
     }
 
     /// Notes a packet that an end sent: which channels are opened, acknowledged and reset. There
     /// is room for this many more of all associations.
-    fn see(&mut self, sender: Side, packet: &SeenPacket<'_>, room: usize) -> Result<(), AllocError>
+    pub(crate) fn see(
+        &mut self,
+        sender: Side,
+        packet: &SeenPacket<'_>,
+        room: usize,
+    ) -> Result<(), AllocError>
         ensures others { self.new.others ≡ self.old.others }
         ensures counts { AreAlike self.old.list.items self.new.list.items }
     {
@@ -84,7 +91,9 @@ impl Channels {
         ensures counts { AreAlike self.old.list.items self.new.list.items }
     {
         if chunk.first == RE_CONFIG {
-            note_requests(&mut self.list, sender, moment.packet, chunk.value);
+            for parameter in chunk.value.items() {
+                self.note_parameter(sender, moment.packet, parameter);
+            }
             return Ok(());
         }
         match Establishment::of(sender, moment, chunk) {
@@ -98,9 +107,51 @@ impl Channels {
         }
     }
 
+    /// Notes a parameter of a RE-CONFIG that an end sent, unless it is a request that was sent again.
+    fn note_parameter(&mut self, sender: Side, packet: PacketNumber, parameter: Item<'_>)
+        ensures others { self.new.others ≡ self.old.others }
+        ensures counts { AreAlike self.old.list.items self.new.list.items }
+    {
+        if let Some(news) = news_of(parameter, sender, packet) {
+            if self.is_new(news) {
+                notify(&mut self.list, news);
+            }
+        }
+    }
+
+    /// Returns whether this isn't a request that was sent again.
+    fn is_new(&mut self, news: News<'_>) -> bool
+        ensures list { self.new.list ≡ self.old.list }
+        ensures others { self.new.others ≡ self.old.others }
+    {
+        match news {
+            News::Asked {
+                by,
+                number,
+                packet,
+                ..
+            } => self.asks(by, number, packet),
+            _ => true,
+        }
+    }
+
+    /// Notes the number of a request to reset streams, which identifies it (RFC 6525 section 4.1).
+    /// Returns whether none of the 8 that the end sent before has it.
+    fn asks(&mut self, by: Side, number: u32, packet: PacketNumber) -> bool
+        ensures list { self.new.list ≡ self.old.list }
+        ensures others { self.new.others ≡ self.old.others }
+        ensures new { IsTrue result
+            ↔ ¬ (Any (HasKey number) (asked_by by self.old.first_asked self.old.second_asked)) }
+    {
+        match by {
+            Side::First => self.first_asked.ask_once(u64::from(number), packet),
+            Side::Second => self.second_asked.ask_once(u64::from(number), packet),
+        }
+    }
+
     /// Counts a message that is over, once: of its channel, which is put into the list if it is new
     /// and there is room, or of others.
-    fn add(&mut self, message: &Message, has_room: bool) -> Result<(), AllocError>
+    pub(crate) fn add(&mut self, message: &Message, has_room: bool) -> Result<(), AllocError>
         ensures messages { messages_seen self.old.list.items self.old.others < 2 ^ 64 - 1
             → IfOk result (λ _. messages_seen self.new.list.items self.new.others
             ≡ messages_seen self.old.list.items self.old.others + 1) }
@@ -202,18 +253,6 @@ fn is_known_at(list: &mut Vec<Channel>, place: usize, stream: u16, opened: &Open
     }
 }
 
-/// Notes the requests and responses in the value of a RE-CONFIG that an end sent.
-fn note_requests(list: &mut Vec<Channel>, sender: Side, packet: PacketNumber, value: Part<'_>)
-    ensures size { vec_len list.new ≡ vec_len list.old }
-    ensures counts { AreAlike list.old.items list.new.items }
-{
-    for parameter in value.items() {
-        if let Some(news) = news_of(parameter, sender, packet) {
-            notify(list, news);
-        }
-    }
-}
-
 /// Returns what a parameter of a RE-CONFIG says of channels, if it does.
 fn news_of(parameter: Item<'_>, sender: Side, packet: PacketNumber) -> Option<News<'_>> {
     let bytes = parameter.value.bytes;
@@ -255,80 +294,5 @@ fn notify_at(list: &mut Vec<Channel>, place: usize, news: News<'_>)
 {
     if let Some(channel) = list.get_mut(place) {
         channel.note(news);
-    }
-}
-
-/// The channels of associations, in bounded memory: of each the first 1,024, and 16,384 of all.
-///
-/// An association that leaves its table is to be taken from here too.
-#[derive(Drop)]
-pub struct ChannelTable {
-    alloc: Global,
-    by_number: HashMap<u64, Box<Channels>>,
-    // how many channels are kept
-    count: usize,
-}
-
-impl ChannelTable {
-    /// Returns a table without associations.
-    pub fn new(alloc: Global) -> ChannelTable {
-        ChannelTable {
-            alloc,
-            by_number: HashMap::new(alloc),
-            count: 0,
-        }
-    }
-
-    /// Notes a packet of an association.
-    pub fn see(&mut self, of: Membership, packet: &SeenPacket<'_>) -> Result<(), AllocError> {
-        let room = self.begin(of.association)?;
-        let Some(channels) = self.by_number.get_mut(&of.association) else {
-            return Ok(());
-        };
-        let before = channels.list.len();
-        channels.see(of.sender, packet, room)?;
-        let more = channels.list.len().saturating_sub(before);
-        self.count = self.count.saturating_add(more);
-        Ok(())
-    }
-
-    /// Counts a message that is over.
-    pub fn add(&mut self, message: &Message) -> Result<(), AllocError> {
-        let room = self.begin(message.association)?;
-        let Some(channels) = self.by_number.get_mut(&message.association) else {
-            return Ok(());
-        };
-        let before = channels.list.len();
-        channels.add(message, room > 0)?;
-        let more = channels.list.len().saturating_sub(before);
-        self.count = self.count.saturating_add(more);
-        Ok(())
-    }
-
-    /// Begins an association, if it is new. Returns for how many channels there is room.
-    fn begin(&mut self, association: u64) -> Result<usize, AllocError> {
-        if self.by_number.get(&association).is_none() {
-            let channels = Channels::new(self.alloc, association);
-            self.by_number
-                .insert(association, Box::new(self.alloc, channels)?)?;
-        }
-        Ok(MOST_OF_ALL.saturating_sub(self.count))
-    }
-
-    /// Takes the channels of the association with this number, if one of its packets was seen.
-    pub fn take(&mut self, association: u64) -> Option<Box<Channels>> {
-        let channels = self.by_number.remove(&association)?;
-        self.count = self.count.saturating_sub(channels.list.len());
-        Some(channels)
-    }
-
-    /// Returns those of all associations, in the order of their numbers.
-    pub fn into_vec(self) -> Result<Vec<Box<Channels>>, AllocError> {
-        let mut all = Vec::new(self.alloc);
-        for channels in self.by_number.into_values() {
-            all.push(channels)?;
-        }
-        all.sort_unstable_by_key(|channels| channels.association);
-        Ok(all)
     }
 }

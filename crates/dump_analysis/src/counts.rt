@@ -1,6 +1,6 @@
 //! What is counted of the packets that one end of an association sent.
 
-ghost use Rattle.std.specs.Prelude.{◌≡◌};
+ghost use Rattle.std.specs.Prelude.{◌≡◌, nat_lt};
 ghost use Rattle.dcsctp_borrowed.specs.Part.{item_of, part_of};
 ghost use Rattle.dump_capture.specs.Number.{one_more};
 ghost use Rattle.dump_analysis.specs.Paths.{AreAddresses};
@@ -151,7 +151,9 @@ impl Counts {
     }
 
     /// Returns whether there was DATA, beside I-DATA.
-    pub fn has_data(&self) -> bool {
+    pub fn has_data(&self) -> bool
+        ensures { result ≡ nat_lt self.now.i_data_chunks self.now.data_chunks }
+    {
         self.data_chunks > self.i_data_chunks
     }
 

@@ -1,6 +1,6 @@
 //! The messages that open a data channel (RFC 8832 section 5).
 
-ghost use Rattle.std.specs.Prelude.{◌≤◌, length};
+ghost use Rattle.std.specs.Prelude.{◌≡◌, ◌≤◌, ◌+◌, ◌%◌, length, IfSome, OnSome};
 ghost use Rattle.dump_analysis.specs.declared.data_channel.TheConstants.{MOST_TEXT};
 
 use crate::association::Side;
@@ -126,8 +126,11 @@ struct Open<'a> {
 }
 
 impl<'a> Open<'a> {
-    /// Returns the one that a message is, if it is one.
-    fn of(message: &'a [u8]) -> Option<Open<'a>> {
+    /// Returns the one that a message is, if it is one: nothing follows what it says.
+    fn of(message: &'a [u8]) -> Option<Open<'a>>
+        ensures { IfSome result (λ o. length message.now
+            ≡ OPEN_SIZE + length o.label.now + length o.protocol.now) }
+    {
         if message.len() < OPEN_SIZE || message[0] != OPEN {
             return None;
         }
@@ -149,7 +152,9 @@ impl<'a> Open<'a> {
 
 /// Returns the message of DCEP that a chunk holds all of, and the chunk's numbers; `None` for other
 /// chunks.
-fn message_in<'a>(chunk: Item<'a>) -> Option<(Numbers, &'a [u8])> {
+fn message_in<'a>(chunk: Item<'a>) -> Option<(Numbers, &'a [u8])>
+    ensures { OnSome result (chunk.entry.second % 4 ≡ 3) }
+{
     let numbers = Numbers::of(chunk)?;
     // with the bits B and E
     if chunk.second % 4 != 3 || numbers.ppid != Some(DCEP) {

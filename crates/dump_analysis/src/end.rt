@@ -1,6 +1,7 @@
 //! One end of an association.
 
-ghost use Rattle.std.specs.Prelude.{◌≡◌};
+ghost use Rattle.std.specs.Prelude.{◌≡◌, ◌↔◌, IsTrue};
+ghost use Rattle.dump_analysis.specs.Attribution.{HasTag};
 ghost use Rattle.dump_analysis.specs.Counts.{nothing};
 ghost use Rattle.dump_analysis.specs.Tsns.{Follows};
 
@@ -12,13 +13,14 @@ use crate::chunk_type::{
     RE_CONFIG, SACK,
 };
 use crate::counts::{Counts, SeenPacket};
+use crate::icmp_errors::IcmpErrors;
 use crate::initiation::accepts_zero;
-use crate::key_vector::KeyVectors;
+use crate::key_vectors::KeyVectors;
 use crate::packet_number::PacketNumber;
 use crate::requests::Requests;
 use crate::round_trips::RoundTrips;
 use crate::serial::is_after;
-use crate::tsns::{Step, Tsns};
+use crate::tsns::{Step, Tsns, WINDOW};
 use crate::unanswered::{Unanswered, digest};
 use dcsctp_borrowed::part::Item;
 use dcsctp_wire::packet::read_u32_be;
@@ -98,6 +100,8 @@ pub struct End {
     pub opened: Option<PacketNumber>,
     /// Its HEARTBEATs that weren't answered.
     pub heartbeats: Unanswered,
+    /// The ICMP errors that quote what it sent.
+    pub icmp_errors: IcmpErrors,
     /// Its requests to reconfigure streams.
     pub requests: Requests,
     /// The round trips of its DATA.
@@ -138,6 +142,7 @@ impl End {
             closed: None,
             opened: None,
             heartbeats: Unanswered::new(),
+            icmp_errors: IcmpErrors::new(),
             requests: Requests::new(),
             round_trips: RoundTrips::new(),
         }
@@ -157,6 +162,51 @@ impl End {
             return Learned::Known;
         }
         Learned::New { forgotten }
+    }
+
+    /// Returns whether packets to it carry a tag.
+    pub fn has_tag(&self, tag: u32) -> bool
+        ensures { IsTrue result ↔ HasTag tag self.now }
+    {
+        self.tag == Some(tag) || self.other_tag == Some(tag)
+    }
+
+    /// Returns whether an address may be one of it: one that it used or announced; any if it isn't
+    /// known, or the end has more than are kept.
+    pub fn may_have_address(&self, address: Option<IpAddr>) -> bool {
+        let Some(address) = address else {
+            return true;
+        };
+        self.has_more_addresses
+            || self.addresses.contains(&Some(address))
+            || self.announced.may_have_address(address)
+    }
+
+    /// Returns whether a chunk of the other end answers what it sent: it acknowledges one of the
+    /// last 2,048 TSNs, or has what a HEARTBEAT had that wasn't answered.
+    pub fn is_answered_by(&self, chunk: Item<'_>) -> bool {
+        if chunk.first == HEARTBEAT_ACK {
+            return self.heartbeats.awaits(digest(chunk.value.bytes));
+        }
+        match (Acknowledgement::of(chunk), self.tsns.span()) {
+            (Some(acknowledged), Some((_, last))) => {
+                last.wrapping_sub(acknowledged.cumulative) < WINDOW
+            }
+            _ => false,
+        }
+    }
+
+    /// Returns whether a chunk is DATA that follows what the other end acknowledged of it: one of
+    /// the next 2,048 TSNs.
+    pub fn goes_on_with(&self, chunk: Item<'_>) -> bool {
+        let value = chunk.value.bytes;
+        match (chunk.first, self.acknowledged) {
+            (DATA | I_DATA, Some(acknowledged)) if value.len() >= 4 => {
+                let ahead = read_u32_be(value).wrapping_sub(acknowledged.tsn);
+                ahead != 0 && ahead <= WINDOW
+            }
+            _ => false,
+        }
     }
 
     /// Notes an address.

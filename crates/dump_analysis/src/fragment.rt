@@ -1,14 +1,19 @@
 //! The fragments of user messages: the DATA and I-DATA that one end sent.
 
-ghost use Rattle.std.specs.Prelude.{◌≡◌};
+ghost use Rattle.std.specs.Prelude.{◌≡◌, ◌≤◌, ◌↔◌, true, length, IfSome, IsSome};
+ghost use Rattle.dcsctp_tlv.specs.Number.{number32};
+ghost use Rattle.dump_analysis.specs.Payloads.{has_user_data, header_size};
 ghost use Rattle.dump_analysis.specs.Messages.{is_whole};
 
-use crate::chunk_type::{DATA, I_DATA};
+use crate::chunk_type::{DATA, I_DATA, I_FORWARD_TSN};
 use crate::counts::SeenPacket;
 use crate::end::Closed;
+use crate::message::Fate;
 use crate::moment::Moment;
 use crate::packet_number::PacketNumber;
+use crate::serial::is_after;
 use crate::unanswered::digest;
+use crate::wait::Wait;
 use dcsctp_borrowed::part::Item;
 use dcsctp_wire::packet::data_chunk::DataNumbers;
 use dcsctp_wire::packet::idata_chunk::IDataNumbers;
@@ -28,6 +33,52 @@ pub struct MessageKey {
     pub number: u32,
 }
 
+impl MessageKey {
+    /// Returns the last message of a stream that a FORWARD-TSN (RFC 3758 section 3.2) or an
+    /// I-FORWARD-TSN (RFC 8260 section 2.3.1) skips, from its value and the stream's index in that;
+    /// `None` where there is none.
+    pub fn skipped(chunk: u8, value: &[u8], index: usize) -> Option<MessageKey> {
+        let is_i_data = chunk == I_FORWARD_TSN;
+        let size = if is_i_data { 8 } else { 4 };
+        let bytes = value.get(index.saturating_mul(size).saturating_add(4)..)?;
+        if bytes.len() < 4 || is_i_data && bytes.len() < 8 {
+            return None;
+        }
+        Some(MessageKey {
+            is_i_data,
+            stream: read_u16_be(bytes),
+            is_unordered: is_i_data && bytes[3] % 2 == 1,
+            number: if is_i_data {
+                read_u32_be(&bytes[4..])
+            } else {
+                u32::from(read_u16_be(&bytes[2..]))
+            },
+        })
+    }
+
+    /// Returns whether a message is of the same stream, and as ordered.
+    pub fn is_of_stream(&self, other: &MessageKey) -> bool {
+        self.is_i_data == other.is_i_data
+            && self.stream == other.stream
+            && self.is_unordered == other.is_unordered
+    }
+
+    /// Returns whether it comes after another message of its stream.
+    pub fn comes_after(&self, other: &MessageKey) -> bool {
+        let scale = if self.is_i_data { 1 } else { 65_536 };
+        is_after(
+            self.number.wrapping_mul(scale),
+            other.number.wrapping_mul(scale),
+        )
+    }
+
+    /// Returns the number of the message after it: an SSN has 16 bits.
+    pub fn next(&self) -> u32 {
+        let next = self.number.wrapping_add(1);
+        if self.is_i_data { next } else { next % 65_536 }
+    }
+}
+
 /// The numbers of a DATA or an I-DATA.
 #[derive(Clone, Copy)]
 pub struct Numbers {
@@ -45,7 +96,12 @@ pub struct Numbers {
 
 impl Numbers {
     /// Returns those of a chunk; `None` where it has none, or they weren't captured.
-    pub fn of(chunk: Item<'_>) -> Option<Numbers> {
+    pub fn of(chunk: Item<'_>) -> Option<Numbers>
+        ensures some { IsSome result ↔ ((has_user_data chunk.entry.first ≡ true)
+            × (header_size chunk.entry.first ≤ length chunk.entry.value.bytes.now)) }
+        ensures tsn { IfSome result (λ n. n.tsn ≡ number32 chunk.entry.value.bytes.now) }
+        ensures header { IfSome result (λ n. n.header ≡ header_size chunk.entry.first) }
+    {
         let value = chunk.value.bytes;
         match chunk.first {
             DATA if value.len() >= DataNumbers::SIZE => {
@@ -104,6 +160,10 @@ pub struct Fragment {
     pub repeated_after: Option<u64>,
     /// Whether it was sent again with other bytes, or as another fragment.
     pub is_changed: bool,
+    /// That it was seen first after a later TSN.
+    pub late: Option<Late>,
+    /// For what its message waited, had that all been seen but this.
+    pub wait: Option<Wait>,
     /// When its receiver had no room while it was outstanding.
     pub closed: Option<Closed>,
     /// Whether a filter passes a packet that has it.
@@ -112,8 +172,21 @@ pub struct Fragment {
     pub is_acknowledged: bool,
     /// Whether it was acknowledged by the chunk that is looked at.
     pub is_fresh: bool,
+    /// What became of its message, if nothing of that is seen after it.
+    pub passed: Option<Fate>,
     /// Whether its message ended.
     pub is_over: bool,
+}
+
+/// A TSN that was seen first after a later one.
+#[derive(Clone, Copy)]
+pub struct Late {
+    /// The TSN.
+    pub tsn: u32,
+    /// The later one, of several that which was seen first.
+    pub behind: u32,
+    /// How long after that, in nanoseconds, if that is known.
+    pub after: Option<u64>,
 }
 
 impl Fragment {
@@ -140,10 +213,13 @@ impl Fragment {
             repeated: 0,
             repeated_after: None,
             is_changed: false,
+            late: None,
+            wait: None,
             closed: None,
             passes: packet.passes,
             is_acknowledged: false,
             is_fresh: false,
+            passed: None,
             is_over: false,
         })
     }
@@ -174,6 +250,16 @@ impl Fragment {
             first,
             last: packet,
         });
+    }
+
+    /// Returns the TSN that has to be passed until its message is, if nothing of that is seen after
+    /// it: of DATA that doesn't end its message the next one is another fragment.
+    pub fn last_tsn(&self) -> u32 {
+        if self.is_end || self.key.is_i_data {
+            self.tsn
+        } else {
+            self.tsn.wrapping_add(1)
+        }
     }
 
     /// Returns whether this fragment of those that `leads_to` joins is of the same message as

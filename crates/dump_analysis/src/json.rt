@@ -6,6 +6,7 @@ use crate::authentication_text::AuthenticationCountsJson;
 use crate::counts::Counts;
 use crate::delays::Delays;
 use crate::end::End;
+use crate::icmp_errors::IcmpErrors;
 use crate::moment::Moment;
 use crate::packet_number::{PacketNumber, file_of, write_packet_keys};
 use crate::path::Path;
@@ -120,6 +121,7 @@ impl<'a> AssociationJson<'a> {
         self.write_skipped(end, out);
         self.write_sacks(end, out);
         self.write_heartbeats(end, out);
+        self.write_icmp_errors(&end.icmp_errors, out);
         self.write_requests(end, out);
         write_stale_cookies(end, out);
         if end.authentication.are_some() {
@@ -307,6 +309,22 @@ impl<'a> AssociationJson<'a> {
         self.write_packet("last_unanswered", "last_unanswered_file", packet, out)
     }
 
+    /// Writes the ICMP errors that quote what an end sent, if there are some.
+    fn write_icmp_errors(&self, errors: &IcmpErrors, out: &mut Text<'_>) {
+        let Some(last) = errors.last else {
+            return;
+        };
+        out.pair("icmp_errors", errors.count);
+        out.pair("last_icmp_type", last.kind);
+        out.pair("last_icmp_code", last.code);
+        self.write_packet("last_icmp_packet", "last_icmp_file", Some(last.packet), out);
+        if let Some(least) = errors.least_mtu {
+            out.pair("least_mtu", least.mtu);
+            let packet = Some(least.packet);
+            self.write_packet("least_mtu_packet", "least_mtu_file", packet, out);
+        }
+    }
+
     /// Writes the requests of an end.
     fn write_requests(&self, end: &End, out: &mut Text<'_>) {
         out.pair("requests", end.requests.count);
@@ -411,7 +429,7 @@ fn write_chunk(typ: u8, out: &mut Text<'_>) {
 
 /// Writes the chunk types that an end listed, if it listed some.
 fn write_chunk_list(end: &End, out: &mut Text<'_>) {
-    let Some(vector) = end.vectors.last() else {
+    let Some(vector) = &end.vectors.last else {
         return;
     };
     let mut separator = ",\"chunk_list\":[";

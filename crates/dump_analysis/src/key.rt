@@ -1,6 +1,7 @@
 //! By what it is known which association a packet belongs to.
 
 ghost use Rattle.std.specs.Prelude.{◌≡◌, ◌↔◌, IsTrue};
+ghost use Rattle.dump_analysis.specs.Attribution.{begins_with, is_reflected, IsRead, IsChosen};
 ghost use Rattle.dump_analysis.specs.Routes.{origins_of, back_of, IsExclusive, flow_of};
 
 use crate::association::Side;
@@ -12,10 +13,6 @@ use dcsctp_borrowed::part::Item;
 use dcsctp_wire::packet::sctp_packet::CommonHeader;
 use dump_capture::line::Direction;
 use std::net::IpAddr;
-
-/// The bit T of an ABORT's and a SHUTDOWN COMPLETE's flags (RFC 9260 section 8.5.1): the tag is the
-/// sender's own.
-const REFLECTED: u8 = 1;
 
 /// Which end of a log an end is.
 #[derive(Clone, Copy, PartialEq, Eq, Hash)]
@@ -138,7 +135,9 @@ pub struct Arrival<'a, 'p> {
 impl<'a, 'p> Arrival<'a, 'p> {
     /// Returns by what it is known which association a packet belongs to; `None` if its common
     /// header wasn't captured.
-    pub fn of(packet: &'p SeenPacket<'a>, names: &TransportNames) -> Option<Arrival<'a, 'p>> {
+    pub fn of(packet: &'p SeenPacket<'a>, names: &TransportNames) -> Option<Arrival<'a, 'p>>
+        ensures { IsRead packet.now result }
+    {
         let header = CommonHeader::from_bytes(packet.found.packet)?;
         let (source, destination) = packet.addresses();
         let (sender, receiver) = Origin::of(packet.direction);
@@ -164,23 +163,42 @@ impl<'a, 'p> Arrival<'a, 'p> {
         })
     }
 
+    /// Returns the first chunk.
+    pub fn first(&self) -> Option<Item<'a>> {
+        self.first
+    }
+
     /// Returns the type of the first chunk.
     pub fn chunk(&self) -> Option<u8> {
         let first = self.first?;
         Some(first.first)
     }
 
-    /// Returns whether it begins with an INIT.
-    pub fn is_init(&self) -> bool {
-        self.chunk() == Some(INIT)
+    /// Returns whether its first chunk is of a type.
+    pub fn begins_with(&self, typ: u8) -> bool
+        ensures { result ≡ begins_with typ self.now.first }
+    {
+        match self.first {
+            Some(chunk) => chunk.first == typ,
+            None => false,
+        }
     }
 
-    /// Returns whether the tag is the sender's own.
-    pub fn is_reflected(&self) -> bool {
+    /// Returns whether it begins with an INIT.
+    pub fn is_init(&self) -> bool
+        ensures { result ≡ begins_with 1 self.now.first }
+    {
+        self.begins_with(INIT)
+    }
+
+    /// Returns whether the tag is the sender's own: the lowest bit of the flags is set, T (RFC 9260
+    /// section 8.5.1).
+    pub fn is_reflected(&self) -> bool
+        ensures { result ≡ is_reflected self.now.first }
+    {
         match self.first {
             Some(chunk) => {
-                (chunk.first == ABORT || chunk.first == SHUTDOWN_COMPLETE)
-                    && chunk.second & REFLECTED != 0
+                (chunk.first == ABORT || chunk.first == SHUTDOWN_COMPLETE) && chunk.second % 2 == 1
             }
             None => false,
         }
@@ -196,15 +214,26 @@ impl<'a, 'p> Arrival<'a, 'p> {
         }
     }
 
-    /// Returns the tag of the sender, if the packet is known by it: an INIT, or one whose tag is
-    /// the sender's own.
-    pub fn sender_tag(&self) -> Option<u32> {
+    /// Returns the tag by which the packet is known, and which end of its route chose it: the
+    /// receiver, or of an INIT and of a packet whose tag is the sender's own, the sender. `None` of
+    /// an INIT whose Initiate Tag isn't known.
+    pub fn chosen(&self) -> Option<(Side, u32)>
+        ensures { IsChosen self.now result }
+    {
         if self.is_init() {
-            self.initiate_tag()
-        } else if self.is_reflected() {
-            Some(self.tag)
-        } else {
-            None
+            return Some((Side::First, self.initiate_tag()?));
+        }
+        if self.is_reflected() {
+            return Some((Side::First, self.tag));
+        }
+        Some((Side::Second, self.tag))
+    }
+
+    /// Returns the receiver's tag, if the packet has it.
+    pub fn answering_tag(&self) -> Option<u32> {
+        match self.chosen() {
+            Some((Side::Second, tag)) if tag != 0 => Some(tag),
+            _ => None,
         }
     }
 }

@@ -1,6 +1,6 @@
-//! The key vectors of an end (RFC 4895 section 6.1).
+//! A key vector (RFC 4895 section 6.1).
 
-ghost use Rattle.std.specs.Prelude.{◌≤◌, length};
+ghost use Rattle.std.specs.Prelude.{◌≡◌, ◌≤◌, length, take};
 ghost use Rattle.dump_analysis.specs.declared.key_vector.TheConstants.{MOST_VECTOR};
 
 use crate::initiation::initiate_tag;
@@ -18,7 +18,7 @@ pub const MOST_VECTOR: usize = 320;
 #[derive(Clone, Copy)]
 pub struct KeyVector {
     /// The Initiate Tag beside them.
-    tag: u32,
+    pub tag: u32,
     bytes: [u8; MOST_VECTOR],
     size: usize,
     // where in it the types of the Chunk List begin and end
@@ -30,7 +30,7 @@ impl KeyVector {
     /// Returns the key vector of the value of an INIT or an INIT ACK; `None` where not all of it
     /// was captured, the parameters aren't there that an end sends which uses AUTH, or it is longer
     /// than 320 bytes.
-    fn of(value: Part<'_>) -> Option<KeyVector> {
+    pub fn of(value: Part<'_>) -> Option<KeyVector> {
         let tag = initiate_tag(value)?;
         if !value.is_whole() {
             return None;
@@ -67,7 +67,8 @@ impl KeyVector {
 
     /// Returns its bytes.
     pub fn as_bytes(&self) -> &[u8]
-        ensures { length result.now ≤ MOST_VECTOR }
+        ensures bounded { length result.now ≤ MOST_VECTOR }
+        ensures bytes { result.now ≡ take self.now.size self.now.bytes }
     {
         &self.bytes[..self.size]
     }
@@ -86,72 +87,4 @@ fn parameter<'a>(parameters: Part<'a>, code: u16) -> Option<&'a [u8]> {
         }
     }
     None
-}
-
-/// How many key vectors of an end are kept.
-const MOST: usize = 2;
-
-/// The key vectors of an end: those of the INITs and INIT ACKs that it sent, the last two of them
-/// that differ, since an INIT that is sent again may be answered by another INIT ACK.
-#[derive(Clone, Copy)]
-pub struct KeyVectors {
-    /// Those that are kept, the last one first.
-    pub kept: [Option<KeyVector>; MOST],
-    /// Whether an INIT or an INIT ACK was seen whose key vector isn't kept: others followed, or it
-    /// has none.
-    pub has_others: bool,
-}
-
-impl KeyVectors {
-    /// Returns those of an end that sent none.
-    pub fn new() -> KeyVectors {
-        KeyVectors {
-            kept: [None; MOST],
-            has_others: false,
-        }
-    }
-
-    /// Notes the value of an INIT or an INIT ACK that the end sent.
-    pub fn note_sent(&mut self, value: Part<'_>) {
-        let Some(vector) = KeyVector::of(value) else {
-            self.has_others = true;
-            return;
-        };
-        if self.has(&vector) {
-            return;
-        }
-        self.has_others |= self.kept[1].is_some();
-        self.kept[1] = self.kept[0];
-        self.kept[0] = Some(vector);
-    }
-
-    /// Returns whether a key vector is kept, with the same tag beside it.
-    fn has(&self, vector: &KeyVector) -> bool {
-        for known in &self.kept {
-            if let Some(known) = known
-                && known.tag == vector.tag
-                && known.as_bytes() == vector.as_bytes()
-            {
-                return true;
-            }
-        }
-        false
-    }
-
-    /// Returns the last one with this Initiate Tag beside it.
-    pub fn with_tag(&self, tag: u32) -> Option<&KeyVector> {
-        for known in &self.kept {
-            if let Some(known) = known
-                && known.tag == tag
-            {
-                return Some(known);
-            }
-        }
-        None
-    }
-
-    /// Returns the last one.
-    pub fn last(&self) -> Option<&KeyVector> {
-        self.kept[0].as_ref()
-    }
 }

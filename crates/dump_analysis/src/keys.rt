@@ -1,5 +1,12 @@
 //! Which association has which key.
 
+ghost use Rattle.std.specs.Prelude.{◌≡◌};
+ghost use Rattle.std.specs.HashMap.{get};
+ghost use Rattle.dump_analysis.specs.Attribution.{IsKnownBySender};
+ghost use Rattle.dump_analysis.specs.Routes.{flow_of};
+ghost use Rattle.dump_analysis.specs.contracts.key.FlowKeyPartialEq.TheImpl as flow_key_eq;
+ghost use Rattle.dump_analysis.specs.declared.association.Side.TheVariants.{First};
+
 use crate::association::{Association, Side};
 use crate::gone::Gone;
 use crate::key::{Arrival, FlowKey, Route};
@@ -21,6 +28,8 @@ pub struct Keys {
     flows: HashMap<FlowKey, Flow>,
     // the latest association of each route
     routes: HashMap<Route, usize>,
+    // the latest one that began midway, by the ports of its second end's packets, with tag 0
+    midway: HashMap<FlowKey, usize>,
     gone: Gone,
 }
 
@@ -31,49 +40,73 @@ impl Keys {
         Keys {
             flows: HashMap::new(alloc),
             routes: HashMap::new(alloc),
+            midway: HashMap::new(alloc),
             gone: Gone::new(alloc, most_gone),
         }
     }
 
-    /// Returns whose packet it is by its tags.
-    pub fn find(&self, arrival: &Arrival<'_, '_>) -> Option<Flow> {
-        if let Some(tag) = arrival.sender_tag() {
-            let received = arrival.route.flow(Side::Second, tag);
-            let flow = self.flows.get(&received)?;
-            return Some(Flow {
-                slot: flow.slot,
-                sender: flow.sender.other(),
-            });
-        }
-        if arrival.is_init() || arrival.is_reflected() {
-            return None;
-        }
-        self.flows
-            .get(&arrival.route.flow(Side::First, arrival.tag))
-            .copied()
+    /// Returns whose packet it is by its tag: of the latest association with it.
+    pub fn find(&self, arrival: &Arrival<'_, '_>) -> Option<Flow>
+        ensures { ¬ (IsKnownBySender arrival.now) → result
+            ≡ get ((flow_key_eq.ghosts).eq) self.now.flows
+            (flow_of arrival.now.route First arrival.now.tag) }
+    {
+        let (chooser, tag) = arrival.chosen()?;
+        let flow = self.flows.get(&arrival.route.flow(chooser.other(), tag))?;
+        let sender = match chooser {
+            Side::First => flow.sender.other(),
+            Side::Second => flow.sender,
+        };
+        Some(Flow {
+            slot: flow.slot,
+            sender,
+        })
     }
 
-    /// Returns whether a packet is of an association that left, by its tags.
+    /// Returns whether a packet is of an association that left, by its tag.
     pub fn is_gone(&self, arrival: &Arrival<'_, '_>) -> bool {
-        if let Some(tag) = arrival.sender_tag() {
-            return self.gone.has(arrival.route.flow(Side::Second, tag));
+        match arrival.chosen() {
+            Some((chooser, tag)) => self.gone.has(arrival.route.flow(chooser.other(), tag)),
+            None => false,
         }
-        self.gone.has(arrival.route.flow(Side::First, arrival.tag))
     }
 
-    /// Returns the slot of the latest association in which this end sends on a route.
-    pub fn on_route(&self, route: Route, sender: Side) -> Option<usize> {
+    /// Returns the latest association in which this end sends on a route.
+    pub fn on_route(&self, route: Route, sender: Side) -> Option<Flow> {
         let first = match sender {
             Side::First => route,
             Side::Second => route.back(),
         };
-        self.routes.get(&first).copied()
+        let slot = *self.routes.get(&first)?;
+        Some(Flow { slot, sender })
+    }
+
+    /// Returns the latest association on a route, in either direction.
+    pub fn latest(&self, route: Route) -> Option<Flow> {
+        let there = self.on_route(route, Side::First);
+        there.or(self.on_route(route, Side::Second))
+    }
+
+    /// Returns the latest association that began midway between the ports of a route, and whose
+    /// second end sends on it.
+    pub fn midway(&self, route: Route) -> Option<Flow> {
+        let slot = *self.midway.get(&route.flow(Side::First, 0))?;
+        let sender = Side::Second;
+        Some(Flow { slot, sender })
     }
 
     /// Notes that an association begins on a route.
-    pub fn add_route(&mut self, route: Route, slot: usize) -> Result<(), AllocError> {
+    pub fn add_route(
+        &mut self,
+        route: Route,
+        slot: usize,
+        is_midway: bool,
+    ) -> Result<(), AllocError> {
         let _ = self.routes.remove(&route.back());
         self.routes.insert(route, slot)?;
+        if is_midway {
+            self.midway.insert(route.flow(Side::Second, 0), slot)?;
+        }
         Ok(())
     }
 
@@ -97,8 +130,12 @@ impl Keys {
     /// Forgets the association in a slot, and remembers that it is gone.
     pub fn forget(&mut self, slot: usize, association: &Association) -> Result<(), AllocError> {
         let route = association.route;
-        if self.on_route(route, Side::First) == Some(slot) {
+        if self.routes.get(&route) == Some(&slot) {
             let _ = self.routes.remove(&route);
+        }
+        let ports = route.flow(Side::Second, 0);
+        if self.midway.get(&ports) == Some(&slot) {
+            let _ = self.midway.remove(&ports);
         }
         for sender in [Side::First, Side::Second] {
             let receiver = association.end(sender.other());

@@ -8,9 +8,9 @@
 //! too. What a filter asks and what a rule says is defined by what is in a packet's header and
 //! chunks: in `specs/` and in those of `dcsctp_receive`. What is counted of a packet for an
 //! association is what `specs/` defines, and each packet is counted once: of one end of one
-//! association, or as unknown; and of an association on one path, or as on others. The rest is
-//! proved safe and total: no clause says which association a
-//! packet belongs to, nor what a text is.
+//! association, or as unknown; and of an association on one path, or as on others. It is said to be
+//! of an association only if its tag allows that. The rest is proved safe and total: no clause says
+//! what a text is.
 #![tactic(auto)]
 
 mod acknowledgement;
@@ -30,11 +30,14 @@ mod end;
 pub mod filter;
 mod fragment;
 mod gone;
+mod icmp_errors;
 mod initiation;
 mod json;
 mod key;
 mod key_vector;
+mod key_vectors;
 mod keys;
+mod last_messages;
 pub mod laws;
 mod membership;
 mod message;
@@ -60,6 +63,7 @@ mod time;
 mod transport;
 mod tsns;
 mod unanswered;
+mod wait;
 pub mod warnings;
 
 pub use crate::announced::{Announced, Announcements, Announcer, RequestId, Statement};
@@ -69,17 +73,19 @@ pub use crate::authentication::{AuthVerdict, Authentication, AuthenticationCount
 pub use crate::authentication_text::{
     AuthenticationBrief, AuthenticationCountsJson, AuthenticationJson, AuthenticationLines,
 };
-pub use crate::channel::{Channel, Reset, Tally, Traffic};
+pub use crate::channel::{Channel, Reset, Span, Tally, Traffic};
 pub use crate::channel_report::{ChannelJson, ChannelReport};
-pub use crate::channels::{ChannelTable, Channels};
+pub use crate::channels::Channels;
 pub use crate::counts::{Counts, LeastWindow, SeenPacket};
 pub use crate::data_channel::{Opened, PeerText, label_of};
 pub use crate::delays::Delays;
-pub use crate::details::PathTable;
+pub use crate::details::{ChannelTable, PathTable};
 pub use crate::end::{Acknowledged, Closed, End, Skipped};
 pub use crate::fragment::{MessageKey, stream_of};
+pub use crate::icmp_errors::{IcmpErrors, LastIcmpError, LeastMtu};
 pub use crate::json::AssociationJson;
-pub use crate::key_vector::{KeyVector, KeyVectors};
+pub use crate::key_vector::KeyVector;
+pub use crate::key_vectors::KeyVectors;
 pub use crate::membership::{Membership, MembershipJson, Sequence};
 pub use crate::message::{Again, EndedMessage, Fate, Message};
 pub use crate::message_report::{MessageJson, MessageReport};

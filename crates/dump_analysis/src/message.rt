@@ -1,16 +1,17 @@
 //! A user message, and what became of it.
 
-ghost use Rattle.std.specs.Prelude.{◌↔◌, IsTrue};
+ghost use Rattle.std.specs.Prelude.{◌≡◌, ◌↔◌, ◌++◌, ◌∷◌, [], IsTrue, OnOk};
 ghost use Rattle.dump_analysis.specs.Channels.{ComesBefore};
 
 use crate::association::Side;
 use crate::counts::increase;
 use crate::end::Closed;
-use crate::fragment::{Fragment, MessageKey};
+use crate::fragment::{Fragment, Late, MessageKey};
 use crate::moment::Moment;
 use crate::packet_number::PacketNumber;
 use crate::payloads::Payloads;
 use crate::serial::is_after;
+use crate::wait::Wait;
 use dcsctp_borrowed::part::Item;
 use std::alloc::{AllocError, Global};
 use std::mem;
@@ -81,9 +82,11 @@ pub struct Message {
     pub is_odd: bool,
     /// The TSN of the first fragment that was sent again with other bytes.
     pub changed: Option<u32>,
-    /// The TSN for which it waited in its stream: it was acknowledged, but an earlier message was
-    /// not.
-    pub waited_for: Option<u32>,
+    /// The first of its fragments that was seen first after a later TSN.
+    pub late: Option<Late>,
+    /// For what it waited in its stream: it was acknowledged, but an earlier message was not; or
+    /// all of it was seen, but some of an earlier message wasn't.
+    pub waited_for: Option<Wait>,
     /// When its receiver had no room while it was outstanding.
     pub closed: Option<Closed>,
     /// Whether a filter passes a packet with one of its fragments.
@@ -92,7 +95,9 @@ pub struct Message {
 
 impl Message {
     /// Returns a message without fragments, of which this will be one.
-    pub fn new(association: u64, sender: Side, lead: &Fragment, fate: Fate) -> Message {
+    pub fn new(association: u64, sender: Side, lead: &Fragment, fate: Fate) -> Message
+        ensures { result.fate ≡ fate }
+    {
         Message {
             association,
             sender,
@@ -112,6 +117,7 @@ impl Message {
             has_end: false,
             is_odd: false,
             changed: None,
+            late: None,
             waited_for: None,
             closed: None,
             passes: false,
@@ -120,7 +126,9 @@ impl Message {
 
     /// Adds its fragments, in order of their TSNs; up to `passed` all TSNs were acknowledged or
     /// skipped.
-    pub fn assemble(&mut self, pieces: &[Fragment], passed: Option<u32>) {
+    pub fn assemble(&mut self, pieces: &[Fragment], passed: Option<u32>)
+        ensures { self.new.fate ≡ self.old.fate }
+    {
         let mut acknowledged = 0;
         for i in 0..pieces.len() {
             if pieces[i].is_acknowledged {
@@ -144,7 +152,9 @@ impl Message {
     }
 
     /// Adds the fragments between two that were seen.
-    fn add_hole(&mut self, first: u32, end: u32, is_acknowledged: bool) {
+    fn add_hole(&mut self, first: u32, end: u32, is_acknowledged: bool)
+        ensures { self.new.fate ≡ self.old.fate }
+    {
         if is_after(first, end) {
             self.is_odd = true;
         } else if first != end && is_acknowledged {
@@ -158,7 +168,9 @@ impl Message {
     }
 
     /// Adds a fragment.
-    fn add(&mut self, piece: &Fragment) {
+    fn add(&mut self, piece: &Fragment)
+        ensures { self.new.fate ≡ self.old.fate }
+    {
         self.last_tsn = piece.tsn;
         self.ppid = self.ppid.or(piece.ppid);
         self.size = self.size.saturating_add(piece.size as u64);
@@ -178,6 +190,7 @@ impl Message {
         if piece.is_changed && self.changed.is_none() {
             self.changed = Some(piece.tsn);
         }
+        self.late = self.late.or(piece.late);
         self.closed = joined(self.closed, piece.closed);
         self.passes |= piece.passes;
     }
@@ -253,7 +266,10 @@ impl EndedMessages {
     }
 
     /// Adds a message.
-    pub fn add(&mut self, message: Message, payload: Option<Vec<u8>>) -> Result<(), AllocError> {
+    pub fn add(&mut self, message: Message, payload: Option<Vec<u8>>) -> Result<(), AllocError>
+        ensures { OnOk result (self.new.list.items
+            ≡ self.old.list.items ++ record { message = message; payload = payload } ∷ []) }
+    {
         self.list.push(EndedMessage { message, payload })?;
         Ok(())
     }
@@ -277,7 +293,9 @@ impl EndedMessages {
         association: u64,
         sender: Side,
         pieces: &[Fragment],
-    ) -> Result<Option<Vec<u8>>, AllocError> {
+    ) -> Result<Option<Vec<u8>>, AllocError>
+        ensures { self.new.list ≡ self.old.list }
+    {
         match &mut self.payloads {
             Some(payloads) => payloads.take(association, sender, pieces),
             None => Ok(None),
@@ -285,7 +303,9 @@ impl EndedMessages {
     }
 
     /// Counts DATA that isn't followed.
-    pub fn leave_out(&mut self, count: usize) {
+    pub fn leave_out(&mut self, count: usize)
+        ensures { self.new.list ≡ self.old.list }
+    {
         self.left_out = self.left_out.saturating_add(count as u64);
     }
 

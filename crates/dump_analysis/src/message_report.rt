@@ -68,7 +68,7 @@ impl<'a> MessageReport<'a> {
             Side::First => ">",
             Side::Second => "<",
         };
-        let name = if key.is_i_data { "mid" } else { "ssn" };
+        let name = number_name(message);
         write!(
             out,
             "message of {association} {mark} stream {stream}, {name} {number}"
@@ -107,6 +107,15 @@ impl<'a> MessageReport<'a> {
         if let Some(tsn) = message.changed {
             write!(out, "; tsn {tsn} sent again with other bytes");
         }
+        if let Some(late) = message.late {
+            let (tsn, behind) = (late.tsn, late.behind);
+            write!(out, "; tsn {tsn} first seen ");
+            if let Some(nanoseconds) = late.after {
+                let seconds = self.style.seconds(nanoseconds);
+                write!(out, "{seconds} s ");
+            }
+            write!(out, "after tsn {behind}");
+        }
         if let Some(first) = message.first_missing {
             let name = if message.key.is_i_data { "fsn" } else { "tsn" };
             write!(out, "; {name} {first}");
@@ -130,8 +139,15 @@ impl<'a> MessageReport<'a> {
 
     /// Writes for what it waited.
     fn write_waits(&self, out: &mut Text<'_>) {
-        if let Some(tsn) = self.message.waited_for {
-            write!(out, "; waited for tsn {tsn} of its stream");
+        if let Some(wait) = self.message.waited_for {
+            let tsn = wait.tsn;
+            match wait.unseen {
+                Some(number) => {
+                    let name = number_name(self.message);
+                    write!(out, "; waited for {name} {number}, tsn {tsn} not seen yet");
+                }
+                None => write!(out, "; waited for tsn {tsn} of its stream"),
+            }
         }
         let Some(closed) = self.message.closed else {
             return;
@@ -236,7 +252,7 @@ impl<'a> MessageJson<'a> {
         write!(out, "{{\"message_of\":{association}");
         out.pair("end", index_of(message.sender));
         out.pair("stream", key.stream);
-        out.pair(if key.is_i_data { "mid" } else { "ssn" }, key.number);
+        out.pair(number_name(message), key.number);
         out.pair("unordered", key.is_unordered);
         if let Some(ppid) = message.ppid {
             out.pair("ppid", ppid);
@@ -263,6 +279,13 @@ impl<'a> MessageJson<'a> {
         if let Some(tsn) = message.changed {
             out.pair("changed_tsn", tsn);
         }
+        if let Some(late) = message.late {
+            out.pair("late_tsn", late.tsn);
+            out.pair("late_after_tsn", late.behind);
+            if let Some(nanoseconds) = late.after {
+                out.pair("late_after", self.0.style.seconds(nanoseconds));
+            }
+        }
         if let Some(first) = message.first_missing {
             out.pair("missing", message.missing);
             let is_i_data = message.key.is_i_data;
@@ -278,8 +301,19 @@ impl<'a> MessageJson<'a> {
         write_flag("contradictory", message.is_odd, out);
         write_flag("no_beginning", !message.has_beginning, out);
         write_flag("no_end", !message.has_end, out);
-        if let Some(tsn) = message.waited_for {
-            out.pair("waited_for_tsn", tsn);
+        if let Some(wait) = message.waited_for {
+            out.pair("waited_for_tsn", wait.tsn);
+            if let Some(number) = wait.unseen {
+                let is_i_data = message.key.is_i_data;
+                out.pair(
+                    if is_i_data {
+                        "waited_for_mid"
+                    } else {
+                        "waited_for_ssn"
+                    },
+                    number,
+                );
+            }
         }
         let Some(closed) = message.closed else {
             return;
@@ -308,6 +342,11 @@ impl<'a> MessageJson<'a> {
             out.pair("text", JsonText(text));
         }
     }
+}
+
+/// Returns the name of a message's number.
+fn number_name(message: &Message) -> &'static str {
+    if message.key.is_i_data { "mid" } else { "ssn" }
 }
 
 /// Writes a key that is true, if it is.

@@ -3,7 +3,8 @@
 use crate::acknowledgement::Acknowledgement;
 use crate::association::Side;
 use crate::chunk_type::{
-    ABORT, DATA, FORWARD_TSN, I_DATA, I_FORWARD_TSN, NR_SACK, SACK, SHUTDOWN_COMPLETE,
+    ABORT, DATA, FORWARD_TSN, I_DATA, I_FORWARD_TSN, INIT, INIT_ACK, NR_SACK, RE_CONFIG, SACK,
+    SHUTDOWN_COMPLETE,
 };
 use crate::counts::SeenPacket;
 use crate::fragment::Fragment;
@@ -12,6 +13,10 @@ use crate::message::{EndedMessage, EndedMessages};
 use crate::moment::Moment;
 use crate::outgoing::Outgoing;
 use dcsctp_borrowed::part::Item;
+use dcsctp_wire::packet::init_chunk::InitNumbers;
+use dcsctp_wire::packet::outgoing_ssn_reset_request_parameter::{
+    OutgoingSsnResetRequestNumbers, PARAMETER_TYPE as OUTGOING_SSN_RESET,
+};
 use dcsctp_wire::packet::read_u32_be;
 use dcsctp_wire::packet::sack_chunk::SackNumbers;
 use std::alloc::{AllocError, Global};
@@ -116,14 +121,25 @@ impl Messages {
         chunk: Item<'_>,
     ) -> Result<(), AllocError> {
         let (value, moment) = (chunk.value.bytes, Moment::of(packet));
+        let sender = EndKey::new(of.association, of.sender);
         let receiver = EndKey::new(of.association, of.sender.other());
         match chunk.first {
             DATA | I_DATA => return self.send(of, packet, chunk),
+            INIT | INIT_ACK if value.len() >= InitNumbers::SIZE => {
+                self.begin(of)?;
+                if let Some(outgoing) = self.ends.get_mut(&sender) {
+                    outgoing.begin(read_u32_be(&value[InitNumbers::INITIAL_TSN..]));
+                }
+            }
+            RE_CONFIG => {
+                if let Some(outgoing) = self.ends.get_mut(&sender) {
+                    note_resets(outgoing, chunk);
+                }
+            }
             FORWARD_TSN | I_FORWARD_TSN if value.len() >= 4 => {
-                let sender = EndKey::new(of.association, of.sender);
                 if let Some(outgoing) = self.ends.get_mut(&sender) {
                     let before = outgoing.count();
-                    outgoing.skip(read_u32_be(value), chunk.first, moment, &mut self.ended)?;
+                    outgoing.skip(value, chunk.first, moment, &mut self.ended)?;
                     self.count = self
                         .count
                         .saturating_sub(before)
@@ -155,6 +171,16 @@ impl Messages {
         Ok(())
     }
 
+    /// Begins an end, if it is new.
+    fn begin(&mut self, of: Membership) -> Result<(), AllocError> {
+        let key = EndKey::new(of.association, of.sender);
+        if !self.ends.contains_key(&key) {
+            let outgoing = Outgoing::new(self.alloc, of.association, of.sender);
+            self.ends.insert(key, Box::new(self.alloc, outgoing)?)?;
+        }
+        Ok(())
+    }
+
     /// Notes a DATA or an I-DATA.
     fn send(
         &mut self,
@@ -163,26 +189,36 @@ impl Messages {
         chunk: Item<'_>,
     ) -> Result<(), AllocError> {
         let key = EndKey::new(of.association, of.sender);
-        if !self.ends.contains_key(&key) {
-            let outgoing = Outgoing::new(self.alloc, of.association, of.sender);
-            self.ends.insert(key, Box::new(self.alloc, outgoing)?)?;
-        }
+        self.begin(of)?;
         let Some(outgoing) = self.ends.get_mut(&key) else {
             return Ok(());
         };
         match Fragment::of(packet, chunk) {
             Some(fragment) => {
                 let before = outgoing.count();
-                outgoing.send(&fragment, self.count < MOST, &mut self.ended)?;
+                let is_new = outgoing.send(&fragment, self.count < MOST, &mut self.ended)?;
                 let after = outgoing.count();
                 self.count = self.count.saturating_sub(before).saturating_add(after);
-                if after > before {
+                if is_new {
                     self.ended.keep_payload(of.association, of.sender, chunk)?;
                 }
             }
             None => outgoing.note_lost(&mut self.ended),
         }
         Ok(())
+    }
+}
+
+/// Notes which streams a RE-CONFIG of an end asks to reset.
+fn note_resets(outgoing: &mut Outgoing, chunk: Item<'_>) {
+    for parameter in chunk.value.items() {
+        let bytes = parameter.value.bytes;
+        if parameter.code() == OUTGOING_SSN_RESET
+            && bytes.len() >= OutgoingSsnResetRequestNumbers::SIZE
+        {
+            let streams = &bytes[OutgoingSsnResetRequestNumbers::SIZE..];
+            outgoing.reset(read_u32_be(bytes), streams);
+        }
     }
 }
 

@@ -1,13 +1,17 @@
 //! The user messages of one end that are outstanding.
 
-ghost use Rattle.std.specs.Prelude.{◌≡◌, ◌≤◌, vec_len};
+ghost use Rattle.std.specs.Prelude.{◌≡◌, ◌≤◌, length, vec_len, OnOk, IfSome};
+ghost use Rattle.dump_analysis.specs.Fates.{AddsBy};
 
 use crate::acknowledgement::Acknowledgement;
 use crate::association::Side;
-use crate::fragment::{Fragment, is_whole};
-use crate::message::{EndedMessages, Fate, Message};
+use crate::fragment::{Fragment, Late, MessageKey, is_whole};
+use crate::last_messages::LastMessages;
+use crate::message::{EndedMessages, Fate, Message, comes_before};
 use crate::moment::Moment;
 use crate::serial::is_after;
+use crate::wait::{Wait, WaitSearch};
+use dcsctp_wire::packet::read_u32_be;
 use std::alloc::{AllocError, Global};
 use std::mem;
 
@@ -18,7 +22,8 @@ const MOST: usize = 1_024;
 ///
 /// A fragment is followed from its first DATA on, until its message is over and its TSN is passed:
 /// by a Cumulative TSN Ack, or by the new cumulative TSN of a FORWARD-TSN. What comes after its TSN
-/// was passed isn't followed, nor what comes while 1,024 of them are.
+/// was passed isn't followed, nor what comes while 1,024 of them are. A fragment of I-DATA whose
+/// message is over already is followed as one that is over.
 #[derive(Drop)]
 pub struct Outgoing {
     alloc: Global,
@@ -29,6 +34,10 @@ pub struct Outgoing {
     fragments: Vec<Fragment>,
     // the greatest TSN that is passed
     passed: Option<u32>,
+    // whether the end's INIT alone says so
+    is_told: bool,
+    // of the messages whose fragments are forgotten, or that were skipped
+    last: LastMessages,
     // whether a fragment found no room, or its header wasn't captured
     has_lost: bool,
     // whether the association ended
@@ -46,6 +55,8 @@ impl Outgoing {
             sender,
             fragments: Vec::new(alloc),
             passed: None,
+            is_told: false,
+            last: LastMessages::new(alloc),
             has_lost: false,
             is_over: false,
         }
@@ -58,6 +69,24 @@ impl Outgoing {
         self.fragments.len()
     }
 
+    /// Notes that this will be its first TSN, if it sent none yet.
+    pub fn begin(&mut self, tsn: u32)
+        ensures { self.new.fragments ≡ self.old.fragments }
+    {
+        if self.passed.is_none() && self.fragments.is_empty() {
+            self.passed = Some(tsn.wrapping_sub(1));
+            self.is_told = true;
+            self.last.begin();
+        }
+    }
+
+    /// Notes a request of this number to reset streams.
+    pub fn reset(&mut self, number: u32, streams: &[u8])
+        ensures { self.new.fragments ≡ self.old.fragments }
+    {
+        self.last.reset(number, streams);
+    }
+
     /// Notes that a fragment was sent that isn't followed.
     pub fn note_lost(&mut self, ended: &mut EndedMessages)
         ensures { self.new.fragments ≡ self.old.fragments }
@@ -66,32 +95,134 @@ impl Outgoing {
         ended.leave_out(1);
     }
 
-    /// Notes a fragment that was sent, for the first time or again.
+    /// Notes a fragment that was sent, for the first time or again. Returns whether it is followed
+    /// from now on, and its message isn't over.
     pub fn send(
         &mut self,
         fragment: &Fragment,
         has_room: bool,
         ended: &mut EndedMessages,
-    ) -> Result<(), AllocError>
+    ) -> Result<bool, AllocError>
         ensures { vec_len self.old.fragments ≤ MOST → vec_len self.new.fragments ≤ MOST }
     {
+        if self.is_told && self.has_passed(fragment.tsn) {
+            // It begins elsewhere than its INIT says.
+            self.passed = None;
+            self.last.doubt();
+        }
+        self.is_told = false;
         if self.is_over || self.has_passed(fragment.tsn) {
-            return Ok(());
+            return Ok(false);
         }
         let place = self.place_of(fragment.tsn);
         if let Some(known) = self.fragments.get_mut(place) {
             if known.tsn == fragment.tsn {
                 known.note_repeated(fragment);
-                return Ok(());
+                return Ok(false);
             }
         }
         let count = self.fragments.len();
         if !has_room || count >= MOST {
             self.note_lost(ended);
-            return Ok(());
+            return Ok(false);
         }
-        self.fragments.insert(place.min(count), *fragment)?;
-        Ok(())
+        let mut fragment = *fragment;
+        fragment.is_over = self.is_over_before(&fragment);
+        fragment.late = self.lateness(place, &fragment);
+        fragment.wait = self.unseen_before(place, &fragment);
+        self.fragments.insert(place.min(count), fragment)?;
+        self.end_before(place, ended)?;
+        Ok(!fragment.is_over)
+    }
+
+    /// Returns whether a fragment that is new is of a message of I-DATA that is over.
+    fn is_over_before(&self, fragment: &Fragment) -> bool {
+        if !fragment.key.is_i_data || fragment.is_beginning {
+            return false;
+        }
+        let mut is_over = self.last.has(&fragment.key);
+        for other in &self.fragments {
+            if other.key == fragment.key {
+                is_over = other.is_over;
+            }
+        }
+        is_over
+    }
+
+    /// Returns how late a fragment is that comes before that in a place.
+    fn lateness(&self, place: usize, fragment: &Fragment) -> Option<Late> {
+        let mut first: Option<&Fragment> = None;
+        for other in self.fragments.iter().skip(place) {
+            let limit = match first {
+                Some(first) => first.sent.packet,
+                None => fragment.sent.packet,
+            };
+            if comes_before(other.sent.packet, limit) {
+                first = Some(other);
+            }
+        }
+        let first = first?;
+        Some(Late {
+            tsn: fragment.tsn,
+            behind: first.tsn,
+            after: fragment.sent.since(first.sent),
+        })
+    }
+
+    /// Returns for what the message of a fragment, which will be in this place, waits that wasn't
+    /// seen yet.
+    fn unseen_before(&self, place: usize, fragment: &Fragment) -> Option<Wait> {
+        if fragment.key.is_unordered || self.has_lost {
+            return None;
+        }
+        let front = self.fragments.first();
+        let next = match (self.passed, front) {
+            (Some(passed), _) => passed.wrapping_add(1),
+            (None, Some(front)) => front.tsn,
+            (None, None) => return None,
+        };
+        let is_passed = front.is_some_and(|front| self.has_passed(front.tsn));
+        if !is_passed && fragment.tsn.wrapping_sub(next) as usize == place {
+            return None;
+        }
+        let mut search = WaitSearch::new(fragment.key, next, self.last.next(&fragment.key));
+        for other in &self.fragments {
+            if !is_after(fragment.tsn, other.tsn) {
+                break;
+            }
+            if let Some(wait) = search.step(other) {
+                return Some(wait);
+            }
+        }
+        search.step(fragment)
+    }
+
+    /// Adds the message before the fragment in a place, which was seen just now, if it was passed,
+    /// and that shows that nothing of it comes any more.
+    fn end_before(&mut self, place: usize, ended: &mut EndedMessages) -> Result<(), AllocError>
+        ensures { vec_len self.new.fragments ≡ vec_len self.old.fragments }
+    {
+        match self.passed_before(place) {
+            Some((before, fate)) => self.end_at(before, fate, ended),
+            None => Ok(()),
+        }
+    }
+
+    /// Returns the place of the fragment before that in a place, of I-DATA of the same stream, and
+    /// what became of its message, if it was passed.
+    fn passed_before(&self, place: usize) -> Option<(usize, Fate)> {
+        let fragment = self.fragments.get(place)?;
+        if !self.has_passed(self.fragments.first()?.tsn) {
+            return None;
+        }
+        for step in 0..place {
+            let before = place - 1 - step;
+            let other = self.fragments.get(before)?;
+            if !fragment.key.is_i_data || other.key.is_of_stream(&fragment.key) {
+                return Some((before, other.passed?));
+            }
+        }
+        None
     }
 
     /// Notes what the other end acknowledges, and whether it says that it has no room. Adds the
@@ -103,28 +234,55 @@ impl Outgoing {
         moment: Moment,
         ended: &mut EndedMessages,
     ) -> Result<(), AllocError>
-        ensures { vec_len self.new.fragments ≤ vec_len self.old.fragments }
+        ensures count { vec_len self.new.fragments ≤ vec_len self.old.fragments }
+        ensures fate { OnOk result (AddsBy (Fate.Acknowledged moment) ended.old.list.items
+            ended.new.list.items) }
     {
         self.mark(&acknowledged);
         let before = self.passed;
-        self.pass(acknowledged.cumulative);
+        let has_unseen = self.pass(acknowledged.cumulative);
         self.end_some(before, Fate::Acknowledged(moment), ended)?;
         self.unmark(is_closed, moment);
-        self.forget()
+        self.forget(has_unseen)
     }
 
-    /// Notes which fragments are acknowledged.
+    /// Notes which fragments are acknowledged, in one pass over the gap blocks and one over them.
     fn mark(&mut self, acknowledged: &Acknowledgement<'_>)
         ensures { vec_len self.new.fragments ≡ vec_len self.old.fragments }
     {
+        let reaches = self.reaches(acknowledged);
+        let mut reach = 0;
         for place in 0..self.fragments.len() {
             if let Some(fragment) = self.fragments.get_mut(place) {
-                if !fragment.is_acknowledged && acknowledged.has(fragment.tsn) {
+                reach = reach.max(reaches[place % MOST]);
+                let offset = fragment.tsn.wrapping_sub(acknowledged.cumulative);
+                let is_acknowledged = !is_after(fragment.tsn, acknowledged.cumulative)
+                    || offset <= u32::from(reach);
+                if !fragment.is_acknowledged && is_acknowledged {
                     fragment.is_acknowledged = true;
                     fragment.is_fresh = true;
                 }
             }
         }
+    }
+
+    /// Returns for each fragment how far after the Cumulative TSN Ack the blocks reach which begin
+    /// after the fragment before it, and not after it.
+    fn reaches(&self, acknowledged: &Acknowledgement<'_>) -> [u16; MOST] {
+        let mut reaches = [0; MOST];
+        let Some(last) = self.fragments.last() else {
+            return reaches;
+        };
+        for index in 0..acknowledged.block_count() {
+            if let Some((start, end)) = acknowledged.block(index) {
+                let tsn = acknowledged.cumulative.wrapping_add(u32::from(start));
+                if !is_after(tsn, last.tsn) {
+                    let place = self.place_of(tsn) % MOST;
+                    reaches[place] = end.max(reaches[place]);
+                }
+            }
+        }
+        reaches
     }
 
     /// Forgets which fragments were acknowledged just now, and notes whether their receiver has no
@@ -142,21 +300,62 @@ impl Outgoing {
         }
     }
 
-    /// Notes the new cumulative TSN of a FORWARD-TSN or an I-FORWARD-TSN that this end sent. Adds
-    /// the messages that are over by that.
+    /// Notes a FORWARD-TSN or an I-FORWARD-TSN with this value that this end sent: its new
+    /// cumulative TSN, and the messages that it names. Adds the messages that are over by that.
     pub fn skip(
         &mut self,
-        cumulative: u32,
+        value: &[u8],
         chunk: u8,
         moment: Moment,
         ended: &mut EndedMessages,
     ) -> Result<(), AllocError>
-        ensures { vec_len self.new.fragments ≤ vec_len self.old.fragments }
+        requires { 4 ≤ length value.now }
+        ensures count { vec_len self.new.fragments ≤ vec_len self.old.fragments }
+        ensures fate { OnOk result (AddsBy (Fate.Abandoned chunk moment) ended.old.list.items
+            ended.new.list.items) }
     {
+        let fate = Fate::Abandoned { chunk, moment };
         let before = self.passed;
-        self.pass(cumulative);
-        self.end_some(before, Fate::Abandoned { chunk, moment }, ended)?;
-        self.forget()
+        let cumulative = read_u32_be(value);
+        let has_unseen = self.pass(cumulative);
+        self.end_some(before, fate, ended)?;
+        self.forget(has_unseen)?;
+        if self.passed != Some(cumulative) {
+            return Ok(());
+        }
+        for index in 0..value.len() / 4 {
+            let Some(key) = MessageKey::skipped(chunk, value, index) else {
+                break;
+            };
+            self.end_named(key, fate, ended)?;
+            self.last.skip(key)?;
+        }
+        Ok(())
+    }
+
+    /// Adds the message of I-DATA that is named as skipped, if it wasn't over.
+    fn end_named(
+        &mut self,
+        key: MessageKey,
+        fate: Fate,
+        ended: &mut EndedMessages,
+    ) -> Result<(), AllocError>
+        ensures count { vec_len self.new.fragments ≡ vec_len self.old.fragments }
+        ensures fate { OnOk result (AddsBy fate ended.old.list.items ended.new.list.items) }
+    {
+        if !key.is_i_data {
+            return Ok(());
+        }
+        let mut found = None;
+        for (place, fragment) in self.fragments.iter().enumerate() {
+            if fragment.key == key && !fragment.is_over {
+                found = Some(place);
+            }
+        }
+        match found {
+            Some(place) => self.end_now(place, Some(fate), ended),
+            None => Ok(()),
+        }
     }
 
     /// Adds the messages that aren't over: the association ended, or the capture did. What is sent
@@ -165,7 +364,7 @@ impl Outgoing {
         ensures { vec_len self.new.fragments ≤ vec_len self.old.fragments }
     {
         for place in 0..self.fragments.len() {
-            self.end_at(place, Fate::Unacknowledged, ended)?;
+            self.end_now(place, None, ended)?;
         }
         self.fragments = Vec::new(self.alloc);
         self.is_over = true;
@@ -180,29 +379,30 @@ impl Outgoing {
         }
     }
 
-    /// Passes the TSNs up to this one.
-    fn pass(&mut self, tsn: u32)
+    /// Passes the TSNs up to this one. Returns whether some of them weren't seen.
+    fn pass(&mut self, tsn: u32) -> bool
         ensures { self.new.fragments ≡ self.old.fragments }
     {
-        if !self.has_passed(tsn) {
-            self.passed = Some(tsn);
+        self.is_told = false;
+        if self.has_passed(tsn) {
+            return false;
+        }
+        let before = self.passed;
+        self.passed = Some(tsn);
+        match before {
+            Some(before) => {
+                let first = self.place_of(before.wrapping_add(1));
+                let end = self.place_of(tsn.wrapping_add(1));
+                end.saturating_sub(first) < tsn.wrapping_sub(before) as usize
+            }
+            None => false,
         }
     }
 
     /// Returns where the fragment with this TSN is, or has to be.
     fn place_of(&self, tsn: u32) -> usize {
-        let count = self.fragments.len();
-        for step in 0..count {
-            let place = count - 1 - step;
-            let known = self.fragments[place].tsn;
-            if known == tsn {
-                return place;
-            }
-            if is_after(tsn, known) {
-                return place + 1;
-            }
-        }
-        0
+        self.fragments
+            .partition_point(|fragment| is_after(tsn, fragment.tsn))
     }
 
     /// Adds the messages that are over by this fate: of fragments that were acknowledged just now,
@@ -214,20 +414,58 @@ impl Outgoing {
         fate: Fate,
         ended: &mut EndedMessages,
     ) -> Result<(), AllocError>
-        ensures { vec_len self.new.fragments ≡ vec_len self.old.fragments }
+        ensures count { vec_len self.new.fragments ≡ vec_len self.old.fragments }
+        ensures fate { OnOk result (AddsBy fate ended.old.list.items ended.new.list.items) }
     {
         for place in 0..self.fragments.len() {
-            if let Some(fragment) = self.fragments.get(place) {
-                let is_new = match before {
-                    Some(before) => !is_after(before, fragment.tsn),
-                    None => true,
-                };
-                if fragment.is_fresh || is_new && self.has_passed(fragment.tsn) {
-                    self.end_at(place, fate, ended)?;
-                }
-            }
+            self.note_passed(place, fate);
+            self.end_new(place, before, fate, ended)?;
         }
         Ok(())
+    }
+
+    /// Adds the message of the fragment in a place, if that is news, and it is over by this fate.
+    fn end_new(
+        &mut self,
+        place: usize,
+        before: Option<u32>,
+        fate: Fate,
+        ended: &mut EndedMessages,
+    ) -> Result<(), AllocError>
+        ensures count { vec_len self.new.fragments ≡ vec_len self.old.fragments }
+        ensures fate { OnOk result (AddsBy fate ended.old.list.items ended.new.list.items) }
+    {
+        if self.is_news(place, before) {
+            return self.end_at(place, fate, ended);
+        }
+        Ok(())
+    }
+
+    /// Returns whether the fragment in a place was acknowledged just now, or passed since `before`
+    /// was the last one that is passed.
+    fn is_news(&self, place: usize, before: Option<u32>) -> bool {
+        let Some(fragment) = self.fragments.get(place) else {
+            return false;
+        };
+        let is_new = match before {
+            Some(before) => !is_after(before, fragment.tsn),
+            None => true,
+        };
+        fragment.is_fresh || is_new && self.has_passed(fragment.tsn)
+    }
+
+    /// Notes what becomes of the message of the fragment in a place, if that is passed and nothing
+    /// of its message is seen after it.
+    fn note_passed(&mut self, place: usize, fate: Fate)
+        ensures { vec_len self.new.fragments ≡ vec_len self.old.fragments }
+    {
+        let passed = self.passed;
+        if let Some(fragment) = self.fragments.get_mut(place) {
+            let tsn = fragment.last_tsn();
+            if fragment.passed.is_none() && passed.is_some_and(|passed| !is_after(tsn, passed)) {
+                fragment.passed = Some(fate);
+            }
+        }
     }
 
     /// Adds the message of the fragment in a place, if it is over by this fate and wasn't before.
@@ -237,30 +475,67 @@ impl Outgoing {
         fate: Fate,
         ended: &mut EndedMessages,
     ) -> Result<(), AllocError>
-        ensures { vec_len self.new.fragments ≡ vec_len self.old.fragments }
+        ensures count { vec_len self.new.fragments ≡ vec_len self.old.fragments }
+        ensures fate { OnOk result (AddsBy fate ended.old.list.items ended.new.list.items) }
     {
-        let Some(lead) = self.fragments.get(place).copied() else {
+        let (first, end) = self.span(place);
+        let pieces = self.pieces(place, first, end)?;
+        if self.is_over_by(fate, pieces.as_slice()) {
+            return self.end(first, end, pieces.as_slice(), fate, ended);
+        }
+        Ok(())
+    }
+
+    /// Adds the message of the fragment in a place, if it wasn't over before: by this fate, or by
+    /// that of its last fragment.
+    fn end_now(
+        &mut self,
+        place: usize,
+        fate: Option<Fate>,
+        ended: &mut EndedMessages,
+    ) -> Result<(), AllocError>
+        ensures count { vec_len self.new.fragments ≡ vec_len self.old.fragments }
+        ensures fate { IfSome fate (λ fate. OnOk result (AddsBy fate ended.old.list.items
+            ended.new.list.items)) }
+    {
+        let (first, end) = self.span(place);
+        let pieces = self.pieces(place, first, end)?;
+        let Some(last) = pieces.last() else {
             return Ok(());
         };
-        if lead.is_over {
+        let fate = fate.or(last.passed).unwrap_or(Fate::Unacknowledged);
+        self.end(first, end, pieces.as_slice(), fate, ended)
+    }
+
+    /// Adds a message that is over by this fate, of these fragments between these places.
+    fn end(
+        &mut self,
+        first: usize,
+        end: usize,
+        pieces: &[Fragment],
+        fate: Fate,
+        ended: &mut EndedMessages,
+    ) -> Result<(), AllocError>
+        ensures count { vec_len self.new.fragments ≡ vec_len self.old.fragments }
+        ensures fate { OnOk result (AddsBy fate ended.old.list.items ended.new.list.items) }
+    {
+        let Some(lead) = pieces.first() else {
             return Ok(());
-        }
-        let (first, end) = self.span(place);
-        let pieces = self.pieces(first, end, &lead)?;
-        if !self.is_over_by(fate, pieces.as_slice()) {
-            return Ok(());
-        }
-        let waited_for = self.waited_for(fate, pieces.as_slice());
-        self.note_over(first, end, &lead);
-        let payload = ended.take_payload(self.association, self.sender, pieces.as_slice())?;
-        let is_whole = is_whole(pieces.as_slice());
+        };
+        let waited_for = self.waited_for(fate, pieces);
+        self.note_over(first, end, lead);
+        let payload = ended.take_payload(self.association, self.sender, pieces)?;
+        let is_whole = is_whole(pieces);
         if self.has_lost && !is_whole {
             ended.leave_out(pieces.len());
             return Ok(());
         }
-        let mut message = Message::new(self.association, self.sender, &lead, fate);
-        message.assemble(pieces.as_slice(), self.passed);
+        let mut message = Message::new(self.association, self.sender, lead, fate);
+        message.assemble(pieces, self.passed);
         message.waited_for = waited_for;
+        if is_whole {
+            message.waited_for = unseen_wait(pieces).or(waited_for);
+        }
         ended.add(message, if is_whole { payload } else { None })
     }
 
@@ -309,24 +584,21 @@ impl Outgoing {
             self.fragments.get(place.saturating_sub(1)),
             self.fragments.get(place),
         ) {
-            (Some(before), Some(fragment)) => {
-                before.is_over == fragment.is_over && before.leads_to(fragment)
-            }
+            (Some(before), Some(fragment)) => before.leads_to(fragment),
             _ => false,
         }
     }
 
-    /// Returns the fragments in these places that are of a fragment's message.
-    fn pieces(
-        &self,
-        first: usize,
-        end: usize,
-        lead: &Fragment,
-    ) -> Result<Vec<Fragment>, AllocError> {
+    /// Returns the fragments between two places that are of the message of that in a place, if it
+    /// isn't over.
+    fn pieces(&self, place: usize, first: usize, end: usize) -> Result<Vec<Fragment>, AllocError> {
         let mut pieces = Vec::new(self.alloc);
+        let Some(lead) = self.fragments.get(place) else {
+            return Ok(pieces);
+        };
         for place in first..end {
             if let Some(fragment) = self.fragments.get(place) {
-                if !fragment.is_over && fragment.is_beside(lead) {
+                if !lead.is_over && !fragment.is_over && fragment.is_beside(lead) {
                     pieces.push(*fragment)?;
                 }
             }
@@ -342,7 +614,7 @@ impl Outgoing {
             Fate::Unacknowledged => true,
             Fate::Acknowledged(_) => {
                 let is_acknowledged = pieces.iter().all(|piece| piece.is_acknowledged);
-                is_acknowledged && is_whole(pieces) || self.is_passed(pieces)
+                is_acknowledged && is_whole(pieces) || self.is_passed(pieces, false)
             }
             Fate::Abandoned { .. } => {
                 let passed = self.passed;
@@ -350,25 +622,40 @@ impl Outgoing {
                     !piece.is_acknowledged
                         && passed.is_some_and(|passed| !is_after(piece.tsn, passed))
                 });
-                is_skipped || self.is_passed(pieces)
+                let is_data = pieces.first().is_some_and(|first| !first.key.is_i_data);
+                is_skipped || self.is_passed(pieces, is_data)
             }
         }
     }
 
     /// Returns whether the last fragment of a message is passed. Where that isn't the one that ends
-    /// it, of DATA the TSN after it has to be passed: it wasn't seen, or isn't of this message.
-    fn is_passed(&self, pieces: &[Fragment]) -> bool {
+    /// it, it has to be the last one: unless that is known, a later fragment has to show it.
+    fn is_passed(&self, pieces: &[Fragment], is_last: bool) -> bool {
         let Some(last) = pieces.last() else {
             return false;
         };
-        let has_end = pieces.iter().any(|piece| piece.is_end);
-        let is_cut = !last.key.is_i_data && self.passed != Some(last.tsn);
-        self.has_passed(last.tsn) && (has_end || is_cut)
+        if pieces.iter().any(|piece| piece.is_end) {
+            return self.has_passed(last.tsn);
+        }
+        self.has_passed(last.last_tsn()) && (is_last || self.is_last(last))
+    }
+
+    /// Returns whether a fragment was seen after the last one of a message, of I-DATA in its
+    /// stream: that is of another message then, and the sender of one after the other.
+    fn is_last(&self, last: &Fragment) -> bool {
+        for other in &self.fragments {
+            let is_other = !last.key.is_i_data
+                || other.key.is_of_stream(&last.key) && other.key.number != last.key.number;
+            if is_other && is_after(other.tsn, last.tsn) {
+                return true;
+            }
+        }
+        false
     }
 
     /// Returns the first TSN of an earlier ordered message of the same stream that isn't
     /// acknowledged, if this one is.
-    fn waited_for(&self, fate: Fate, pieces: &[Fragment]) -> Option<u32> {
+    fn waited_for(&self, fate: Fate, pieces: &[Fragment]) -> Option<Wait> {
         let first = pieces.first()?;
         if first.key.is_unordered || !matches!(fate, Fate::Acknowledged(_)) {
             return None;
@@ -378,22 +665,24 @@ impl Outgoing {
                 return None;
             }
             let is_outstanding = !other.is_acknowledged && !other.is_over;
-            if is_outstanding
-                && !other.key.is_unordered
-                && other.key.stream == first.key.stream
-                && other.key.is_i_data == first.key.is_i_data
-            {
-                return Some(other.tsn);
+            if is_outstanding && other.key.is_of_stream(&first.key) {
+                return Some(Wait {
+                    tsn: other.tsn,
+                    unseen: None,
+                });
             }
         }
         None
     }
 
     /// Forgets the fragments that are passed and whose messages are over, and gives back their
-    /// room.
-    fn forget(&mut self) -> Result<(), AllocError>
+    /// room. If TSNs were passed that weren't seen, so may have been messages of any stream.
+    fn forget(&mut self, has_unseen: bool) -> Result<(), AllocError>
         ensures { vec_len self.new.fragments ≤ vec_len self.old.fragments }
     {
+        if has_unseen {
+            self.last.forget();
+        }
         if !self
             .fragments
             .iter()
@@ -402,9 +691,13 @@ impl Outgoing {
             return Ok(());
         }
         let mut kept = Vec::new(self.alloc);
-        for fragment in &self.fragments {
-            if !self.is_forgotten(fragment) {
-                kept.push(*fragment)?;
+        for place in 0..self.fragments.len() {
+            if let Some(fragment) = self.fragments.get(place).copied() {
+                if !self.is_forgotten(&fragment) {
+                    kept.push(fragment)?;
+                } else if !has_unseen {
+                    self.last.note(fragment.key)?;
+                }
             }
         }
         let _ = mem::replace(&mut self.fragments, kept);
@@ -415,4 +708,15 @@ impl Outgoing {
     fn is_forgotten(&self, fragment: &Fragment) -> bool {
         fragment.is_over && self.has_passed(fragment.tsn)
     }
+}
+
+/// Returns for what a message waited that wasn't seen yet, when the last of its fragments was.
+fn unseen_wait(pieces: &[Fragment]) -> Option<Wait> {
+    let mut last = pieces.first()?;
+    for piece in pieces {
+        if !comes_before(piece.sent.packet, last.sent.packet) {
+            last = piece;
+        }
+    }
+    last.wait
 }

@@ -2,6 +2,7 @@
 
 use crate::text::Text;
 use dump_report::json_text::JsonText;
+use dump_report::printed::Unquoted;
 use std::fmt;
 
 /// A packet's number.
@@ -27,7 +28,10 @@ impl<'a> fmt::Display for PacketText<'a> {
         let number = self.packet.number;
         write!(f, "packet {number}")?;
         match file_of(self.packet, self.files) {
-            Some(name) => write!(f, " of {name}"),
+            Some(name) => {
+                let name = Unquoted(name.as_bytes());
+                write!(f, " of {name}")
+            }
             None => Ok(()),
         }
     }

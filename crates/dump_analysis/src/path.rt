@@ -2,7 +2,7 @@
 
 ghost use Rattle.std.specs.Prelude.{◌≡◌, ◌↔◌, IsTrue};
 ghost use Rattle.dump_analysis.specs.Counts.{CountsPacket, packet_of};
-ghost use Rattle.dump_analysis.specs.Paths.{Takes, Goes, IsNew};
+ghost use Rattle.dump_analysis.specs.Paths.{Takes, Goes, Awaits, IsNew};
 ghost use Rattle.dump_capture.specs.Number.{one_more};
 
 use crate::association::Side;
@@ -76,6 +76,13 @@ impl Path {
         ensures { IsTrue result ↔ Goes way self.now }
     {
         self.way == way
+    }
+
+    /// Returns whether it is a path of this end on which a HEARTBEAT with this key has no answer.
+    pub fn awaits(&self, asker: Side, key: u64) -> bool
+        ensures { IsTrue result ↔ Awaits asker key self.now }
+    {
+        self.way.sender == asker && self.heartbeats.awaits(key)
     }
 
     /// Counts a packet and its chunks.

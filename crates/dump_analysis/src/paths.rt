@@ -4,7 +4,7 @@ ghost use Rattle.std.specs.Prelude.{◌≡◌, ◌≤◌, ◌<◌, ◌+◌, ◌-
 ghost use Rattle.dump_capture.specs.Number.{one_more};
 ghost use Rattle.dump_analysis.specs.Counts.{packet_of};
 ghost use Rattle.dump_analysis.specs.Firsts.{IsFirst};
-ghost use Rattle.dump_analysis.specs.Paths.{packets_on, seen_on, Takes, Goes, CountAlike, CountsAt, CountsOnce, FindsPlace};
+ghost use Rattle.dump_analysis.specs.Paths.{packets_on, seen_on, Takes, Goes, CountAlike, CountsAt, CountsOnce, FindsPlace, Awaits, AnswersAt, AnswersFirst};
 ghost use Rattle.dump_analysis.specs.declared.path.Way.{Way};
 
 use crate::acknowledgement::Acknowledgement;
@@ -247,29 +247,37 @@ fn answer(list: &mut Vec<Path>, asker: Side, key: u64)
     ensures size { vec_len list.new ≡ vec_len list.old }
     ensures packets { packets_on list.new.items ≡ packets_on list.old.items }
     ensures alike { CountAlike list.old.items list.new.items }
+    ensures first { Any (Awaits asker key) list.old.items
+        → AnswersFirst asker key list.old.items list.new.items }
+    ensures none { ¬ (Any (Awaits asker key) list.old.items) → list.new.items ≡ list.old.items }
 {
-    for place in 0..list.len() {
-        if answer_at(list, place, asker, key) {
-            return;
-        }
+    if let Some(place) = awaiting(list, asker, key) {
+        answer_at(list, place, key);
     }
 }
 
-/// Notes an answer on the path in a place, if it is one of this end and awaits it. Returns whether
-/// it is.
-fn answer_at(list: &mut Vec<Path>, place: usize, asker: Side, key: u64) -> bool
+/// Returns the place of the first path of an end that awaits an answer, if one does.
+fn awaiting(list: &[Path], asker: Side, key: u64) -> Option<usize>
+    ensures some { IfSome result (IsFirst (Awaits asker key) list.now) }
+    ensures none { IfNone result (¬ (Any (Awaits asker key) list.now)) }
+{
+    for (place, path) in list.iter().enumerate() {
+        if path.awaits(asker, key) {
+            return Some(place);
+        }
+    }
+    None
+}
+
+/// Notes an answer on the path in a place, which awaits it.
+fn answer_at(list: &mut Vec<Path>, place: usize, key: u64)
+    requires { place < vec_len list.old }
     ensures size { vec_len list.new ≡ vec_len list.old }
     ensures packets { packets_on list.new.items ≡ packets_on list.old.items }
     ensures alike { CountAlike list.old.items list.new.items }
+    ensures answered { AnswersAt key place list.old.items list.new.items }
 {
-    let Some(path) = list.get_mut(place) else {
-        return false;
-    };
-    if path.way.sender != asker || !path.heartbeats.awaits(key) {
-        return false;
-    }
-    path.heartbeats.answer(key);
-    true
+    list[place].heartbeats.answer(key);
 }
 
 /// Notifies all paths of an end of what a chunk says of its DATA.

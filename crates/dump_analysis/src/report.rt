@@ -5,7 +5,8 @@ use crate::association::{Association, Began, Ended, Established, Side};
 use crate::counts::Counts;
 use crate::delays::Delays;
 use crate::end::End;
-use crate::key_vector::KeyVectors;
+use crate::icmp_errors::IcmpErrors;
+use crate::key_vectors::KeyVectors;
 use crate::moment::Moment;
 use crate::packet_number::{PacketNumber, PacketText};
 use crate::path::Path;
@@ -193,6 +194,7 @@ impl<'a> AssociationReport<'a> {
         self.write_skipped(end, out);
         self.write_sacks(end, out);
         self.write_heartbeats(end, out);
+        self.write_icmp_errors(&end.icmp_errors, out);
         self.write_requests(end, out);
         write_stale_cookies(&end.counts, out);
         if end.authentication.are_some() {
@@ -346,6 +348,24 @@ impl<'a> AssociationReport<'a> {
         out.say("\n")
     }
 
+    /// Writes the line of ICMP errors, if there are some.
+    fn write_icmp_errors(&self, errors: &IcmpErrors, out: &mut Text<'_>) {
+        let Some(last) = errors.last else {
+            return;
+        };
+        let (count, kind, code) = (errors.count, last.kind, last.code);
+        let packet = self.packet(last.packet);
+        write!(
+            out,
+            "  ICMP errors {count}: last type {kind}, code {code} in {packet}"
+        );
+        if let Some(least) = errors.least_mtu {
+            let (mtu, packet) = (least.mtu, self.packet(least.packet));
+            write!(out, "; least mtu {mtu} ({packet})");
+        }
+        out.say("\n")
+    }
+
     /// Writes the line of requests to reconfigure streams, if there are some.
     fn write_requests(&self, end: &End, out: &mut Text<'_>) {
         let (sent, unanswered) = (end.requests.count, end.requests.unanswered.count);
@@ -436,7 +456,7 @@ fn write_end(end: &End, out: &mut Text<'_>) {
 
 /// Writes the line of the chunk types that an end listed (RFC 4895 section 3.2), if it listed some.
 fn write_chunk_list(vectors: &KeyVectors, out: &mut Text<'_>) {
-    let Some(vector) = vectors.last() else {
+    let Some(vector) = &vectors.last else {
         return;
     };
     let mut separator = "  Chunk List: ";

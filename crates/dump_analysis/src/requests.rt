@@ -36,9 +36,8 @@ impl Requests {
         for parameter in value.items() {
             if is_request(parameter.code()) && parameter.value.bytes.len() >= 4 {
                 let key = u64::from(read_u32_be(parameter.value.bytes));
-                if !self.unanswered.has_asked(key) {
+                if self.unanswered.ask_once(key, packet) {
                     increase(&mut self.count);
-                    self.unanswered.ask(key, packet);
                 }
             }
         }

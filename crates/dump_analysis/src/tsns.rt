@@ -9,7 +9,7 @@ use crate::packet_number::PacketNumber;
 use crate::serial::is_after;
 
 /// How many TSNs up to the greatest one are remembered one by one.
-const WINDOW: u32 = 2_048;
+pub const WINDOW: u32 = 2_048;
 
 /// How many words hold a bit for each of them.
 const WORDS: usize = 32;

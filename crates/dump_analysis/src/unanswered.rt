@@ -77,8 +77,22 @@ impl Unanswered {
         }
     }
 
+    /// Notes a question as `ask` does, unless one of the last 8 has its key: that one is asked again.
+    /// Returns whether it is noted.
+    pub fn ask_once(&mut self, key: u64, packet: PacketNumber) -> bool
+        ensures new { IsTrue result ↔ ¬ (Any (HasKey key) self.old.asked) }
+        ensures asks { IsTrue result → Asks self.old key packet self.new }
+        ensures again { ¬ (IsTrue result) → self.new ≡ self.old }
+    {
+        let is_new = !self.has_asked(key);
+        if is_new {
+            self.ask(key, packet);
+        }
+        is_new
+    }
+
     /// Returns whether one of the last 8 questions has this key, answered or not.
-    pub fn has_asked(&self, key: u64) -> bool
+    fn has_asked(&self, key: u64) -> bool
         ensures { IsTrue result ↔ Any (HasKey key) self.now.asked }
     {
         for question in &self.asked {

@@ -9,6 +9,7 @@ pub mod JoinedPackets
 pub mod Readings
 pub mod Fronts
 pub mod PcapItems
+pub mod HexLemmas
 pub mod Handed
 pub mod TextLines
 pub mod Options
@@ -18,3 +19,4 @@ pub mod PcapReads
 pub mod OneReading
 pub mod OneFile
 pub mod SomeFile
+pub mod PcapngWritten

@@ -85,11 +85,16 @@ unfoldable pub may_carry_sctp : ℕ → Bool
 may_carry_sctp number =
     number == 132 || number == 17 || number == 51 || number == 4 || number == 41 || number == 47
 
+-- These are read, and ICMP (protocol 1), which may quote SCTP, but in a fragment.
+abbrev pub is_read : List ℕ → Bool
+is_read bytes =
+    may_carry_sctp (byte_at 9 bytes) || byte_at 9 bytes == 1 && not (is_ipv4_fragment bytes)
+
 unfoldable pub ipv4 : Payload → Result Payload NoPacket
 ipv4 p =
     if nat_lt (length p.bytes) 20 then Err Cut else
     if not (ip_version p.bytes == 4) then Err Malformed else
-    if not (may_carry_sctp (byte_at 9 p.bytes)) then Err Other else
+    if not (is_read p.bytes) then Err Other else
     if nat_lt (ipv4_header_size p.bytes) 20 then Err Malformed else
     if nat_lt (ipv4_length p) (ipv4_header_size p.bytes) then Err Malformed else
     if is_ipv4_fragment p.bytes then Err Fragment else
@@ -268,10 +273,14 @@ abbrev pub in_frame : ℕ → ℕ → List ℕ → Payload
 in_frame link original_length frame =
     record { addresses = None; protocol = Link link; size = original_length; bytes = frame }
 
+-- what is after all headers and tunnels of a frame, four tunnels at most
+abbrev pub innermost : ℕ → ℕ → ℕ → List ℕ → Result Payload NoPacket
+innermost port link original_length frame =
+    past_headers (2 ^ 16) (in_frame link original_length frame) >>= past_tunnels 4 port
+
 -- The packet in a frame, in UDP if it is on this port, and in four tunnels at most. At most 65,536
 -- headers are read of a frame, and of what each tunnel carries; a frame of 262,144 bytes has no
 -- more: each has four bytes at least.
 unfoldable pub packet_in : ℕ → ℕ → ℕ → List ℕ → Result Packet NoPacket
 packet_in port link original_length frame =
-    past_headers (2 ^ 16) (in_frame link original_length frame) >>= past_tunnels 4 port
-    >>= carried port
+    innermost port link original_length frame >>= carried port

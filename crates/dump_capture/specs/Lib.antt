@@ -14,14 +14,17 @@ pub mod Frame
 pub mod Tunnels
 pub mod IpFragment
 pub mod Found
+pub mod Icmp
 pub mod Stamp
 pub mod Sent
 pub mod Event
 pub mod Reassembly
 pub mod Expanded
 pub mod Decoding
+pub mod HexBytes
 pub mod PcapEvents
 pub mod Text
 pub mod Pcapng
 pub mod PcapngEvents
 pub mod PcapngState
+pub mod PcapngFile

@@ -8,7 +8,7 @@ use crate::parts::after;
 pub(crate) fn link_of(form: DumpForm, bytes: &[u8]) -> u16 {
     match form {
         DumpForm::Tcpdump => link_or(link_type::RAW_IP, bytes),
-        DumpForm::Xxd | DumpForm::Hexdump | DumpForm::Wireshark => link_of_any(bytes),
+        _ => link_of_any(bytes),
     }
 }
 

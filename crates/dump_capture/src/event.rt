@@ -85,6 +85,9 @@ pub enum Skipped {
     Unknown,
     /// A line of a dump whose offset doesn't continue the line before it.
     Apart,
+    /// The first line of a dump that doesn't say the packet: of one by `xxd -e`, where the bytes of
+    /// each word are in the opposite order, or by `od -An` with lines that are as the one before.
+    UnreadDump,
 }
 
 /// Takes events, one a call: a printer, a filter, counts.

@@ -2,10 +2,11 @@
 
 ghost use Rattle.std.specs.Prelude.{◌≡◌, ◌≤◌, ◌+◌, length};
 ghost use Rattle.dump_capture.specs.Number.{number16};
-ghost use Rattle.dump_capture.specs.Frame.{packet_in, in_frame, is_known_link, is_header, is_ip_family, is_extension, is_ipv6_fragment, extension_size, may_carry_sctp, packet, carried, in_udp, past_header, past_headers, past_tunnels, through_tunnel, on_link, hdlc, loopback, typed, of_type, label, ip, ipv4, ipv6, ipv4_header_size, ipv4_length, ipv4_addresses, ipv6_addresses, extension};
+ghost use Rattle.dump_capture.specs.Frame.{packet_in, in_frame, is_known_link, innermost, is_header, is_ip_family, is_read, is_extension, is_ipv4_fragment, is_ipv6_fragment, extension_size, may_carry_sctp, packet, carried, in_udp, past_header, past_headers, past_tunnels, through_tunnel, on_link, hdlc, loopback, typed, of_type, label, ip, ipv4, ipv6, ipv4_header_size, ipv4_length, ipv4_addresses, ipv6_addresses, extension};
 ghost use Rattle.dump_capture.specs.Found.{found, packet_of, payload_of, payload_result};
 
 use crate::gtp::gtp_extension;
+use crate::icmp::ICMP_PROTOCOL;
 use crate::nflog::{attribute, nflog};
 use crate::payload::{Payload, Protocol, past};
 use crate::ppp::{framed_ppp, in_session};
@@ -166,9 +167,21 @@ pub fn packet_in(
 ) -> Result<FoundPacket<'_>, NoPacket>
     ensures { found result ≡ packet_in udp_port link_type original_length frame.now }
 {
-    let outer = past_headers(in_frame(link_type, original_length, frame))?;
-    let payload = past_tunnels(udp_port, outer)?;
+    let payload = innermost(udp_port, link_type, original_length, frame)?;
     carried(udp_port, payload)
+}
+
+/// Returns the payload after all headers and tunnels of a frame.
+pub(crate) fn innermost(
+    udp_port: u16,
+    link_type: u16,
+    original_length: u32,
+    frame: &[u8],
+) -> Result<Payload<'_>, NoPacket>
+    ensures { payload_result result ≡ innermost udp_port link_type original_length frame.now }
+{
+    let outer = past_headers(in_frame(link_type, original_length, frame))?;
+    past_tunnels(udp_port, outer)
 }
 
 /// Returns the payload that a link's header begins: the whole frame.
@@ -201,7 +214,7 @@ fn packet(
 }
 
 /// Returns the packet after the headers of the link and of IP.
-fn carried(udp_port: u16, payload: Payload<'_>) -> Result<FoundPacket<'_>, NoPacket>
+pub(crate) fn carried(udp_port: u16, payload: Payload<'_>) -> Result<FoundPacket<'_>, NoPacket>
     ensures { found result ≡ carried udp_port (payload_of payload.entry) }
 {
     match payload.protocol {
@@ -433,7 +446,7 @@ fn ipv4(packet: Payload<'_>) -> Result<Payload<'_>, NoPacket>
         return Err(NoPacket::Malformed);
     }
     let number = bytes[9];
-    if !may_carry_sctp(number) {
+    if !is_read(bytes) {
         return Err(NoPacket::Other);
     }
     let header = ipv4_header_size(bytes);
@@ -444,7 +457,7 @@ fn ipv4(packet: Payload<'_>) -> Result<Payload<'_>, NoPacket>
     if total < header {
         return Err(NoPacket::Malformed);
     }
-    if number16(&bytes[6..]) % 0x4000 != 0 {
+    if is_ipv4_fragment(bytes) {
         return Err(NoPacket::Fragment);
     }
     if bytes.len() < header {
@@ -585,6 +598,23 @@ fn is_extension(number: u8) -> bool
         number,
         0 | 43 | FRAGMENT_HEADER | AUTHENTICATION_HEADER | 60 | 140
     )
+}
+
+/// Returns whether what an IPv4 packet carries is read: what may carry SCTP, or ICMP that is no
+/// fragment.
+fn is_read(bytes: &[u8]) -> bool
+    requires { 20 ≤ length bytes.now }
+    ensures { result ≡ is_read bytes.now }
+{
+    may_carry_sctp(bytes[9]) || bytes[9] == ICMP_PROTOCOL && !is_ipv4_fragment(bytes)
+}
+
+/// Returns whether an IPv4 header is that of one of several fragments.
+fn is_ipv4_fragment(bytes: &[u8]) -> bool
+    requires { 20 ≤ length bytes.now }
+    ensures { result ≡ is_ipv4_fragment bytes.now }
+{
+    number16(&bytes[6..]) % 0x4000 != 0
 }
 
 /// Returns whether this protocol in IPv4 may carry SCTP.

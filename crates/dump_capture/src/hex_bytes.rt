@@ -1,7 +1,11 @@
 //! Bytes that a text says in hexadecimal digits.
 
-ghost use Rattle.std.specs.Prelude.{◌<◌, ◌≤◌, length, IfSome, IsTrue};
+ghost use Rattle.std.specs.Prelude.{◌≡◌, ◌<◌, ◌≤◌, [], length, slice_index, IfSome, IsTrue};
 ghost use Rattle.std.specs.Iterator.{at_most};
+ghost use Rattle.std.specs.Char.{is_ascii_hexdigit, digit_value};
+ghost use Rattle.dump_capture.specs.HexBytes.{AreAppended, Continues, is_blank};
+
+use crate::parts::after;
 
 /// The bytes that a text says: two digits a byte, of either case, with blanks anywhere but in a
 /// byte.
@@ -9,13 +13,15 @@ ghost use Rattle.std.specs.Iterator.{at_most};
 /// The text was checked, so `next` has no error.
 #[derive(Debug, Drop)]
 pub struct HexBytes<'a> {
-    text: &'a [u8],
+    pub(crate) text: &'a [u8],
 }
 
 impl<'a> HexBytes<'a> {
     /// Returns the bytes that a text says; nothing if it has another byte than a digit, a space, a
     /// tab or a carriage return, or half a byte.
-    pub fn from_text(text: &'a [u8]) -> Option<HexBytes<'a>> {
+    pub fn from_text(text: &'a [u8]) -> Option<HexBytes<'a>>
+        ensures { IfSome result (λ h. h.text.now ≡ text.now) }
+    {
         if says_bytes(text) {
             Some(HexBytes { text })
         } else {
@@ -23,12 +29,12 @@ impl<'a> HexBytes<'a> {
         }
     }
 
-    /// Appends the bytes that are left to a vector that has room for them; where it has none, they
-    /// are left out.
-    pub(crate) fn append_reserved(self, output: &mut Vec<u8>) {
-        for byte in self {
-            push_reserved(output, byte);
-        }
+    /// Appends the bytes that are left to a vector that has room for them, and returns true; false
+    /// if it has none for some, which are left out.
+    pub(crate) fn append_reserved(self, output: &mut Vec<u8>) -> bool
+        ensures { IsTrue result → AreAppended self.entry.text.now output.old.items output.new.items }
+    {
+        append_said(self.text, output)
     }
 }
 
@@ -49,6 +55,22 @@ impl<'a> Iterator for HexBytes<'a> {
     }
 }
 
+/// Appends the bytes that a text says to a vector, and returns true; false if it says no bytes, or
+/// the vector has no room for some.
+fn append_said(text: &[u8], output: &mut Vec<u8>) -> bool
+    ensures { IsTrue result → AreAppended text.now output.old.items output.new.items }
+{
+    let mut rest = without_blanks_before(text);
+    while !rest.is_empty() {
+        if output.len() >= output.capacity() || !begins_with_byte(rest) {
+            return false;
+        }
+        output.push_reserved(16 * digit(rest[0]) + digit(rest[1]));
+        rest = without_blanks_before(after(rest, 2));
+    }
+    true
+}
+
 /// Appends a byte to a vector that has room for it.
 pub(crate) fn push_reserved(output: &mut Vec<u8>, byte: u8) {
     if output.len() < output.capacity() {
@@ -57,7 +79,7 @@ pub(crate) fn push_reserved(output: &mut Vec<u8>, byte: u8) {
 }
 
 /// Returns the first byte that a text says, and the text after it; nothing if it says none.
-fn front_byte(text: &[u8]) -> Option<(u8, &[u8])>
+pub(crate) fn front_byte(text: &[u8]) -> Option<(u8, &[u8])>
     ensures { IfSome result (λ p. length p.1.now < length text.now) }
 {
     let text = without_blanks_before(text);
@@ -69,7 +91,8 @@ fn front_byte(text: &[u8]) -> Option<(u8, &[u8])>
 
 /// Returns the value of a digit of either case; 0 of another byte.
 pub(crate) fn digit(byte: u8) -> u8
-    ensures { result < 16 }
+    ensures bound { result < 16 }
+    ensures value { IsTrue (is_ascii_hexdigit byte) → result ≡ digit_value byte }
 {
     match byte {
         b'0'..=b'9' => byte - b'0',
@@ -81,10 +104,15 @@ pub(crate) fn digit(byte: u8) -> u8
 
 /// Returns the text from its first byte on that isn't blank.
 pub(crate) fn without_blanks_before(text: &[u8]) -> &[u8]
-    ensures { length result.now ≤ length text.now }
+    ensures size { length result.now ≤ length text.now }
+    ensures same { Continues text.now [] result.now }
 {
-    let blanks = text.iter().position(|byte| !is_blank(*byte));
-    &text[blanks.unwrap_or(text.len())..]
+    for place in 0..text.len() {
+        if !is_blank(text[place]) {
+            return after(text, place);
+        }
+    }
+    &[]
 }
 
 /// Returns whether the text says bytes.
@@ -101,12 +129,16 @@ fn says_bytes(text: &[u8]) -> bool {
 
 /// Returns whether two digits are at the front.
 pub(crate) fn begins_with_byte(text: &[u8]) -> bool
-    ensures { IsTrue result → 1 < length text.now }
+    ensures size { IsTrue result → 1 < length text.now }
+    ensures digits { IsTrue result → IsTrue (is_ascii_hexdigit (slice_index text.now 0))
+        × IsTrue (is_ascii_hexdigit (slice_index text.now 1)) }
 {
     text.len() > 1 && text[0].is_ascii_hexdigit() && text[1].is_ascii_hexdigit()
 }
 
 /// Returns whether the byte is a space, a tab or a carriage return.
-pub(crate) fn is_blank(byte: u8) -> bool {
+pub(crate) fn is_blank(byte: u8) -> bool
+    ensures { result ≡ is_blank byte }
+{
     matches!(byte, b' ' | b'\t' | b'\r')
 }

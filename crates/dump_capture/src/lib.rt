@@ -1,9 +1,10 @@
 //! Finds SCTP packets in captures: in pcap and pcapng files, in frames of a link, and in lines of
 //! text.
 //!
-//! Every function takes bytes in memory. What is returned of files and frames, a definition of
-//! `specs/` says; what lines of text hold is tested. Only `TextDecoder::new`,
-//! `PcapngDecoder::new` and what puts fragments together allocate.
+//! Every function takes bytes in memory. What is returned of files and frames, and written of them,
+//! a definition of `specs/` says, and so it does what digits say; the forms of lines of text are
+//! tested. Only `TextDecoder::new`, `PcapngDecoder::new`, `PcapngWriter` and what puts fragments
+//! together allocate.
 #![tactic(auto)]
 
 pub mod decoder;
@@ -15,6 +16,7 @@ mod geneve;
 mod gre;
 mod gtp;
 pub mod hex_bytes;
+pub mod icmp;
 pub mod ip_fragment;
 pub mod laws;
 pub mod line;
@@ -26,9 +28,11 @@ pub mod pcap;
 pub mod pcap_decoder;
 pub mod pcapng;
 pub mod pcapng_decoder;
+pub mod pcapng_writer;
 mod ppp;
 pub mod reassembler;
 pub mod reassembly;
+mod row;
 pub mod stamp;
 pub mod text;
 mod tunnel;

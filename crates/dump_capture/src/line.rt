@@ -1,13 +1,19 @@
 //! Lines of text that hold packets: in hexadecimal, of a log, or of a dump with offsets.
 
-ghost use Rattle.std.specs.Prelude.{◌≤◌, length};
+ghost use Rattle.std.specs.Prelude.{◌<◌, ◌≤◌, length};
+ghost use Rattle.dump_capture.specs.Text.{IsRead};
 
-use crate::hex_bytes::{HexBytes, begins_with_byte, digit, is_blank, without_blanks_before};
+use crate::hex_bytes::{
+    HexBytes, begins_with_byte, digit, front_byte, is_blank, without_blanks_before,
+};
 use crate::log_text::LogText;
 use crate::parts::{after, front};
 
 /// How many bytes the mark of a log has, `# SCTP_PACKET`.
 const MARK_SIZE: usize = 13;
+
+/// How many bytes four words of eight digits and the blanks between them have.
+const WORDS_SIZE: usize = 35;
 
 /// Where a logged packet went.
 #[derive(Clone, Copy, Debug, PartialEq, Eq)]
@@ -42,8 +48,16 @@ pub enum DumpForm {
     /// Of `hexdump -C` and `od -A x -t x1`: `00000010  13 88 13 88 ..`. Nothing says what the bytes
     /// are.
     Hexdump,
+    /// Of `od -A d -t x1` and `od -t x1`: `0000016 13 88 13 88 ..`. Only the lines together say in
+    /// which base the offsets are, and nothing what the bytes are.
+    Od,
     /// Of Wireshark and `tshark -x`: `0010  13 88 13 88 ..`. Nothing says what the bytes are.
     Wireshark,
+    /// Of `xxd -p`: `138813880a0b ..`, 30 bytes a line, without offsets. Nothing says what they are.
+    PlainXxd,
+    /// Of `od -An -t x1`: ` 13 88 13 88 ..`, 16 bytes a line, without offsets. Nothing says what
+    /// they are.
+    PlainOd,
 }
 
 /// A line of a dump.
@@ -51,10 +65,13 @@ pub enum DumpForm {
 pub struct DumpedBytes<'a> {
     /// What wrote it.
     pub form: DumpForm,
-    /// The offset of its first byte in the packet.
+    /// The offset of its first byte in the packet, as hexadecimal digits say it.
     pub offset: u32,
     /// Its bytes.
     pub bytes: HexBytes<'a>,
+    /// Whether the characters behind them say that each four are in the opposite order, as `xxd -e`
+    /// writes them.
+    pub is_swapped: bool,
 }
 
 /// What a line says.
@@ -109,8 +126,8 @@ pub fn place_of(offset: u32, held: usize) -> Place {
 /// - one to eight digits, a colon and a blank: `Dumped`, as `xxd` writes it; in both forms of dump,
 ///   two blanks in a row end the bytes, and only printable ASCII may follow;
 /// - six to eight digits, blanks and a byte: `Dumped`, as `hexdump -C` writes it, where the first
-///   `|` ends the bytes, and as `od -A x -t x1` does; the digits alone, of which the first two are
-///   0, are the last line, which says the length;
+///   `|` ends the bytes, and as `od -t x1` does, of seven digits with any base of offsets; the digits
+///   alone, of which the first two are 0, are the last line, which says the length;
 /// - four digits, two blanks and a byte: `Dumped`, as Wireshark writes it; two blanks in a row end
 ///   the bytes;
 /// - `I ` or `O `, a time and `0000 `, anywhere: `Logged`, as WebRTC logs packets for `text2pcap`:
@@ -156,7 +173,9 @@ fn is_asterisk(text: &[u8]) -> bool {
 }
 
 /// Reads a line of digits.
-fn packet_line(text: &[u8]) -> Line<'_> {
+fn packet_line(text: &[u8]) -> Line<'_>
+    ensures { IsRead text.now result }
+{
     match HexBytes::from_text(text) {
         Some(bytes) => Line::Packet(bytes),
         None => Line::Unknown,
@@ -257,19 +276,51 @@ fn dump_line(form: DumpForm, text: &[u8]) -> Line<'_> {
         return Line::Unknown;
     }
     let offset = number_before(text);
-    let rest = after(text, offset_length(text) + 1);
-    dumped(form, offset, dumped_bytes(without_blanks_before(rest)))
+    let rest = without_blanks_before(after(text, offset_length(text) + 1));
+    let swapped = form == DumpForm::Xxd && is_swapped(rest);
+    dumped(form, offset, dumped_bytes(rest), swapped)
 }
 
 /// Returns what a line of a dump says: nothing that is known, without bytes.
-fn dumped(form: DumpForm, offset: u32, bytes: Option<HexBytes<'_>>) -> Line<'_> {
+fn dumped(form: DumpForm, offset: u32, bytes: Option<HexBytes<'_>>, is_swapped: bool) -> Line<'_> {
     match bytes {
         Some(bytes) => Line::Dumped(DumpedBytes {
             form,
             offset,
             bytes,
+            is_swapped,
         }),
         None => Line::Unknown,
+    }
+}
+
+/// Returns whether the text is 16 bytes in words of four, and a character behind them is that of
+/// the byte that is in its place if the bytes of each word are in the opposite order.
+fn is_swapped(text: &[u8]) -> bool {
+    if groups_length(text) != WORDS_SIZE {
+        return false;
+    }
+    let characters = after(text, WORDS_SIZE + 2);
+    for place in 0..characters.len() {
+        let character = characters[place];
+        if place < 16
+            && character != b'.'
+            && character != word_byte(text, place)
+            && character == word_byte(text, place / 4 * 4 + 3 - place % 4)
+        {
+            return true;
+        }
+    }
+    false
+}
+
+/// Returns the byte at this place of words of eight digits; 0 where none is.
+fn word_byte(words: &[u8], place: usize) -> u8
+    requires { place < 16 }
+{
+    match front_byte(after(words, place / 4 * 9 + place % 4 * 2)) {
+        Some((byte, _)) => byte,
+        None => 0,
     }
 }
 
@@ -283,16 +334,25 @@ fn past_offset(text: &[u8]) -> &[u8] {
     without_blanks_before(after(text, offset_length(text)))
 }
 
-/// Reads a line of a dump by `hexdump`.
+/// Reads a line of a dump by `hexdump` or `od`.
 fn hexdump_line(text: &[u8]) -> Line<'_> {
-    let offset = number_before(text);
-    dumped(DumpForm::Hexdump, offset, barred_bytes(past_offset(text)))
+    let form = if offset_length(text) == 7 {
+        DumpForm::Od
+    } else {
+        DumpForm::Hexdump
+    };
+    dumped(
+        form,
+        number_before(text),
+        barred_bytes(past_offset(text)),
+        false,
+    )
 }
 
 /// Reads a line of a dump by Wireshark.
 fn wireshark_line(text: &[u8]) -> Line<'_> {
-    let offset = number_before(text);
-    dumped(DumpForm::Wireshark, offset, dumped_bytes(past_offset(text)))
+    let bytes = dumped_bytes(past_offset(text));
+    dumped(DumpForm::Wireshark, number_before(text), bytes, false)
 }
 
 /// Returns whether the text begins with six to eight digits and a byte, or is a length.
@@ -331,7 +391,7 @@ fn has_offset(text: &[u8]) -> bool {
 }
 
 /// Returns how many digits the text begins with.
-fn offset_length(text: &[u8]) -> usize
+pub(crate) fn offset_length(text: &[u8]) -> usize
     ensures { result ≤ length text.now }
 {
     let digits = text.iter().position(|byte| !byte.is_ascii_hexdigit());

@@ -1,15 +1,16 @@
 //! The events of a text: packets in hexadecimal, of logs and of dumps.
 
 ghost use Rattle.std.specs.Prelude.{◌≡◌, ◌==◌, position};
-ghost use Rattle.dump_capture.specs.Text.{State, Item, End, HandsSome};
+ghost use Rattle.dump_capture.specs.Text.{State, Item, End, HandsSome, HandsOne, Carries, IsSkip, IsSaidBy};
 
 use crate::decoder::{Decoder, Extent, MOST_KEPT, Next};
 use crate::dump::{link_of, link_of_any};
 use crate::event::{Part, Seen, Sink, Skipped, Time};
-use crate::frame::link_type;
+use crate::frame::{link_type, number16};
 use crate::hex_bytes::{HexBytes, push_reserved};
 use crate::line::{DumpForm, DumpedBytes, Line, LoggedPacket, Place, place_of, read_line};
 use crate::parts::{after, front};
+use crate::row::{Row, row_of};
 use crate::stamp::{Stamp, read_stamp};
 use std::alloc::{AllocError, Global};
 
@@ -28,6 +29,10 @@ pub struct TextDecoder {
     form: Option<DumpForm>,
     /// Whether its bytes go on as the last 16 do.
     repeats: bool,
+    /// The base of its offsets; 0 if none is known before a line continues it.
+    base: u32,
+    /// Whether it doesn't say its packet.
+    is_unread: bool,
     /// The number of its first line.
     first_line: u64,
     /// How many packets there were.
@@ -47,6 +52,8 @@ impl TextDecoder {
             bytes: Vec::with_capacity(alloc, MOST_KEPT + MOST_SAID)?,
             form: None,
             repeats: false,
+            base: 16,
+            is_unread: false,
             first_line: 0,
             packets: 0,
             lines: 0,
@@ -80,7 +87,7 @@ impl TextDecoder {
             let said = read_line(line);
             let below = stamp_below(&said, own, self.stamp);
             self.count_line(own.or(self.stamp));
-            self.take_said(said, sink);
+            self.take_said(said, row_of(line), sink);
             self.stamp = below;
         }
     }
@@ -110,17 +117,14 @@ impl TextDecoder {
 
     /// Passes on the events of a line that says this.
     #[tactic(auto, using(crate::proofs::Handed::some_then_some))]
-    fn take_said<S: Sink>(&mut self, line: Line<'_>, sink: &mut S)
+    fn take_said<S: Sink>(&mut self, line: Line<'_>, row: Option<Row>, sink: &mut S)
         ensures { HandsSome S.handed sink.old sink.new }
     {
         match line {
             Line::Dumped(part) => self.take_part(part, sink),
             Line::Repeats => self.take_repeats(sink),
             Line::Blank | Line::Comment => self.end_dump(sink),
-            Line::Packet(bytes) => {
-                self.end_dump(sink);
-                self.take_packet(bytes, sink);
-            }
+            Line::Packet(bytes) => self.take_digits(bytes, row, sink),
             Line::Logged(logged) => {
                 self.end_dump(sink);
                 self.take_logged(logged, sink);
@@ -132,14 +136,54 @@ impl TextDecoder {
         }
     }
 
-    /// Passes on the events of a line of digits, where no dump is open.
-    fn take_packet<S: Sink>(&mut self, bytes: HexBytes<'_>, sink: &mut S)
+    /// Passes on the events of a line of digits: a full row of a dump without offsets, or one that
+    /// continues such a dump, is a part of it; any other line is a packet.
+    #[tactic(auto, using(crate::proofs::Handed::some_then_some))]
+    fn take_digits<S: Sink>(&mut self, bytes: HexBytes<'_>, row: Option<Row>, sink: &mut S)
         ensures { HandsSome S.handed sink.old sink.new }
     {
+        if let Some(row) = row
+            && (row.is_full || self.is_open(row.form))
+        {
+            self.take_row(bytes, row, sink);
+            return;
+        }
+        self.end_dump(sink);
+        self.take_packet(bytes, sink);
+    }
+
+    /// Passes on the events of a row, which begins a dump or continues one. A row that isn't full is
+    /// the last one, and so is a first one that is a whole packet.
+    #[tactic(auto, using(crate::proofs::Handed::some_then_some))]
+    fn take_row<S: Sink>(&mut self, bytes: HexBytes<'_>, row: Row, sink: &mut S)
+        ensures { HandsSome S.handed sink.old sink.new }
+    {
+        let begins = !self.is_open(row.form);
+        let held = if begins { 0 } else { self.bytes.len() };
+        let part = DumpedBytes {
+            form: row.form,
+            offset: u32::try_from(held).unwrap_or(u32::MAX),
+            bytes,
+            is_swapped: false,
+        };
+        self.take_part(part, sink);
+        if !row.is_full || begins && is_whole(&self.bytes) {
+            self.end_dump(sink);
+        }
+    }
+
+    /// Passes on the events of a line of digits, where no dump is open.
+    fn take_packet<S: Sink>(&mut self, bytes: HexBytes<'_>, sink: &mut S)
+        ensures some { HandsSome S.handed sink.old sink.new }
+        ensures said { HandsOne S.handed sink.old sink.new (IsSaidBy bytes.entry.text.now) }
+    {
         self.bytes.clear();
-        bytes.append_reserved(&mut self.bytes);
+        if !bytes.append_reserved(&mut self.bytes) {
+            skip_at(self.lines, Skipped::TooLong, sink);
+            return;
+        }
         if self.bytes.len() < HEADER_SIZE {
-            self.skip(Skipped::Unknown, sink);
+            skip_at(self.lines, Skipped::Unknown, sink);
             return;
         }
         self.packets = self.packets.saturating_add(1);
@@ -150,11 +194,15 @@ impl TextDecoder {
 
     /// Passes on a packet of a log, where no dump is open.
     fn take_logged<S: Sink>(&mut self, logged: LoggedPacket<'_>, sink: &mut S)
-        ensures { HandsSome S.handed sink.old sink.new }
+        ensures some { HandsSome S.handed sink.old sink.new }
+        ensures said { HandsOne S.handed sink.old sink.new (IsSaidBy logged.entry.packet.text.now) }
     {
-        self.packets = self.packets.saturating_add(1);
         self.bytes.clear();
-        logged.packet.append_reserved(&mut self.bytes);
+        if !logged.packet.append_reserved(&mut self.bytes) {
+            skip_at(self.lines, Skipped::TooLong, sink);
+            return;
+        }
+        self.packets = self.packets.saturating_add(1);
         let time = Time::OfDay {
             time: logged.time,
             direction: logged.direction,
@@ -170,16 +218,21 @@ impl TextDecoder {
     fn take_part<S: Sink>(&mut self, part: DumpedBytes<'_>, sink: &mut S)
         ensures { HandsSome S.handed sink.old sink.new }
     {
-        if !self.is_continued_by(&part) {
-            self.end_dump(sink);
-            self.begin_dump(part, sink);
-        } else if self.bytes.len() > MOST_KEPT || part.offset as usize > MOST_KEPT {
-            self.form = None;
-            self.skip(Skipped::TooLong, sink);
-        } else {
-            repeat_to(part.offset as usize, self.repeats, &mut self.bytes);
-            self.repeats = false;
-            part.bytes.append_reserved(&mut self.bytes);
+        match self.continued_at(&part) {
+            None => {
+                self.end_dump(sink);
+                self.begin_dump(part, sink);
+            }
+            Some(offset) if self.bytes.len() > MOST_KEPT || offset > MOST_KEPT => {
+                self.form = None;
+                self.skip(Skipped::TooLong, sink);
+            }
+            Some(offset) => {
+                repeat_to(offset, self.repeats, &mut self.bytes);
+                self.repeats = false;
+                self.is_unread = self.is_unread || part.is_swapped;
+                self.append(part.bytes, sink);
+            }
         }
     }
 
@@ -190,27 +243,44 @@ impl TextDecoder {
     {
         if self.may_repeat() {
             self.repeats = true;
+        } else if self.is_open(DumpForm::PlainOd) {
+            self.is_unread = true;
         } else {
             self.end_dump(sink);
             self.skip(Skipped::Unknown, sink);
         }
     }
 
-    /// Returns whether an asterisk says that the open dump repeats its last line.
-    fn may_repeat(&self) -> bool {
+    /// Returns whether a dump of this form is open.
+    fn is_open(&self, form: DumpForm) -> bool {
         match self.form {
-            Some(form) => form == DumpForm::Hexdump && self.bytes.len() >= 16,
+            Some(open) => open == form,
             None => false,
         }
     }
 
-    /// Returns whether a line continues the open dump.
-    fn is_continued_by(&self, part: &DumpedBytes<'_>) -> bool {
+    /// Returns whether an asterisk says that the open dump repeats its last line.
+    fn may_repeat(&self) -> bool {
         match self.form {
-            Some(form) => {
-                part.form == form && reaches(part.offset, self.bytes.len(), self.repeats)
-            }
-            None => false,
+            Some(DumpForm::Hexdump | DumpForm::Od) => self.bytes.len() >= 16,
+            _ => false,
+        }
+    }
+
+    /// Returns the offset at which a line continues the open dump; nothing if it doesn't.
+    fn continued_at(&mut self, part: &DumpedBytes<'_>) -> Option<usize> {
+        if !self.is_open(part.form) {
+            return None;
+        }
+        let held = self.bytes.len();
+        if self.base == 0 {
+            self.base = base_of(part.offset, held);
+        }
+        let offset = offset_in(self.base, part.offset);
+        if reaches(offset, held, self.repeats) {
+            Some(offset as usize)
+        } else {
+            None
         }
     }
 
@@ -224,19 +294,31 @@ impl TextDecoder {
         }
         self.form = Some(part.form);
         self.repeats = false;
+        self.base = if part.form == DumpForm::Od { 0 } else { 16 };
+        self.is_unread = part.is_swapped;
         self.first_line = self.lines;
         self.bytes.clear();
-        part.bytes.append_reserved(&mut self.bytes);
+        self.append(part.bytes, sink);
+    }
+
+    /// Appends the bytes of a line to the open dump, which ends where it has no room for them.
+    fn append<S: Sink>(&mut self, bytes: HexBytes<'_>, sink: &mut S)
+        ensures { HandsSome S.handed sink.old sink.new }
+    {
+        if !bytes.append_reserved(&mut self.bytes) {
+            self.form = None;
+            self.skip(Skipped::TooLong, sink);
+        }
     }
 
     /// Passes on that the line holds no packet.
     fn skip<S: Sink>(&self, why: Skipped, sink: &mut S)
         ensures { HandsSome S.handed sink.old sink.new }
     {
-        sink.skipped(Part::Line, self.lines, why);
+        skip_at(self.lines, why, sink);
     }
 
-    /// Passes on the packet of the open dump, if one is open.
+    /// Passes on the packet of the open dump, or that the dump doesn't say it, if one is open.
     fn end_dump<S: Sink>(&mut self, sink: &mut S)
         ensures { HandsSome S.handed sink.old sink.new }
     {
@@ -244,6 +326,10 @@ impl TextDecoder {
             return;
         };
         self.form = None;
+        if self.is_unread {
+            skip_at(self.first_line, Skipped::UnreadDump, sink);
+            return;
+        }
         self.packets = self.packets.saturating_add(1);
         let bytes = self.bytes.as_slice();
         let link = link_of(form, bytes);
@@ -291,6 +377,13 @@ impl Decoder for TextDecoder {
     }
 }
 
+/// Passes on that a line holds no packet.
+fn skip_at<S: Sink>(line: u64, why: Skipped, sink: &mut S)
+    ensures { HandsOne S.handed sink.old sink.new IsSkip }
+{
+    sink.skipped(Part::Line, line, why);
+}
+
 /// Passes on a frame of a text.
 fn hand_on<S: Sink>(
     number: u64,
@@ -300,7 +393,7 @@ fn hand_on<S: Sink>(
     bytes: &[u8],
     sink: &mut S,
 )
-    ensures { HandsSome S.handed sink.old sink.new }
+    ensures { HandsOne S.handed sink.old sink.new (Carries bytes.now) }
 {
     let seen = Seen {
         number,
@@ -328,6 +421,44 @@ fn reaches(offset: u32, held: usize, repeats: bool) -> bool {
     } else {
         place_of(offset, held) == Place::Continues
     }
+}
+
+/// Returns the base, 16, 10 or 8, in which the hexadecimal digits of a number say `held`; 16 if they
+/// do so in none.
+fn base_of(number: u32, held: usize) -> u32 {
+    if offset_in(16, number) as usize == held {
+        16
+    } else if offset_in(10, number) as usize == held {
+        10
+    } else if offset_in(8, number) as usize == held {
+        8
+    } else {
+        16
+    }
+}
+
+/// Returns the number that the hexadecimal digits of a number say in a base; the greatest there is
+/// if one of them is no digit of it.
+fn offset_in(base: u32, number: u32) -> u32 {
+    let mut value = 0u32;
+    let mut rest = number;
+    let mut power = 1u32;
+    for _ in 0..8 {
+        let digit = rest % 16;
+        if digit >= base {
+            return u32::MAX;
+        }
+        value = value.wrapping_add(digit.wrapping_mul(power));
+        power = power.wrapping_mul(base);
+        rest /= 16;
+    }
+    value
+}
+
+/// Returns whether 16 bytes are a packet with one chunk of 4 bytes (RFC 9260 section 3.2), and don't
+/// begin as an IPv4 packet does.
+fn is_whole(bytes: &[u8]) -> bool {
+    bytes.len() == 16 && number16(&bytes[14..]) == 4 && bytes[0] != 0x45
 }
 
 /// Appends bytes up to this size, each as the one that is 16 bytes before it, if they are repeated;

@@ -2,13 +2,25 @@
 -- bytes the escapes, `\x` and two digits.
 use Rattle.std.specs.{Prelude.{◌≡◌, ◌-◌, ◌/◌, ◌%◌, ◌==◌, ◌||◌, ◌&&◌, ◌⊎◌, not, Bool, true, false, if◌then◌else◌, nat_lt, nat_le, ℕ, zero, suc, List, [], ◌∷◌, ◌++◌, length, take, slice_index, encode_utf8}, Char.{IsScalar}, Int.{is_in_range}, Str.{chars, is_utf8}, Fmt.{digit_glyph}}
 
--- The controls of the direction of text (U+061C, U+200E, U+200F, U+202A to U+202E, U+2066 to
--- U+2069), the ends of a line and a paragraph (U+2028, U+2029), and others that aren't seen.
+-- Unicode's other blanks (of the category Zs, and U+2800), and the ends of a line and a paragraph.
+unfoldable pub is_blank : ℕ → Bool
+is_blank c =
+    c == 0xA0 || c == 0x1680 || is_in_range 0x2000 0x200A c || is_in_range 0x2028 0x2029 c
+    || c == 0x202F || c == 0x205F || c == 0x2800 || c == 0x3000
+
+-- Those of the property Default_Ignorable_Code_Point, among them the controls of the direction of
+-- text (U+061C, U+200E, U+200F, U+202A to U+202E, U+2066 to U+2069), the interlinear annotations
+-- (U+FFF9 to U+FFFB), and all from U+E0000 on.
+unfoldable pub is_ignored : ℕ → Bool
+is_ignored c =
+    c == 0xAD || c == 0x034F || c == 0x061C || is_in_range 0x115F 0x1160 c
+    || is_in_range 0x17B4 0x17B5 c || is_in_range 0x180B 0x180F c || is_in_range 0x200B 0x200F c
+    || is_in_range 0x202A 0x202E c || is_in_range 0x2060 0x206F c || c == 0x3164
+    || is_in_range 0xFE00 0xFE0F c || c == 0xFEFF || c == 0xFFA0 || is_in_range 0xFFF0 0xFFFB c
+    || is_in_range 0x1_BCA0 0x1_BCA3 c || is_in_range 0x1_D173 0x1_D17A c || nat_le 0xE_0000 c
+
 abbrev pub is_hidden : ℕ → Bool
-is_hidden c =
-    c == 0x061C || is_in_range 0x200B 0x200F c || is_in_range 0x2028 0x202E c
-    || is_in_range 0x2060 0x206F c || c == 0xFEFF || is_in_range 0xFFF9 0xFFFB c
-    || nat_le 0xE_0000 c
+is_hidden c = is_blank c || is_ignored c
 
 -- A character that is printed as itself, in one word or in a text: none is a control character
 -- (U+0000 to U+001F, U+007F to U+009F), a quotation mark or a backslash; in a word it is ASCII,

@@ -8,6 +8,7 @@ use crate::printed::OneWord;
 use crate::registry::{cause_name, chunk_name, parameter_name};
 use dcsctp_borrowed::checksum::Checksum;
 use dcsctp_borrowed::part::{Item, Part};
+use dcsctp_wire::packet::read_u32_be;
 use dcsctp_wire::packet::sctp_packet::CommonHeader;
 use std::fmt;
 
@@ -103,9 +104,13 @@ impl<'f, W: fmt::Write> Fields for BriefFields<'f, W> {
         write!(self.out, "{tag:#010x} {found}")
     }
 
-    fn no_header(&mut self, _captured: &[u8]) {
+    fn no_header(&mut self, captured: &[u8]) {
         self.begin_word();
-        self.out.say("- unknown")
+        if captured.len() < 8 {
+            return self.out.say("- unknown");
+        }
+        let tag = read_u32_be(&captured[4..]);
+        write!(self.out, "{tag:#010x} unknown")
     }
 
     fn fault(&mut self, fault: &Fault<'_>) {

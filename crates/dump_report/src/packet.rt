@@ -21,9 +21,9 @@ use std::fmt;
 /// there.
 ///
 /// A text of the peer is between quotation marks. What isn't UTF-8 is escaped byte by byte, as
-/// `\xff`, and so are quotation marks, backslashes, control characters, controls of the direction
-/// of text, and others that aren't seen (U+061C, U+200B to U+200F, U+2028 to U+202E, U+2060 to
-/// U+206F, U+FEFF, U+FFF9 to U+FFFB, and all from U+E0000 on).
+/// `\xff`, and so are quotation marks, backslashes, control characters, and what isn't seen:
+/// blanks other than U+0020, and Unicode's Default_Ignorable_Code_Point, with the controls of the
+/// direction of text.
 #[derive(Clone, Copy)]
 pub struct PacketReport<'a, 'f> {
     /// The packet's bytes, as far as they were captured.
@@ -86,8 +86,8 @@ impl<'a, 'f> fmt::Display for PacketJson<'a, 'f> {
     }
 }
 
-/// What can be read of a packet, in one line that has no line break: its tag, or `-` without a
-/// header, what is known of its checksum field (`right`, `zero`, `wrong`, `unknown`), and its
+/// What can be read of a packet, in one line that has no line break: its tag, or `-` if it has none,
+/// what is known of its checksum field (`right`, `zero`, `wrong`, `unknown`), and its
 /// chunks, with ` | ` between each two. A refused packet ends in `! KIND at OFFSET: REASON`, and
 /// one that was cut off, if it has no fault, in `! cut off`.
 ///

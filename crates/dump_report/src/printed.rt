@@ -2,7 +2,7 @@
 
 ghost use Rattle.std.specs.Prelude.{◌≡◌, Some, ◌<◌, ◌≤◌, ◌+◌, ◌++◌, ◌∷◌, [], length, min, take, drop, true, false, IsUtf8};
 ghost use Rattle.std.specs.Fmt.{WritesOnOk};
-ghost use Rattle.dump_report.specs.Printed.{escape, is_hidden, is_character, is_shown, printed, shown_size, size_from};
+ghost use Rattle.dump_report.specs.Printed.{escape, is_blank, is_hidden, is_ignored, is_character, is_shown, printed, shown_size, size_from};
 
 use crate::hexadecimal::{digit, write_text};
 use std::fmt;
@@ -28,6 +28,18 @@ impl<'a> fmt::Display for Quoted<'a> {
         f.write_str("\"")?;
         write_printed(self.0, false, f)?;
         f.write_str("\"")
+    }
+}
+
+/// A text as it stands between quotation marks, without these: the name of a file.
+#[derive(Clone, Copy)]
+pub struct Unquoted<'a>(pub &'a [u8]);
+
+impl<'a> fmt::Display for Unquoted<'a> {
+    ghost output = { λ t. Some (printed false t.0.now) };
+
+    fn fmt<W: fmt::Write>(&self, f: &mut fmt::Formatter<W>) -> fmt::Result {
+        write_printed(self.0, false, f)
     }
 }
 
@@ -194,19 +206,54 @@ fn is_shown(character: char, is_word: bool) -> bool
     }
 }
 
-/// Returns whether a character is a control of the direction of text, the end of a line or a
-/// paragraph, or another one that isn't seen.
+/// Returns whether a character isn't seen, as a control of the direction of text.
 fn is_hidden(character: char) -> bool
     ensures { result ≡ is_hidden character }
 {
+    is_blank(character) || is_ignored(character)
+}
+
+/// Returns whether a character is a blank other than U+0020, or ends a line or a paragraph.
+#[tactic(auto, unfolding(crate::specs::Printed::is_blank))]
+fn is_blank(character: char) -> bool
+    ensures { result ≡ is_blank character }
+{
     matches!(
         character,
-        '\u{61c}'
+        '\u{a0}'
+            | '\u{1680}'
+            | '\u{2000}'..='\u{200a}'
+            | '\u{2028}'..='\u{2029}'
+            | '\u{202f}'
+            | '\u{205f}'
+            | '\u{2800}'
+            | '\u{3000}'
+    )
+}
+
+/// Returns whether a character is one that isn't shown by itself.
+#[tactic(auto, unfolding(crate::specs::Printed::is_ignored))]
+fn is_ignored(character: char) -> bool
+    ensures { result ≡ is_ignored character }
+{
+    matches!(
+        character,
+        '\u{ad}'
+            | '\u{34f}'
+            | '\u{61c}'
+            | '\u{115f}'..='\u{1160}'
+            | '\u{17b4}'..='\u{17b5}'
+            | '\u{180b}'..='\u{180f}'
             | '\u{200b}'..='\u{200f}'
-            | '\u{2028}'..='\u{202e}'
+            | '\u{202a}'..='\u{202e}'
             | '\u{2060}'..='\u{206f}'
+            | '\u{3164}'
+            | '\u{fe00}'..='\u{fe0f}'
             | '\u{feff}'
-            | '\u{fff9}'..='\u{fffb}'
+            | '\u{ffa0}'
+            | '\u{fff0}'..='\u{fffb}'
+            | '\u{1bca0}'..='\u{1bca3}'
+            | '\u{1d173}'..='\u{1d17a}'
             | '\u{e0000}'..
     )
 }

@@ -3,7 +3,8 @@ use Rattle.std.proofs.Common.{◌≡◌, ℕ, List, [], ◌∷◌, fold, slice_i
 use Rattle.dcsctp_tlv.specs.Frame.{BeginsWithFrame, frame_rest}
 use Rattle.sctp_dump.specs.declared.counts.Counts.{Counts}
 use Rattle.dump_capture.specs.Number.{one_more}
-use Rattle.sctp_dump.specs.Counts.{ChunkTypes, none, next, with_kind}
+use Rattle.dump_analysis.specs.ChunkTypes.{ChunkTypes, none, next}
+use Rattle.sctp_dump.specs.Counts.{with_kind}
 
 -- whatever types the chunks have that are left, all have them after those that were counted
 abbrev pub Counting : List ℕ → Counts → List ℕ → Counts → Type 0

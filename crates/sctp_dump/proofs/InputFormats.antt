@@ -1,10 +1,9 @@
 -- What an input is, and the events that its decoder handed on.
-use Rattle.std.proofs.Common.{◌≡◌, ◌⊎◌, inl, inr, ◌≤◌, ℕ, nat_eq, if◌then◌else◌, List, [], ◌∷◌, ◌++◌, length, take, Option, None, Some, IfSome, Result, Ok, Err, OnOk, IfErr, refl, sym, ap, subst, ◌∙◌, arith}
+use Rattle.std.proofs.Common.{◌≡◌, ◌⊎◌, inl, inr, ◌≤◌, ℕ, if◌then◌else◌, List, [], ◌∷◌, ◌++◌, length, take, Option, None, Some, IfSome, Result, Ok, Err, OnOk, IfErr, refl, sym, ap, subst, ◌∙◌, arith}
 use Rattle.std.proofs.lemmas.List.{take-append-le}
-use Rattle.std.specs.Io.KnownBytes.{Keeps}
+use Rattle.std.specs.Io.KnownBytes.{Keeps, prepend_known}
 use Rattle.dump_capture.specs.Event.{Event, Hands}
 use Rattle.dump_capture.specs.Decoding.{none}
-use Rattle.std.specs.List.{starts_with}
 use Rattle.dump_capture.specs.Pcap.{magic_format, input_kind, input_kind_by}
 use Rattle.dump_capture.specs.declared.pcap.PcapFormat.{PcapFormat}
 use Rattle.dump_capture.proofs.Fronts.{magic_front}
@@ -21,7 +20,7 @@ use Rattle.sctp_dump.specs.declared.input.InputFormat.TheVariants as format
 use Rattle.sctp_dump.specs.declared.stop.Stop.{Stop}
 use Rattle.sctp_dump.specs.declared.stop.Stop.TheVariants as stop
 use Rattle.sctp_dump.specs.Handed.{HandsAll, HandsFront, Stops, IsNoFault}
-use Rattle.sctp_dump.specs.Inputs.{format_by, format_of, HandsFormat, HandsFrontOf, OfFormat, HandsInput, StopsInput}
+use Rattle.sctp_dump.specs.Inputs.{is_compressed, format_by, format_of, HandsFormat, HandsFrontOf, OfFormat, HandsInput, StopsInput}
 use Rattle.sctp_dump.proofs.Steps.{starts_nil}
 
 -- ---- the first bytes
@@ -45,9 +44,18 @@ format_front form.Pcapng held rest size = refl
 format_front form.Text held rest size = refl
 format_front form.Detected held rest size =
     let two : take 2 (held ++ rest) ≡ take 2 held = take-append-le 2 held rest (omega arith) in
-    ap (λ (k : InputFormat). if starts_with nat_eq (held ++ rest) (0x1f ∷ 0x8b ∷ [])
-    then format.Compressed else k) (uncompressed_front held rest size)
-    ∙ rw two refl
+    let three : take 3 (held ++ rest) ≡ take 3 held = take-append-le 3 held rest (omega arith) in
+    let four : take 4 (held ++ rest) ≡ take 4 held = take-append-le 4 held rest size in
+    ap (λ (k : InputFormat). if is_compressed (held ++ rest) then format.Compressed else k)
+    (uncompressed_front held rest size)
+    ∙ rw (two, three, four) refl
+
+-- what is left of the input begins with what is held
+pub format_known : (f : FormatOption) (held : List ℕ) (found : InputFormat) (remaining : Option (List ℕ))
+    → 4 ≤ length held → found ≡ format_of f held
+    → IfSome (prepend_known held remaining) (λ l. found ≡ format_of f l)
+format_known f held found None size is = tt
+format_known f held found (Some rest) size is = is ∙ sym (format_front f held rest size)
 
 kept : (Q : List ℕ → Type 0) (a b : Option (List ℕ)) → Keeps a b → IfSome b Q → IfSome a Q
 kept Q None b keeps holds = tt

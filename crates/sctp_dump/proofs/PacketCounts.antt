@@ -12,7 +12,8 @@ use Rattle.sctp_dump.specs.declared.counts.Verdict.TheVariants.{Accepted, Refuse
 use Rattle.sctp_dump.specs.declared.options.Options.{Options}
 use Rattle.sctp_dump.specs.declared.counts.Counts.{Counts}
 use Rattle.dump_capture.specs.Number.{one_more}
-use Rattle.sctp_dump.specs.Counts.{policy_of, ChunkTypes, with_kind, accepted_with, with_checksum, refused_by, CountsPacket, whole, faulty}
+use Rattle.dump_analysis.specs.ChunkTypes.{ChunkTypes}
+use Rattle.sctp_dump.specs.Counts.{policy_of, with_kind, accepted_with, with_checksum, refused_by, CountsPacket, whole, faulty}
 
 -- the first fault of a packet, and its place
 abbrev IsLocated : Packet → ℕ → ChecksumPolicy → FirstFault → Type 0

@@ -7,13 +7,13 @@ use Rattle.dump_capture.specs.declared.frame.NoPacket.{NoPacket}
 use Rattle.dump_capture.specs.declared.frame.NoPacket.TheVariants as frame
 use Rattle.dump_capture.specs.declared.event.Skipped.{Skipped}
 use Rattle.dump_capture.specs.declared.event.Skipped.TheVariants as part
-use Rattle.dcsctp_tlv.specs.Frame.{BeginsWithFrame, frame_rest}
 use Rattle.dcsctp_crc32c.specs.Checksum.{packet_word}
 use Rattle.dcsctp_wire.specs.ChunkParseError.TheVariants.{InvalidPadding, InvalidValue}
 use Rattle.dcsctp_wire.specs.Packet.{PacketFault, Answer, IsPacket, body, checksum_field, packet_error_of}
 use Rattle.dcsctp_wire.specs.declared.packet.sctp_packet.ChecksumPolicy.{ChecksumPolicy}
 use Rattle.dcsctp_wire.specs.declared.packet.sctp_packet.PacketParseError.{PacketParseError}
 use Rattle.dcsctp_wire.specs.declared.packet.sctp_packet.PacketParseError.TheVariants.{FailedParseChunk}
+use Rattle.dump_analysis.specs.ChunkTypes.{ChunkTypes}
 use Rattle.sctp_dump.specs.declared.options.Options.{Options}
 use Rattle.sctp_dump.specs.declared.counts.Counts.{Counts}
 
@@ -57,13 +57,6 @@ policy_of o = record {
   zero_checksum_alternate_error_detection_method = record { 0 = 0 };
   strict_padding = o.strict;
 }
-
--- the types of chunks: the first byte of each (RFC 9260 section 3.2)
-pub data ChunkTypes : List ℕ → List ℕ → Type 0 where
-  none : (bytes types : List ℕ) → bytes ≡ [] → types ≡ [] → ChunkTypes bytes types
-  next : (bytes types others : List ℕ) → BeginsWithFrame bytes
-      → ChunkTypes (frame_rest bytes) others → types ≡ slice_index bytes 0 ∷ others
-      → ChunkTypes bytes types
 
 -- one chunk more of a type
 abbrev pub with_kind : List ℕ → ℕ → List ℕ
@@ -120,6 +113,7 @@ unread c part.NoInterface = record c { malformed = one_more c.malformed }
 unread c part.TooLong = record c { long = one_more c.long }
 unread c part.Unknown = record c { unknown = one_more c.unknown }
 unread c part.Apart = record c { unknown = one_more c.unknown }
+unread c part.UnreadDump = record c { unknown = one_more c.unknown }
 
 abbrev pub CountsFrame : Options → Counts → Result Packet NoPacket → Counts → Type 0
 CountsFrame o before (Ok p) after = CountsPacket o before p after

@@ -1,5 +1,5 @@
 -- The events of an input, by what it is.
-use Rattle.std.specs.Prelude.{◌≡◌, ◌⊎◌, ℕ, nat_eq, List, [], ◌∷◌, if◌then◌else◌, Option, None, Some, IfSome}
+use Rattle.std.specs.Prelude.{◌≡◌, ◌⊎◌, ℕ, Bool, ◌||◌, nat_eq, List, [], ◌∷◌, if◌then◌else◌, Option, None, Some, IfSome}
 use Rattle.std.specs.List.{starts_with}
 use Rattle.dump_capture.specs.Event.{Event, Hands}
 use Rattle.dump_capture.specs.Pcap.{input_kind}
@@ -25,10 +25,19 @@ format_by (kinds.Pcap f) = format.Pcap
 format_by kinds.Pcapng = format.Pcapng
 format_by kinds.Text = format.Text
 
--- by its first bytes, of which two say that it is compressed (RFC 1952 section 2.3.1)
+-- The first bytes of what gzip (RFC 1952 section 2.3.1), xz, zstd (RFC 8878 section 3.1.1) and bzip2
+-- write. Of xz they are the first four of six.
+abbrev pub is_compressed : List ℕ → Bool
+is_compressed bytes =
+    starts_with nat_eq bytes (0x1f ∷ 0x8b ∷ [])
+    || starts_with nat_eq bytes (0xfd ∷ 0x37 ∷ 0x7a ∷ 0x58 ∷ [])
+    || starts_with nat_eq bytes (0x28 ∷ 0xb5 ∷ 0x2f ∷ 0xfd ∷ [])
+    || starts_with nat_eq bytes (0x42 ∷ 0x5a ∷ 0x68 ∷ [])
+
+-- by its first bytes
 abbrev pub detected : List ℕ → InputFormat
 detected bytes =
-    if starts_with nat_eq bytes (0x1f ∷ 0x8b ∷ []) then format.Compressed else
+    if is_compressed bytes then format.Compressed else
     format_by (input_kind bytes)
 
 abbrev pub format_of : FormatOption → List ℕ → InputFormat

@@ -5,3 +5,4 @@ pub mod Times
 pub mod Totals
 pub mod Verdict
 pub mod Warnings
+pub mod Tracked

@@ -2,6 +2,7 @@
 use Rattle.std.specs.Prelude.{◌≡◌, ℕ, ℤ, pos, negsuc, ◌+◌, ◌*◌, ◌/◌, ◌-◌, ◌^◌, nat_lt, nat_le, if◌then◌else◌, Option, Some, None}
 use Rattle.dump_capture.specs.declared.event.Time.{Time}
 use Rattle.dump_capture.specs.declared.event.Time.TheVariants.{Unknown, Stamp, Ticks, OfDay}
+use Rattle.dump_capture.specs.declared.line.Direction.{Direction}
 use Rattle.dump_capture.specs.declared.pcap.Resolution.{Resolution}
 use Rattle.dump_capture.specs.declared.pcap.Resolution.TheVariants.{Microseconds, Nanoseconds}
 
@@ -40,3 +41,10 @@ IsRead (Stamp seconds fraction resolution) read =
 IsRead (Ticks ticks resolution offset) read =
     read ≡ later_if (fitting (ticks * 1000000000 / units resolution)) offset
 IsRead (OfDay time direction transport stamp) read = Unit {0}
+
+-- ---- a log
+
+-- which way a packet went: a log says it, and nothing else
+abbrev pub direction_in : Time → Option Direction
+direction_in (OfDay time direction transport stamp) = Some direction
+direction_in time = None

@@ -4,7 +4,8 @@ ghost use Rattle.std.specs.Prelude.{◌≡◌, ℕ, List, fold};
 ghost use Rattle.dump_capture.specs.Found.{packet_of};
 ghost use Rattle.dump_capture.specs.Number.{one_more};
 ghost use Rattle.dcsctp_wire.specs.declared.packet.sctp_packet.ChecksumPolicy.{ChecksumPolicy};
-ghost use Rattle.sctp_dump.specs.Counts.{nothing, with_kind, ChunkTypes, with_checksum, refused_by, no_packet, unread, packets, refused, skipped, is_unread, CountsPacket};
+ghost use Rattle.dump_analysis.specs.ChunkTypes.{ChunkTypes};
+ghost use Rattle.sctp_dump.specs.Counts.{nothing, with_kind, with_checksum, refused_by, no_packet, unread, packets, refused, skipped, is_unread, CountsPacket};
 ghost use Rattle.sctp_dump.specs.Verdict.{IsVerdict};
 
 use crate::options::Options;
@@ -252,7 +253,9 @@ impl Counts {
             }
             Skipped::Malformed | Skipped::NoInterface => increase(&mut self.malformed),
             Skipped::TooLong => increase(&mut self.long),
-            Skipped::Unknown | Skipped::Apart => increase(&mut self.unknown),
+            Skipped::Unknown | Skipped::Apart | Skipped::UnreadDump => {
+                increase(&mut self.unknown)
+            }
         }
     }
 }

@@ -11,7 +11,7 @@ use crate::failure::Failure;
 use crate::files::Files;
 use crate::message_files::MessageFiles;
 use crate::options::{Options, OutputForm};
-use crate::pcapng_blocks::PcapngBlocks;
+use crate::pcapng_frame::pcapng_frame;
 use crate::printer::Printer;
 use crate::progress::Progress;
 use crate::seen::{SeenFrame, SeenLines};
@@ -32,6 +32,8 @@ use dump_analysis::{
 };
 use dump_capture::event::{Part, Seen, Sink, Skipped, Time};
 use dump_capture::frame::{FoundPacket, NoPacket, packet_in};
+use dump_capture::icmp::icmp_error_in;
+use dump_capture::pcapng_writer::PcapngWriter;
 use dump_capture::reassembler::PacketSink;
 use dump_io::output::Output;
 use dump_io::watched::Watched;
@@ -53,6 +55,8 @@ pub struct EventPrinter<'h, W> {
     pub failure: Option<Failure>,
     /// How many accepted packets break each rule.
     pub warnings: Warnings,
+    /// Whether a packet of a log came, of which it is known which way it went.
+    pub has_log: bool,
     is_fragment: bool,
     authentication: AuthenticationCounts,
     files: Files,
@@ -62,7 +66,7 @@ pub struct EventPrinter<'h, W> {
     message_files: Option<MessageFiles<'h>>,
     /// How much was read.
     pub progress: Progress<'h>,
-    blocks: PcapngBlocks,
+    blocks: PcapngWriter,
     output: Output<W>,
 }
 
@@ -86,6 +90,7 @@ impl<'h, W: Write> EventPrinter<'h, W> {
             counts: Counts::new(),
             failure: None,
             warnings: Warnings::new(),
+            has_log: false,
             is_fragment: false,
             authentication: AuthenticationCounts::new(),
             files: Files::new(alloc),
@@ -97,7 +102,7 @@ impl<'h, W: Write> EventPrinter<'h, W> {
                 None => None,
             },
             progress: Progress::new(rt),
-            blocks: PcapngBlocks::new(alloc),
+            blocks: PcapngWriter::new(alloc),
             output: Output::new(alloc, writer),
         }
     }
@@ -212,7 +217,8 @@ impl<'h, W: Write> EventPrinter<'h, W> {
         }
         let is_file = self.options.output == OutputForm::Pcapng;
         if is_file {
-            self.blocks.push(frame, &seen.time, nanoseconds)?;
+            self.blocks
+                .push(pcapng_frame(frame, &seen.time, nanoseconds))?;
             return Ok(());
         }
         let shown = Shown {
@@ -327,6 +333,7 @@ impl<'h, W: Write> EventPrinter<'h, W> {
             passes: true,
             key: self.options.auth_key,
         };
+        self.has_log |= packet.direction.is_some();
         let arrival = self.clock.arrival_of(seen, nanoseconds);
         if self.options.is_filtered {
             let others = self.tracker.has_label(&self.options, &packet, fault)?
@@ -363,6 +370,28 @@ impl<'h, W: Write> EventPrinter<'h, W> {
             let _ = self.output.write();
         }
         written
+    }
+
+    /// Counts the ICMP error in a frame, if there is one, of the association whose packet it quotes,
+    /// if associations are printed.
+    fn note_error(&mut self, seen: &Seen<'_>, link_type: u16, original_length: u32, bytes: &[u8])
+        ensures options { self.new.options ≡ self.old.options }
+        ensures counts { self.new.counts ≡ self.old.counts }
+        ensures failure { self.new.failure ≡ self.old.failure }
+        ensures warnings { self.new.warnings ≡ self.old.warnings }
+    {
+        if !self.options.associations {
+            return;
+        }
+        let number = self.files.number_of(seen.number);
+        if let Some(error) = icmp_error_in(
+            self.options.udp_port,
+            link_type,
+            original_length,
+            bytes,
+        ) {
+            self.tracker.note_error(number, &error);
+        }
     }
 
     /// Prints a record or a line without a packet, if a reason is to be said.
@@ -458,6 +487,7 @@ impl<'h, W: Write> Sink for EventPrinter<'h, W> {
             Err(why) => {
                 self.is_fragment = why == NoPacket::Fragment;
                 self.counts.count_no_packet(why);
+                self.note_error(seen, link_type, original_length, bytes);
                 let outcome = self.print_skipped(seen.part, seen.place, frame_reason_of(why));
                 self.note(outcome);
             }

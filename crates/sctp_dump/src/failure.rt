@@ -3,7 +3,7 @@
 use crate::stop::Stop;
 use dump_capture::decoder::Fault;
 use std::alloc::{AllocError, AllocFailed};
-use std::fmt;
+use std::{fmt, io};
 
 /// What keeps the program from its work.
 #[derive(Clone, Copy, PartialEq, Eq)]
@@ -18,8 +18,8 @@ pub enum Failure {
     ClosedPipe,
     /// A message's file can't be written, which was reported.
     MessageFile,
-    /// The file can't be opened.
-    Open,
+    /// The file can't be opened, for which the system has this error.
+    Open(Option<i32>),
     /// The arguments can't be read.
     Arguments,
     /// An option isn't known, or its value isn't one; this says which.
@@ -41,10 +41,15 @@ impl fmt::Display for Failure {
             Failure::Read => "a read failed",
             Failure::Write | Failure::ClosedPipe => "a write failed",
             Failure::MessageFile => "a message's file can't be written",
-            Failure::Open => "can't be opened",
+            Failure::Open(Some(code)) => {
+                let error = io::Error::from_raw_os_error(*code);
+                return write!(f, "can't be opened: {error}");
+            }
+            Failure::Open(None) => "can't be opened",
             Failure::Arguments => "the arguments can't be read",
             Failure::Usage(usage) => usage,
-            Failure::Compressed => "is compressed by gzip: zcat FILE | sctp_dump reads it",
+            Failure::Compressed =>
+                "is compressed: zcat, xzcat, zstdcat or bzcat FILE | sctp_dump reads it",
             Failure::Endless => "has too many parts",
             Failure::Unfinished => "ends inside a record",
             Failure::Fault(Fault::NotCapture) => "doesn't begin as a file of its format",

@@ -15,6 +15,7 @@ use crate::stop::Stop;
 use dump_capture::reassembler::Reassembler;
 use dump_io::watched::Watched;
 use dump_io::window::Window;
+use dump_report::printed::Unquoted;
 use std::io::Write;
 use std::{env, fs, io};
 
@@ -53,7 +54,10 @@ pub fn run(rt: &HostRuntime) -> u8
 fn report(rt: &HostRuntime, name: Option<&str>, failure: &Failure) {
     // There is no other place to say that standard error doesn't take it.
     let _ = match name {
-        Some(name) => eprintln!(rt; "sctp_dump: {name}: {failure}"),
+        Some(name) => {
+            let name = Unquoted(name.as_bytes());
+            eprintln!(rt; "sctp_dump: {name}: {failure}")
+        }
         None => eprintln!(rt; "sctp_dump: {failure}"),
     };
 }
@@ -140,7 +144,11 @@ fn finish<W: Write>(
             "sctp_dump: no SCTP packet was found (in UDP, --udp-port says the port)"
         );
     }
-    end_of(written, failed, printer)
+    let lacks_log = printer.options.needs_log() && !printer.has_log;
+    if lacks_log {
+        let _ = eprintln!(rt; "sctp_dump: --direction and --transport need a log: none was read");
+    }
+    end_of(written, failed || lacks_log, printer)
 }
 
 /// Returns what a run returns that ended with this last write.
@@ -217,7 +225,7 @@ fn dump_input<W: Write>(
                 let mut input = Watched::new(file);
                 read_input(alloc, form, window, &mut input, printer)
             }
-            Err(_) => return Err(Failure::Open),
+            Err(error) => return Err(Failure::Open(error.raw_os_error())),
         }
     };
     match outcome {

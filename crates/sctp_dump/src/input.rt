@@ -6,7 +6,7 @@ ghost use Rattle.dump_io.specs.Window.{held, left};
 ghost use Rattle.std.specs.Io.KnownBytes.{Keeps};
 ghost use Rattle.dump_capture.specs.Event.{Hands};
 ghost use Rattle.sctp_dump.specs.Handed.{IsNoFault, FailsWith};
-ghost use Rattle.sctp_dump.specs.Inputs.{format_of, HandsInput, StopsInput};
+ghost use Rattle.sctp_dump.specs.Inputs.{is_compressed, format_of, HandsInput, StopsInput};
 ghost use Rattle.sctp_dump.specs.declared.stop.Stop.{Stop};
 
 use crate::engine::read_capture;
@@ -32,7 +32,7 @@ pub enum InputFormat {
     Pcapng,
     /// Lines of text.
     Text,
-    /// Something that gzip compressed.
+    /// Something that gzip, xz, zstd or bzip2 compressed.
     Compressed,
 }
 
@@ -105,7 +105,7 @@ fn format_of(form: FormatOption, bytes: &[u8]) -> InputFormat
         FormatOption::Pcapng => InputFormat::Pcapng,
         FormatOption::Text => InputFormat::Text,
         FormatOption::Detected => {
-            if bytes.starts_with(&[0x1f, 0x8b]) {
+            if is_compressed(bytes) {
                 return InputFormat::Compressed;
             }
             match input_kind(bytes) {
@@ -115,4 +115,14 @@ fn format_of(form: FormatOption, bytes: &[u8]) -> InputFormat
             }
         }
     }
+}
+
+/// Returns whether the first bytes say that an input is compressed.
+fn is_compressed(bytes: &[u8]) -> bool
+    ensures { result ≡ is_compressed bytes.now }
+{
+    bytes.starts_with(&[0x1f, 0x8b])
+        || bytes.starts_with(&[0xfd, 0x37, 0x7a, 0x58])
+        || bytes.starts_with(&[0x28, 0xb5, 0x2f, 0xfd])
+        || bytes.starts_with(b"BZh")
 }

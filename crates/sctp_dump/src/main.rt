@@ -19,7 +19,7 @@ mod log_clock;
 mod message_files;
 mod name;
 mod options;
-mod pcapng_blocks;
+mod pcapng_frame;
 mod printer;
 mod progress;
 mod seen;

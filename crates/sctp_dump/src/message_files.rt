@@ -2,7 +2,9 @@
 
 use crate::failure::Failure;
 use dump_analysis::{EndedMessage, Message, Side};
+use dump_report::printed::Unquoted;
 use std::fs;
+use std::fs::Files;
 use std::io::Write;
 
 /// The files of a folder that user messages are written to.
@@ -58,14 +60,22 @@ impl<'h> MessageFiles<'h> {
         write!(name, "{folder}/message{number}-association{association}")?;
         write!(name, "-end{end}-stream{stream}-tsn{tsn}")?;
         let written = match fs::File::create_new(rt, name.as_str()) {
-            Ok(mut file) => file.write_all(payload),
+            Ok(mut file) => {
+                let written = file.write_all(payload);
+                if written.is_err() {
+                    // A file that lacks bytes would look like a shorter message.
+                    let _ = rt.remove_file(name.as_str());
+                }
+                written
+            }
             Err(error) => Err(error),
         };
         match written {
             Ok(()) => Ok(()),
-            Err(_) => {
+            Err(error) => {
+                let name = Unquoted(name.as_bytes());
                 // There is no other place to say that standard error doesn't take it.
-                let _ = eprintln!(rt; "sctp_dump: {name}: exists already, or can't be written");
+                let _ = eprintln!(rt; "sctp_dump: {name}: {error}");
                 Err(Failure::MessageFile)
             }
         }

@@ -236,6 +236,11 @@ impl Options {
         self.prints_packets() && !self.faults && !self.is_filtered
     }
 
+    /// Returns whether packets of a log alone are asked for.
+    pub fn needs_log(&self) -> bool {
+        !asks_nothing(&self.filter.directions) || !asks_nothing(&self.transports)
+    }
+
     /// Returns whether a transport is one of those that are asked for, if any are.
     pub fn has_transport(&self, transport: &[u8]) -> bool {
         asks_nothing(&self.transports) || is_one_of(&self.transports, transport)

@@ -2,7 +2,8 @@
 
 use crate::tunnel_text::{TunnelLines, TunnelsJson};
 use crate::when::{When, WhenJson};
-use dcsctp_wire::packet::sctp_packet::CommonHeader;
+use dcsctp_wire::packet::read_u16_be;
+use dcsctp_wire::packet::sctp_packet::COMMON_HEADER_SIZE;
 use dump_analysis::Text;
 use dump_capture::event::Part;
 use dump_capture::frame::{Addresses, FoundPacket, UdpPorts};
@@ -100,18 +101,24 @@ impl<'t, 'f, 'a> SeenBrief<'t, 'f, 'a> {
         } else {
             out.say("-");
         }
-        let header = CommonHeader::from_bytes(seen.found.packet);
         let (source, destination) = ends_of(seen.found.addresses, when.direction());
-        let (from, to) = match header {
-            Some(header) => (Some(header.source_port), Some(header.destination_port)),
-            None => (None, None),
-        };
+        let (from, to) = ports_of(seen.found);
         let transport = OneWord(when.transport());
         out.say(" ");
         write_end(source, transport, from, out);
         out.say(" > ");
         write_end(destination, transport, to, out)
     }
+}
+
+/// Returns both ports of a packet, unless it is too short for a header, or was cut off before them.
+fn ports_of(found: &FoundPacket<'_>) -> (Option<u16>, Option<u16>) {
+    let bytes = found.packet;
+    let is_short = bytes.len() < COMMON_HEADER_SIZE && bytes.len() == found.length;
+    if bytes.len() < 4 || is_short {
+        return (None, None);
+    }
+    (Some(read_u16_be(bytes)), Some(read_u16_be(&bytes[2..])))
 }
 
 /// Writes an end with its port (RFC 3986 section 3.2.2: an IPv6 address in brackets), and of the

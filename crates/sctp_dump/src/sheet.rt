@@ -18,6 +18,7 @@ use dump_analysis::{
 };
 use dump_capture::event::Part;
 use dump_report::json_text::JsonText;
+use dump_report::printed::Unquoted;
 use dump_report::{PacketBrief, PacketJson, PacketReport};
 
 /// A packet, and what was found of it.
@@ -44,9 +45,10 @@ pub fn push_file(options: &Options, name: &str, out: &mut Text<'_>) {
     if options.summary {
         return;
     }
+    let printed = Unquoted(name.as_bytes());
     match options.output {
-        OutputForm::Blocks => writeln!(out, "file {name}\n"),
-        OutputForm::Brief => writeln!(out, "file {name}"),
+        OutputForm::Blocks => writeln!(out, "file {printed}\n"),
+        OutputForm::Brief => writeln!(out, "file {printed}"),
         OutputForm::Json => {
             let name = JsonText(name);
             writeln!(out, "{{\"file\":{name}}}")

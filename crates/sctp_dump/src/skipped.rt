@@ -82,6 +82,7 @@ fn reason_of(why: Skipped) -> &'static str {
         Skipped::Unknown => "not a packet; further lines like it are counted alone",
         Skipped::Apart =>
             "its offset doesn't continue a packet; further lines like it are counted alone",
+        Skipped::UnreadDump => "by xxd -e, or od -An without -v: xxd and od -A x are read",
     }
 }
 

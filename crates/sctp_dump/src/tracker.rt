@@ -1,14 +1,19 @@
 //! The associations of the packets so far, if associations, messages or rules are asked for, and
 //! what is kept beside them: their paths, their messages and their channels.
 
+ghost use Rattle.std.specs.Prelude.{◌≡◌, IfOk, IfSome, IfNone};
+ghost use Rattle.dump_analysis.specs.Attribution.{IsKnownOf, nothing_known};
+ghost use Rattle.sctp_dump.specs.Tracked.{CountsEnded};
+
 use crate::labels::LabelledStreams;
 use crate::options::{Options, OutputForm};
 use dump_analysis::filter::asks_nothing;
 use dump_analysis::rule::Known;
 use dump_analysis::{
-    Associations, ChannelTable, Channels, EndedMessage, Membership, Messages, Noted, PathTable,
-    Paths, Resent, SeenPacket, Sendings,
+    Associations, ChannelTable, Channels, EndedMessage, Membership, Messages, Noted, PacketNumber,
+    PathTable, Paths, Resent, SeenPacket, Sendings,
 };
+use dump_capture::icmp::IcmpError;
 use std::alloc::{AllocError, Global};
 
 /// The associations of the packets so far, if they are asked for.
@@ -67,6 +72,13 @@ impl Tracker {
             }
         }
         Ok(noted)
+    }
+
+    /// Counts an ICMP error, in the packet of this number, of the end that sent what it quotes.
+    pub fn note_error(&mut self, number: PacketNumber, error: &IcmpError<'_>) {
+        if let Some(associations) = &mut self.associations {
+            associations.note_error(number, error);
+        }
     }
 
     /// Returns whether a packet that wasn't counted yet has user data of a channel whose label is
@@ -135,15 +147,16 @@ impl Tracker {
     }
 
     /// Returns the messages that are over since this was asked last, each counted of its channel.
-    pub fn take_messages(&mut self) -> Result<Vec<EndedMessage>, AllocError> {
-        let Some(messages) = &mut self.messages else {
-            return Ok(Vec::new(self.alloc));
+    pub fn take_messages(&mut self) -> Result<Vec<EndedMessage>, AllocError>
+        ensures { IfOk result (λ ended.
+            CountsEnded self.old.channels ended.items self.new.channels) }
+    {
+        let ended = match &mut self.messages {
+            Some(messages) => messages.take(),
+            None => Vec::new(self.alloc),
         };
-        let ended = messages.take();
         if let Some(channels) = &mut self.channels {
-            for one in &ended {
-                channels.add(&one.message)?;
-            }
+            channels.add_all(&ended)?;
         }
         Ok(ended)
     }
@@ -178,16 +191,13 @@ impl Tracker {
     }
 
     /// Returns what is known of a packet's association.
-    pub fn known_of(&self, packet: &SeenPacket<'_>) -> Known {
+    pub fn known_of(&self, packet: &SeenPacket<'_>) -> Known
+        ensures known { IfSome self.now.associations (λ a. IsKnownOf a.keys.flows a.table.items packet.now
+            result) }
+        ensures none { IfNone self.now.associations (result ≡ nothing_known) }
+    {
         match &self.associations {
-            Some(associations) => {
-                let (has_data, has_idata) = associations.user_data(packet);
-                Known {
-                    accepts_zero: associations.accepts_zero(packet),
-                    has_data,
-                    has_idata,
-                }
-            }
+            Some(associations) => associations.known_of(packet),
             None => Known::NOTHING,
         }
     }

@@ -1,7 +1,7 @@
 //! When packets were seen: on one clock, and as text.
 
 ghost use Rattle.std.specs.Prelude.{◌≡◌, ◌<◌, ◌≤◌, ◌*◌, ◌/◌, ◌^◌};
-ghost use Rattle.sctp_dump.specs.Times.{units, fitting, later, IsRead};
+ghost use Rattle.sctp_dump.specs.Times.{units, fitting, later, IsRead, direction_in};
 
 use crate::log_clock::{LogClock, clock_text_of};
 use crate::options::TimeOption;
@@ -243,7 +243,9 @@ impl<'a> fmt::Display for WhenJson<'a> {
 }
 
 /// Returns which way a packet went, if a log says it.
-pub fn direction_of(time: &Time<'_>) -> Option<Direction> {
+pub fn direction_of(time: &Time<'_>) -> Option<Direction>
+    ensures { result ≡ direction_in time.now }
+{
     match time {
         Time::OfDay { direction, .. } => Some(*direction),
         _ => None,

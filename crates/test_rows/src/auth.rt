@@ -27,18 +27,17 @@ fn write_hmac(function: HashFunction, key: &[u8], text: &[u8], out: &mut Answer)
     }
 }
 
-/// Writes whether the chunk's HMAC is right, the chunk and those after it signed, whether it is
-/// right then, and with which changed byte it still is.
+/// Writes whether the chunk's HMAC is right, whether it can be signed, whether it is right then; the
+/// chunk and those after it signed; and with which changed byte it is still right.
 fn write_auth(key: &[u8], chunks: &[u8], out: &mut Answer) {
-    let was_right = verify(key, chunks);
+    let before = verify(key, chunks);
     let mut signed = out.copy(chunks);
     let is_signed = sign(key, &mut signed);
-    let is_right = verify(key, &signed);
-    let answers = (was_right, is_signed, is_right);
+    let answers = (before, is_signed, verify(key, &signed));
     write!(out, "{answers:?}; {}", Digits(&signed));
     for place in 0..signed.len() {
         flip(&mut signed, place, 1);
-        if verify(key, &signed) {
+        if verify(key, &signed).is_right() {
             write!(out, "; right with another byte {place}");
         }
         flip(&mut signed, place, 1);

@@ -4,6 +4,7 @@ use crate::answer::{Answer, Digits, from, short_at, word_at};
 use crate::checksums;
 use dump_capture::frame::{UDP_PORT, is_known_link, packet_in};
 use dump_capture::hex_bytes::HexBytes;
+use dump_capture::icmp::icmp_error_in;
 use dump_capture::ip_fragment::fragment_in;
 use dump_capture::line::{Line, place_of, read_line};
 use dump_capture::pcap::{ByteOrder, input_kind, read_file_header, read_record_header};
@@ -59,6 +60,15 @@ fn write_fragment(bytes: &[u8], out: &mut Answer) {
     }
 }
 
+/// Writes the error message of ICMP in a frame, of the same bytes.
+fn write_icmp(bytes: &[u8], out: &mut Answer) {
+    let (link, length) = (short_at(bytes, 0), word_at(bytes, 2));
+    match icmp_error_in(UDP_PORT, link, length, from(bytes, 6)) {
+        Some(error) => write!(out, "{error:?}"),
+        None => out.say("none"),
+    }
+}
+
 /// Writes the answer, if the call is one of this module, and else the next one does; the offset of
 /// a line and how many bytes are held have four bytes each.
 pub fn write_answer(call: &str, bytes: &[u8], other: &[u8], out: &mut Answer) {
@@ -70,6 +80,7 @@ pub fn write_answer(call: &str, bytes: &[u8], other: &[u8], out: &mut Answer) {
         "link-frame" => write_found(UDP_PORT, bytes, out),
         "tunnels" => write_tunnels(bytes, out),
         "fragment" => write_fragment(bytes, out),
+        "icmp" => write_icmp(bytes, out),
         "link-frame-port" => write_found(short_at(bytes, 0), from(bytes, 2), out),
         "place" => {
             let (offset, held) = (word_at(bytes, 0), word_at(bytes, 4) as usize);

@@ -34,7 +34,7 @@ class TagVerdict(v.Documented):
     """What is done with a packet, by its verification tag (RFC 9260 sections 8.5 and 8.5.1)."""
 
     ACCEPT = 0, "The tag is right: the packet is processed."
-    ESTABLISH = 1, "An INIT alone under the tag 0, or COOKIE ECHO first or behind AUTH: section 5 says what is done."
+    ESTABLISH = 1, "An INIT alone under the tag 0, or COOKIE ECHO first or behind one AUTH: section 5 says what is done."
     OUT_OF_THE_BLUE = 2, "The packet is treated as if it belonged to no association: see `out_of_the_blue`."
     DISCARD = 3, "The packet is discarded, without an answer."
 
@@ -44,7 +44,7 @@ class Answer(v.Documented):
 
     DISCARD = 0, "It is discarded, without an answer."
     INIT = 1, "Its INIT is processed (section 5.1)."
-    COOKIE_ECHO = 2, "Its COOKIE ECHO, first or behind AUTH, is processed (section 5.1)."
+    COOKIE_ECHO = 2, "Its COOKIE ECHO, first or behind one AUTH, is processed (section 5.1)."
     SHUTDOWN_COMPLETE = 3, "`reply` returns the SHUTDOWN COMPLETE that is sent back."
     ABORT = 4, "`reply` returns the ABORT that is sent back."
 
@@ -53,7 +53,7 @@ class InitFault(v.Documented):
     """What is wrong with a packet that carries INIT or INIT ACK (RFC 9260 sections 3.3.2 and 3.3.3): the first of these that is
     so."""
 
-    NO_FAULT = 0, "It can be processed. This alone is false."
+    NO_FAULT = 0, "None of these. This alone is false."
     NOT_ALONE = 1, "The packet doesn't hold this chunk alone."
     TOO_SHORT = 2, "The chunk has no room for its numbers."
     TAG_ZERO = 3, "The initiate tag is 0."
@@ -61,6 +61,7 @@ class InitFault(v.Documented):
     NO_OUTBOUND_STREAMS = 5, "The number of outbound streams is 0."
     NO_INBOUND_STREAMS = 6, "The number of inbound streams is 0."
     NO_STATE_COOKIE = 7, "INIT ACK lacks its State Cookie."
+    HOST_NAME_ADDRESS = 8, "It has a Host Name Address (RFC 9260 section 3.3.2.1.4)."
 
 
 class Refusal(v.Documented):
@@ -81,10 +82,10 @@ class Rule(v.Documented):
     TAG_ZERO = 0x8, "The verification tag is 0 with a chunk other than INIT (RFC 9260 section 8.5.1)."
     INITIATE_TAG_ZERO = 0x10, "The Initiate Tag is 0 (RFC 9260 sections 3.3.2 and 3.3.3)."
     NO_STREAMS = 0x20, "The number of outbound or inbound streams is 0 (RFC 9260 sections 3.3.2 and 3.3.3)."
-    SMALL_WINDOW = 0x40, "INIT or INIT ACK advertises a window below 1,500 bytes (RFC 9260 section 6)."
+    SMALL_WINDOW = 0x40, "INIT or INIT ACK advertises a window below 1,500 bytes (RFC 9260 sections 3.3.2 and 6)."
     INIT_ACK_COOKIE = 0x80, "INIT ACK has no State Cookie (RFC 9260 section 3.3.3)."
     HEARTBEAT_INFO = 0x100, "HEARTBEAT has no Heartbeat Info (RFC 9260 section 3.3.5)."
-    NO_USER_DATA = 0x200, "DATA or I-DATA has no user data (RFC 9260 section 6.2)."
+    NO_USER_DATA = 0x200, "DATA or I-DATA has no user data (RFC 9260 section 3.3.1)."
     DATA_BESIDE_IDATA = 0x400, "An association has both DATA and I-DATA (RFC 8260 section 2.2.1)."
     GAP_BLOCKS = 0x800, "Gap ack blocks are empty, out of order or not isolated (RFC 9260 section 3.3.4)."
     RESERVED_BITS = 0x1000, "Reserved flags are set (RFC 9260 section 3.2)."
@@ -121,7 +122,9 @@ def verify_tag(data: Buffer, own_tag: int, peer_tag: int | None, *, awaits_cooki
 
 def out_of_the_blue(data: Buffer, *, is_unicast: bool) -> Answer:
     """Returns what is done with a packet that belongs to no association (RFC 9260 section 8.4); looks at what `verify_tag` looks
-    at. `is_unicast` says whether the packet is to and from unicast addresses."""
+    at. `is_unicast` says whether the packet is to and from unicast addresses.
+
+    `check` the bytes first: others may be answered too."""
     data = to_bytes(data)
     return Answer(functions.dcsctp_out_of_the_blue(data, len(data), bool(is_unicast)))
 
@@ -135,7 +138,7 @@ def reply(header: v.Header, answer: Answer) -> bytes:
 
 def init_fault(data: Buffer, *, is_ack: bool) -> InitFault:
     """Returns what is wrong with a packet that carries INIT (RFC 9260 section 3.3.2), or INIT ACK (section 3.3.3) where `is_ack`
-    is true. Of its parameters the State Cookie alone is looked for.
+    is true. Of its parameters State Cookie and Host Name Address alone are looked for.
 
     `check` the bytes first, and ask only of a packet with this chunk: the result is InitFault.NOT_ALONE too where there is none,
     or no packet."""
@@ -165,13 +168,15 @@ def adds_addresses(init: v.Init, known: Buffer) -> bool:
     """Returns whether an INIT adds addresses to an association that is there already (RFC 9260 section 5.2.2): an ABORT under its
     initiate tag answers it, with `ChunkWriter.new_addresses`, and the association stays as it is. `known` are the association's
     addresses, as parameters: the bytes of each IPv4 Address and IPv6 Address, one after the other. The address that the packet
-    came from isn't in the INIT: look at it yourself."""
+    came from isn't in the INIT: look at it yourself.
+
+    Each of the INIT's addresses is compared with each known one, both of which may be the peer's: bound how many you keep."""
     return bool(functions.dcsctp_adds_addresses(*_bytes(_listed(init)[0]), *_bytes(known)))
 
 
 def broken_rules(data: Buffer, *, refuses_zero: bool = False, has_data: bool = False, has_i_data: bool = False) -> tuple[Rule, ...]:
     """Returns the rules that a packet breaks, in their order. Its common header and its chunks are looked at, up to the first chunk
-    whose length is impossible: what can't be read breaks no rule. Its CRC32c is computed here.
+    whose length is impossible: a field that isn't there breaks no rule. Its CRC32c is computed here.
 
     What you know of its association: `refuses_zero` says that the end to which it goes sent INIT or INIT ACK without Zero Checksum
     Acceptable (RFC 9653 section 4); `has_data` and `has_i_data`, that an end sent DATA, or I-DATA."""

@@ -3,5 +3,5 @@ use Rattle.std.proofs.Common.{◌≤◌}
 use Rattle.std.specs.Prelude.{vec_len}
 use Rattle.dump_analysis.proofs.outgoing.Outgoing.forget.Given as goal
 
-abbrev pub invariant-loop-fragment : goal.invariant-loop-fragment
-invariant-loop-fragment l = vec_len l.kept ≤ l.fragment-index
+abbrev pub invariant-loop-place : goal.invariant-loop-place
+invariant-loop-place l = vec_len l.kept ≤ l.place

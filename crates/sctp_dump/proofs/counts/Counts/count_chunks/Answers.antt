@@ -1,5 +1,6 @@
 use Rattle.std.proofs.Common.{◌≡◌, ℕ, List, fold, subst}
-use Rattle.sctp_dump.specs.Counts.{ChunkTypes, with_kind}
+use Rattle.dump_analysis.specs.ChunkTypes.{ChunkTypes}
+use Rattle.sctp_dump.specs.Counts.{with_kind}
 use Rattle.sctp_dump.proofs.ChunkKinds.{Counting-next, Counting-all, kind_counted}
 use Rattle.sctp_dump.proofs.counts.Counts.count_chunks.Goals as goal
 

@@ -31,14 +31,17 @@ returns-in-Ok g c = λ events old unfailed.
 pub returns-in-Err : goal.returns-in-Err
 returns-in-Err g c = λ events old unfailed.
     let before = old (sound c.args.self.now.failure (sym c.is_some.ensures ∙ c.if-is_some.false)) in
-    let same = c.note-in-Err.ensures.options ∙ c.print_skipped-outcome.ensures.options in
+    let same = c.note-in-Err.ensures.options ∙ c.print_skipped-outcome.ensures.options
+    ∙ c.note_error.ensures.options in
     let options = c.args.self.now.options in (
       counted_more options _ events _ c.args.self.now.counts c.count_no_packet.new.self _
           (counts_none options c.args.self.now.counts c.count_no_packet.new.self c.in-Err.why _
           c.in-Err.ensures c.count_no_packet.ensures) same
-          (c.note-in-Err.ensures.counts ∙ c.print_skipped-outcome.ensures.counts) before.0,
+          (c.note-in-Err.ensures.counts ∙ c.print_skipped-outcome.ensures.counts
+          ∙ c.note_error.ensures.counts) before.0,
       warned_more options _ events _ c.args.self.now.warnings.counts _
           (warns_none options c.args.self.now.warnings.counts _ c.in-Err.why _ c.in-Err.ensures
           (ap (λ (w : Warnings). w.counts)
-          (c.note-in-Err.ensures.warnings ∙ c.print_skipped-outcome.ensures.warnings))) same before.1,
+          (c.note-in-Err.ensures.warnings ∙ c.print_skipped-outcome.ensures.warnings
+          ∙ c.note_error.ensures.warnings))) same before.1,
     )
