@@ -59,8 +59,9 @@ CRATES = {"dcsctp": "dcsctp_c", "sctp_dump": "sctp_dump", "sctp_show": "sctp_sho
 LINUX, LINUX_ARM = "x86_64-unknown-linux-gnu", "aarch64-unknown-linux-gnu"
 COMPARED = {(name, "x86_64-elf"): LINUX for name in CRATES} | {("dcsctp", "aarch64-elf"): LINUX_ARM}
 # What a program takes from its system, by the names that program.c has for it.
-OF_SYSTEM = {it: f"rattle_{it}" for it in ("main", "open", "close", "read", "write", "lseek", "isatty")}
+OF_SYSTEM = {it: f"rattle_{it}" for it in ("main", "open", "close", "read", "write", "lseek", "isatty", "unlink")}
 OF_SYSTEM |= {"__write": "rattle_write", "__sysv_signal": "rattle_signal", "__x86_get_cpuid_feature_leaf": "rattle_cpuid"}
+OF_SYSTEM |= {"__xpg_strerror_r": "rattle_strerror_r"}
 OF_PROGRAM = {*OF_SYSTEM.values(), "rattle_arg", "rattle_errno", "rattle_set_errno"}
 # By which a program on Windows asks for more than a page of stack; compilers for it have it.
 ON_WINDOWS = "___chkstk_ms"

@@ -3,7 +3,8 @@
 
    The start of the programs in dist/: what their texts take from the system, for POSIX and Windows. Their own work is all in
    the text, whose rattle_main returns the status. It says on standard error if the processor isn't of x86-64-v2, and returns
-   127. It takes Linux's numbers, and of errors distinguishes EINTR and EPIPE alone, which have the same ones on all systems.
+   127. It takes Linux's numbers, and of errors distinguishes EINTR and EPIPE alone, which have the same ones on all systems; of
+   the others it says the number, and what the system calls it.
    While sctp_dump reads a pipe or a socket, the first SIGINT ends its input, so that it prints what it has counted; a second
    one ends the program. On Windows Ctrl-C ends the program. */
 #ifdef _WIN32
@@ -51,9 +52,36 @@ static const char *word_of(size_t index)
 
 static int32_t fail(void)
 {
-    DWORD why = GetLastError();
-    errno = why == ERROR_BROKEN_PIPE || why == ERROR_NO_DATA || why == ERROR_PIPE_NOT_CONNECTED ? EPIPE : EIO;
+    switch (GetLastError()) {
+    case ERROR_BROKEN_PIPE:
+    case ERROR_NO_DATA:
+    case ERROR_PIPE_NOT_CONNECTED:
+        errno = EPIPE;
+        break;
+    case ERROR_FILE_NOT_FOUND:
+    case ERROR_PATH_NOT_FOUND:
+        errno = ENOENT;
+        break;
+    case ERROR_ACCESS_DENIED:
+        errno = EACCES;
+        break;
+    case ERROR_FILE_EXISTS:
+        errno = EEXIST;
+        break;
+    case ERROR_DISK_FULL:
+        errno = ENOSPC;
+        break;
+    default:
+        errno = EIO;
+    }
     return -1;
+}
+
+/* A path in UTF-16, which has 4,096 units at most; NULL if it has more. */
+static const wchar_t *wide(const char *path)
+{
+    static wchar_t units[4096];
+    return MultiByteToWideChar(CP_UTF8, 0, path, -1, units, 4096) > 0 ? units : NULL;
 }
 
 /* 0 to 2 are the standard streams, as everywhere. Another number is a handle, of which Windows uses 32 bits. */
@@ -68,16 +96,15 @@ static DWORD part_of(size_t size)
     return size < 32768 ? (DWORD)size : 32768;
 }
 
-/* Opens a file that others may write, or a folder, of which a read fails, as on Linux; or creates a file that isn't there. A path
-   has 4,096 bytes at most. */
+/* Opens a file that others may write, or a folder, of which a read fails, as on Linux; or creates a file that isn't there. */
 int32_t rattle_open(const char *path, int32_t flags, ...)
 {
-    static wchar_t wide[4096];
+    const wchar_t *units = wide(path);
     HANDLE file = INVALID_HANDLE_VALUE;
     DWORD access = flags == TO_CREATE ? GENERIC_READ | GENERIC_WRITE : GENERIC_READ;
     DWORD how = flags == TO_CREATE ? CREATE_NEW : OPEN_EXISTING;
-    if ((flags == TO_READ || flags == TO_CREATE) && MultiByteToWideChar(CP_UTF8, 0, path, -1, wide, 4096) > 0)
-        file = CreateFileW(wide, access, FILE_SHARE_READ | FILE_SHARE_WRITE | FILE_SHARE_DELETE, NULL, how,
+    if ((flags == TO_READ || flags == TO_CREATE) && units != NULL)
+        file = CreateFileW(units, access, FILE_SHARE_READ | FILE_SHARE_WRITE | FILE_SHARE_DELETE, NULL, how,
                            FILE_FLAG_BACKUP_SEMANTICS, NULL);
     return file == INVALID_HANDLE_VALUE ? fail() : (int32_t)(intptr_t)file;
 }
@@ -85,6 +112,12 @@ int32_t rattle_open(const char *path, int32_t flags, ...)
 int32_t rattle_close(int32_t file)
 {
     return CloseHandle(handle_of(file)) ? 0 : fail();
+}
+
+int32_t rattle_unlink(const char *path)
+{
+    const wchar_t *units = wide(path);
+    return units != NULL && DeleteFileW(units) ? 0 : fail();
 }
 
 /* (a pipe ends where it has no writer) */
@@ -183,6 +216,11 @@ int32_t rattle_close(int32_t file)
     return close(file);
 }
 
+int32_t rattle_unlink(const char *path)
+{
+    return unlink(path);
+}
+
 int64_t rattle_read(int32_t file, void *bytes, size_t size)
 {
     ssize_t done = read(file, bytes, size);
@@ -231,6 +269,17 @@ int32_t rattle_errno(void)
 void rattle_set_errno(int32_t error)
 {
     errno = error;
+}
+
+/* Writes what the system calls an error, and a 0, if there is room for both. */
+int32_t rattle_strerror_r(int32_t error, char *text, size_t room)
+{
+    const char *name = strerror(error);
+    size_t size = strlen(name) + 1;
+    if (size > room)
+        return ERANGE;
+    memcpy(text, name, size);
+    return 0;
 }
 
 /* (called to ignore SIGPIPE alone, which Windows hasn't) */

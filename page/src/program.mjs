@@ -4,6 +4,7 @@
 export { run };
 
 const NO_FILE = 2, FAILED = 5, BAD_FILE = 9, IS_PIPE = 29; // as Linux numbers errors
+const NAMES = { [NO_FILE]: 'No such file or directory', [FAILED]: 'Input/output error' };
 
 /** @typedef {{ memory: WebAssembly.Memory, malloc(size: bigint): bigint, rattle_main(): number }} Exports */
 
@@ -60,6 +61,13 @@ function run(module, { words, open, print, report }) {
     },
     rattle_close(file) {
       inputs[file] = undefined;
+      return 0;
+    },
+    rattle_unlink: () => failed(NO_FILE, -1),
+    /** @param {number} error */
+    rattle_strerror_r(error, at, room) {
+      const name = new TextEncoder().encode(`${NAMES[error] ?? 'Error'}\0`);
+      bytesAt(at, room).set(name.subarray(0, Number(room)));
       return 0;
     },
     rattle_write: write,

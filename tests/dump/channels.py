@@ -71,6 +71,7 @@ def traffic(some):
         one.update(first=first[1], first_packet=first[0], last=last[1], last_packet=last[0])
         if (span := Decimal(last[1]) - Decimal(first[1])) > 0:
             one['bytes_per_second'] = int(one['bytes'] / span)
+        one['most_in_flight'] = max(message['in_flight'] for message in some)
     delays = [message for message in some if 'delay' in message]
     if delays:
         one['delay'] = sorted((float(message['delay']), message['first_tsn'], message['acknowledged_packet']) for message in delays)
@@ -216,6 +217,7 @@ def text_of(line):
         if 'first' in end:
             text += ', first %(first)s (packet %(first_packet)d), last %(last)s (packet %(last_packet)d)' % end
         text += ', %d bytes/s' % end['bytes_per_second'] if 'bytes_per_second' in end else ''
+        text += ', in flight %d at most' % end['most_in_flight'] if 'most_in_flight' in end else ''
         if 'delay' in end:
             text += ', delay least %(least)s s, median %(median)s s, greatest %(greatest)s s (tsn %(greatest_tsn)d)' % end['delay']
     return text

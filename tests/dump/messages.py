@@ -68,7 +68,8 @@ class Fragment:
         return self.at if self.ends or self.is_i_data else self.at + 1
 
     def same(self, other):
-        return all(getattr(self, name) == getattr(other, name) for name in ('key', 'place', 'begins', 'ends', 'ppid', 'payload'))
+        names = 'is_i_data', 'stream', 'unordered', 'number', 'place', 'begins', 'ends', 'ppid', 'payload'
+        return all(getattr(self, name) == getattr(other, name) for name in names)
 
     def leads_to(self, other):
         """The other one is the next that was seen of the same message of DATA (RFC 9260 section 6.9)."""
@@ -101,6 +102,7 @@ class Sender:
         self.association, self.side, self.all, self.passed, self.last, self.over = association, side, [], None, 0, False
         # of each stream the number of the message that is over last, and whether that is 'none yet' of the others
         self.ended, self.is_fresh, self.request, self.is_told = {}, False, None, False
+        self.before_reset = None, ()
 
     def counted_on(self, tsn):
         """Serial Number Arithmetic (RFC 9260 section 2.6), from the last TSN on."""
@@ -111,9 +113,17 @@ class Sender:
             self.passed = self.last = (tsn - 1) % 2 ** 32
             self.is_fresh = self.is_told = True
 
-    def reset(self, number, streams):
+    def key_at(self, key, at):
+        """After the last TSN of a request its streams are others (RFC 6525 section 4.1): before that they have negative numbers."""
+        last, streams = self.before_reset
+        is_before = last is not None and at <= last and (not streams or key[1] in streams) and key[1] >= 0
+        return (key[0], ~key[1], *key[2:]) if is_before else key
+
+    def reset(self, number, last, streams):
         if self.request is None or not is_not_after(True, number, self.request):
-            self.request = number
+            self.request, self.before_reset = number, (self.counted_on(last), streams)
+            for one in self.all:
+                one.key = self.key_at(one.key, one.at)
             self.ended = {order: last for order, last in self.ended.items() if streams and order[1] not in streams}
 
     def send(self, fragment, moment):
@@ -126,6 +136,7 @@ class Sender:
         if self.over or self.passed is not None and fragment.at <= self.passed:
             return []
         self.last, fragment.sent = fragment.at, moment
+        fragment.key = self.key_at(fragment.key, fragment.at)
         for known in self.all:
             if known.at == fragment.at:
                 known.again.append(moment[1] - known.sent[1])
@@ -140,6 +151,8 @@ class Sender:
             first = min(later, key=lambda one: one.sent[0])
             fragment.late = first.tsn, moment[1] - first.sent[1]
         fragment.wait = self.unseen_before(fragment)
+        fragment.in_flight = fragment.size + sum(
+            one.size for one in self.all if one.stream == fragment.stream and not one.acknowledged)
         self.all = sorted(self.all + [fragment], key=lambda one: one.at)
         before = [one for one in self.all if one.at < fragment.at and (not fragment.is_i_data or one.order == fragment.order)]
         if not before or before[-1].over or not before[-1].passed_by:
@@ -161,7 +174,7 @@ class Sender:
         at = self.passed + 1 if self.passed is not None else min(seen, default=fragment.at)
         last = self.ended.get(fragment.order)
         due = None
-        if last is not None or self.is_fresh:
+        if last is not None or self.is_fresh and fragment.key[1] >= 0:
             due = (0 if last is None else next_number(fragment.is_i_data, last)), None
         for one in [one for one in self.all if one.order == fragment.order and one.at < fragment.at] + [fragment]:
             unseen = at
@@ -221,7 +234,7 @@ class Sender:
         if self.is_blind:
             self.ended, self.is_fresh = {}, False
         for one in self.all:
-            if one.over and one.at <= self.passed and not self.is_blind and (one.is_i_data or not one.unordered):
+            if one.over and one.at <= self.passed and not self.is_blind and (one.is_i_data or not one.unordered) and one.key[1] >= 0:
                 self.ended[one.order] = one.number
         self.all = [one for one in self.all if not one.over or one.at > self.passed]
 
@@ -262,8 +275,9 @@ class Sender:
                 key = True, stream, flags & 1, number
             else:
                 key = False, *struct.unpack_from('>H', value, at), 0, *struct.unpack_from('>H', value, at + 2)
+            key = self.key_at(key, self.passed)
             lines += [self.end(group, fate) for group in self.groups() if group[0].key == key and key[0]]
-            if not self.is_ended(key):
+            if not self.is_ended(key) and key[1] >= 0:
                 self.ended[key[:3]] = key[3]
         return lines
 
@@ -327,6 +341,8 @@ class Sender:
             line.update(closed_first=min(closed)[1], closed_last=max(closed)[1])
         if is_whole(group):
             line['payload'] = b''.join(one.payload for one in group).hex()
+        # of the channel, no message says it
+        line['in_flight'] = max(one.in_flight for one in group)
         for one in group:
             one.over = True
         return line
@@ -360,7 +376,7 @@ def resets_of(content):
     while at + 4 <= len(content):
         kind, size = struct.unpack_from('>HH', content, at)
         if kind == 13 and size >= 16:
-            yield struct.unpack_from('>I', content, at + 4)[0], struct.unpack_from('>%dH' % ((size - 16) // 2), content, at + 16)
+            yield *struct.unpack_from('>I4xI', content, at + 4), struct.unpack_from('>%dH' % ((size - 16) // 2), content, at + 16)
         at += max(4, (size + 3) // 4 * 4)
 
 
@@ -385,8 +401,8 @@ def modelled(path):
             elif kind in (INIT, INIT_ACK) and len(content) >= 16:
                 senders.setdefault(own, Sender(*own)).begin(struct.unpack_from('>I', content, 12)[0])
             elif kind == RE_CONFIG and own in senders:
-                for number, streams in resets_of(content):
-                    senders[own].reset(number, streams)
+                for request in resets_of(content):
+                    senders[own].reset(*request)
             elif kind in (FORWARD_TSN, I_FORWARD_TSN) and own in senders:
                 lines += senders[own].skip(value[0], kind, content, moment)
             elif kind in (SACK, NR_SACK) and other in senders:
@@ -488,6 +504,8 @@ def compare(path, program):
     name = os.path.basename(path)
     print('messages.py: %s' % name, file=sys.stderr)
     want = modelled(path)
+    for line in want:
+        del line['in_flight']
     got = [json.loads(line, parse_float=str) for line in printed(program, path, '--json', '--messages', '--payload', '--summary')]
     got, wrong = [line for line in got if 'message_of' in line], []
     for line in got:
@@ -606,8 +624,8 @@ def midway():
 
 
 def drawn(seed):
-    """Some associations at once, with loss, reordering, repetition, FORWARD-TSN, windows of 0, interleaving, wraps of TSNs, chunks
-    that contradict one another, and beginnings that weren't captured."""
+    """Some associations at once, with loss, reordering, repetition, FORWARD-TSN, windows of 0, resets, interleaving, wraps of TSNs,
+    chunks that contradict one another, and beginnings that weren't captured."""
     draw = random.Random(seed)
     capture, live, port = base.Capture('messages%d' % seed), [], 1000
     for _ in range(6000):
@@ -620,7 +638,7 @@ def drawn(seed):
                 base.handshake(capture, a, b, *tags, *first)
             live.append({'ends': (a, b), 'tags': tags, 'i_data': draw.random() < 0.4, 'loss': draw.choice((0, 0.05, 0.3)), 'sent': ([], []),
                          'next': first, 'open': ({}, {}), 'numbers': ({}, {}),
-                         'cumulative': [None, None], 'got': (set(), set())})
+                         'cumulative': [None, None], 'got': (set(), set()), 'requests': [draw.getrandbits(32), b'']})
         if not live:
             continue
         one = draw.choice(live)
@@ -645,6 +663,8 @@ def drawn(seed):
             one['got'][side].update(range(tsn - 40, tsn + 1))
             kind = I_FORWARD_TSN if one['i_data'] else FORWARD_TSN
             capture.add(source, destination, tag, base.forward_tsn(tsn, (1,), kind), after=after)
+        elif what < 0.975 and side == 0 and one['sent'][side]:
+            capture.add(source, destination, tag, next_request(draw, one), after=after)
         elif what > 0.997:
             live.remove(one)
             if draw.random() < 0.5:
@@ -698,6 +718,20 @@ def next_fragment(draw, one, side):
     if one['i_data']:
         return tsn, i_piece(tsn, bits, stream, number, ppid if bits & BEGINS else fsn, payload)
     return tsn, piece(tsn, bits, stream, number % 2 ** 16, payload, ppid)
+
+
+def next_request(draw, one):
+    """Draws a request of the first end to reset streams of which no message is open, or all (RFC 6525 section 4.1), or repeats one."""
+    number, last = one['requests']
+    free = [stream for stream in range(3) if stream not in one['open'][0]]
+    if not free or last and draw.random() < 0.3:
+        return last or base.chunk(RE_CONFIG, 0, b'')
+    streams = draw.sample(free, draw.randrange(1 if len(free) < 3 else 0, len(free) + 1))
+    for stream in streams or free:
+        one['numbers'][0].pop(stream, None)
+    value = struct.pack('>III', number, 0, (one['next'][0] - 1) % 2 ** 32) + b''.join(struct.pack('>H', stream) for stream in streams)
+    one['requests'] = (number + 1) % 2 ** 32, base.chunk(RE_CONFIG, 0, base.parameter(13, value))
+    return one['requests'][1]
 
 
 def report_of(draw, one, side):

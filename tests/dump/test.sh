@@ -336,7 +336,7 @@ ended=${PIPESTATUS[1]}
 } >"$work/printed"
 cat >"$work/wanted" <<'WANTED'
 1024
-other channels of 1; > messages 64512, bytes 64512, repeated 0, abandoned 0, not acknowledged 0, first (packet 1027), last (packet 65663); < messages 0, bytes 0, repeated 0, abandoned 0, not acknowledged 0
+other channels of 1; > messages 64512, bytes 64512, repeated 0, abandoned 0, not acknowledged 0, first (packet 1027), last (packet 65663), in flight 1 at most; < messages 0, bytes 0, repeated 0, abandoned 0, not acknowledged 0
 WANTED
 judge 'more channels than are kept' "$ended" 0
 

@@ -54,6 +54,8 @@ pub struct Traffic {
     pub unacknowledged: u64,
     /// When they were sent; `None` if there is none.
     pub span: Option<Span>,
+    /// How many bytes of their stream were in flight at most.
+    pub most_in_flight: u64,
     /// The delays of those that were acknowledged.
     pub delays: Delays,
 }
@@ -70,6 +72,7 @@ impl Traffic {
             abandoned: 0,
             unacknowledged: 0,
             span: None,
+            most_in_flight: 0,
             delays: Delays::new(),
         }
     }
@@ -88,6 +91,7 @@ impl Traffic {
                 last: message.sent,
             }),
         };
+        self.most_in_flight = self.most_in_flight.max(message.in_flight);
         match message.fate {
             Fate::Acknowledged(moment) => {
                 if let Some(delay) = message.delay() {
@@ -108,8 +112,16 @@ impl Traffic {
         if nanoseconds == 0 {
             return None;
         }
-        let rate = u128::from(self.bytes) * 1_000_000_000 / u128::from(nanoseconds);
-        Some(rate.min(u128::from(u64::MAX)) as u64)
+        // Digit by digit, since their product with 10^9 may not have room in 64 bits. (Of a rest ten
+        // times has, unless they are 58 years.)
+        let mut rate = self.bytes / nanoseconds;
+        let mut rest = self.bytes % nanoseconds;
+        for _ in 0..9 {
+            rest = rest.saturating_mul(10);
+            rate = rate.saturating_mul(10).saturating_add(rest / nanoseconds);
+            rest %= nanoseconds;
+        }
+        Some(rate)
     }
 }
 

@@ -137,6 +137,10 @@ impl<'a> ChannelReport<'a> {
         if let Some(rate) = traffic.bytes_per_second() {
             write!(out, ", {rate} bytes/s");
         }
+        if traffic.messages > 0 {
+            let most = traffic.most_in_flight;
+            write!(out, ", in flight {most} at most");
+        }
         let delays = &traffic.delays;
         if delays.count == 0 {
             return;
@@ -298,6 +302,9 @@ impl<'a> ChannelJson<'a> {
         }
         if let Some(rate) = traffic.bytes_per_second() {
             out.pair("bytes_per_second", rate);
+        }
+        if traffic.messages > 0 {
+            out.pair("most_in_flight", traffic.most_in_flight);
         }
         if traffic.delays.count > 0 {
             self.write_delays(&traffic.delays, out);

@@ -28,6 +28,8 @@ pub struct MessageKey {
     pub stream: u16,
     /// Whether the message is unordered: the U bit.
     pub is_unordered: bool,
+    /// Whether the stream was reset after it (RFC 6525 section 4.1).
+    pub is_before_reset: bool,
     /// The Stream Sequence Number of DATA (RFC 9260 section 3.3.1), or the Message Identifier of
     /// I-DATA (RFC 8260 section 2.1).
     pub number: u32,
@@ -48,6 +50,7 @@ impl MessageKey {
             is_i_data,
             stream: read_u16_be(bytes),
             is_unordered: is_i_data && bytes[3] % 2 == 1,
+            is_before_reset: false,
             number: if is_i_data {
                 read_u32_be(&bytes[4..])
             } else {
@@ -61,6 +64,7 @@ impl MessageKey {
         self.is_i_data == other.is_i_data
             && self.stream == other.stream
             && self.is_unordered == other.is_unordered
+            && self.is_before_reset == other.is_before_reset
     }
 
     /// Returns whether it comes after another message of its stream.
@@ -152,6 +156,8 @@ pub struct Fragment {
     pub size: usize,
     // of its bytes, as far as they were captured
     digest: u64,
+    /// How many bytes of its stream were in flight once it was sent, up to 2^64 - 1.
+    pub in_flight: u64,
     /// When it was sent first.
     pub sent: Moment,
     /// How often it was sent again, up to 2^32 - 1.
@@ -204,11 +210,13 @@ impl Fragment {
                 is_i_data: chunk.first == I_DATA,
                 stream: numbers.stream,
                 is_unordered: chunk.second / 4 % 2 == 1,
+                is_before_reset: false,
                 number: numbers.number,
             },
             ppid: numbers.ppid,
             size: value.size,
             digest: digest(value.bytes),
+            in_flight: 0,
             sent: Moment::of(packet),
             repeated: 0,
             repeated_after: None,

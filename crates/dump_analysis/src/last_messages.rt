@@ -15,8 +15,11 @@ pub struct LastMessages {
     list: Vec<MessageKey>,
     // whether no message is over of the streams that aren't in the list
     has_all: bool,
-    // the number of the last request to reset streams
+    // the number of the last request to reset streams, the TSN after which it does, and these, in
+    // order; all of them if there is none
     request: Option<u32>,
+    reset_after: u32,
+    reset_streams: Vec<u16>,
 }
 
 impl LastMessages {
@@ -26,6 +29,8 @@ impl LastMessages {
             list: Vec::new(alloc),
             has_all: false,
             request: None,
+            reset_after: 0,
+            reset_streams: Vec::new(alloc),
         }
     }
 
@@ -41,7 +46,7 @@ impl LastMessages {
 
     /// Notes that a message is over.
     pub fn note(&mut self, key: MessageKey) -> Result<(), AllocError> {
-        if key.is_unordered && !key.is_i_data {
+        if key.is_before_reset || key.is_unordered && !key.is_i_data {
             return Ok(());
         }
         for place in 0..self.list.len() {
@@ -76,7 +81,7 @@ impl LastMessages {
                 return Some(known.next());
             }
         }
-        if self.has_all { Some(0) } else { None }
+        if self.has_all && !key.is_before_reset { Some(0) } else { None }
     }
 
     /// Returns whether a message is known to be over: it is the last one of its stream, or comes
@@ -97,22 +102,33 @@ impl LastMessages {
     }
 
     /// Notes a request of this number to reset streams, which are named one after the other, or all
-    /// (RFC 6525 section 4.1): their messages are numbered from 0 on.
-    pub fn reset(&mut self, number: u32, streams: &[u8]) {
+    /// (RFC 6525 section 4.1): after this TSN their messages are numbered from 0 on.
+    pub fn reset(&mut self, number: u32, tsn: u32, streams: &[u8]) -> Result<(), AllocError> {
         if self.request.is_some_and(|last| !is_after(number, last)) {
-            return;
+            return Ok(());
         }
         self.request = Some(number);
-        self.list.retain(|known| !has_stream(streams, known.stream));
-    }
-}
-
-/// Returns whether a stream is named, or all are.
-fn has_stream(streams: &[u8], stream: u16) -> bool {
-    for place in 0..streams.len() / 2 {
-        if read_u16_be(&streams[2 * place..]) == stream {
-            return true;
+        self.reset_after = tsn;
+        self.reset_streams.clear();
+        if streams.is_empty() || streams.len() > 2 * MOST {
+            self.list.clear();
+            self.has_all &= streams.is_empty();
+            return Ok(());
         }
+        for place in 0..streams.len() / 2 {
+            self.reset_streams.push(read_u16_be(&streams[2 * place..]))?;
+        }
+        self.reset_streams.sort_unstable();
+        let reset = &self.reset_streams;
+        self.list
+            .retain(|known| reset.binary_search(&known.stream).is_err());
+        Ok(())
     }
-    streams.is_empty()
+
+    /// Returns whether the last request resets a stream after this TSN, or later.
+    pub fn is_before_reset(&self, stream: u16, tsn: u32) -> bool {
+        self.request.is_some()
+            && !is_after(tsn, self.reset_after)
+            && (self.reset_streams.is_empty() || self.reset_streams.binary_search(&stream).is_ok())
+    }
 }

@@ -31,6 +31,7 @@ pub mod filter;
 mod fragment;
 mod gone;
 mod icmp_errors;
+mod in_flight;
 mod initiation;
 mod json;
 mod key;

@@ -57,6 +57,9 @@ pub struct Message {
     pub size: u64,
     /// How many fragments.
     pub fragments: u64,
+    /// How many bytes of its stream were in flight at most, each time that a fragment of it was
+    /// sent first.
+    pub in_flight: u64,
     /// Its first TSN.
     pub first_tsn: u32,
     /// Its last TSN.
@@ -105,6 +108,7 @@ impl Message {
             ppid: None,
             size: 0,
             fragments: 0,
+            in_flight: 0,
             first_tsn: lead.tsn,
             last_tsn: lead.tsn,
             sent: lead.sent,
@@ -175,6 +179,7 @@ impl Message {
         self.ppid = self.ppid.or(piece.ppid);
         self.size = self.size.saturating_add(piece.size as u64);
         increase(&mut self.fragments);
+        self.in_flight = self.in_flight.max(piece.in_flight);
         if comes_before(piece.sent.packet, self.sent.packet) {
             self.sent = piece.sent;
         }

@@ -133,7 +133,7 @@ impl Messages {
             }
             RE_CONFIG => {
                 if let Some(outgoing) = self.ends.get_mut(&sender) {
-                    note_resets(outgoing, chunk);
+                    note_resets(outgoing, chunk)?;
                 }
             }
             FORWARD_TSN | I_FORWARD_TSN if value.len() >= 4 => {
@@ -210,16 +210,18 @@ impl Messages {
 }
 
 /// Notes which streams a RE-CONFIG of an end asks to reset.
-fn note_resets(outgoing: &mut Outgoing, chunk: Item<'_>) {
+fn note_resets(outgoing: &mut Outgoing, chunk: Item<'_>) -> Result<(), AllocError> {
     for parameter in chunk.value.items() {
         let bytes = parameter.value.bytes;
         if parameter.code() == OUTGOING_SSN_RESET
             && bytes.len() >= OutgoingSsnResetRequestNumbers::SIZE
         {
             let streams = &bytes[OutgoingSsnResetRequestNumbers::SIZE..];
-            outgoing.reset(read_u32_be(bytes), streams);
+            let tsn = read_u32_be(&bytes[OutgoingSsnResetRequestNumbers::SENDER_LAST_ASSIGNED_TSN..]);
+            outgoing.reset(read_u32_be(bytes), tsn, streams)?;
         }
     }
+    Ok(())
 }
 
 /// Returns whether a SACK or an NR-SACK says that its sender has no room.

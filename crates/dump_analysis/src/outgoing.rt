@@ -6,6 +6,7 @@ ghost use Rattle.dump_analysis.specs.Fates.{AddsBy};
 use crate::acknowledgement::Acknowledgement;
 use crate::association::Side;
 use crate::fragment::{Fragment, Late, MessageKey, is_whole};
+use crate::in_flight::InFlight;
 use crate::last_messages::LastMessages;
 use crate::message::{EndedMessages, Fate, Message, comes_before};
 use crate::moment::Moment;
@@ -32,6 +33,8 @@ pub struct Outgoing {
     /// Which of its ends sent them.
     pub sender: Side,
     fragments: Vec<Fragment>,
+    // those of them that aren't acknowledged
+    in_flight: InFlight,
     // the greatest TSN that is passed
     passed: Option<u32>,
     // whether the end's INIT alone says so
@@ -54,6 +57,7 @@ impl Outgoing {
             association,
             sender,
             fragments: Vec::new(alloc),
+            in_flight: InFlight::new(alloc),
             passed: None,
             is_told: false,
             last: LastMessages::new(alloc),
@@ -80,11 +84,18 @@ impl Outgoing {
         }
     }
 
-    /// Notes a request of this number to reset streams.
-    pub fn reset(&mut self, number: u32, streams: &[u8])
-        ensures { self.new.fragments ≡ self.old.fragments }
+    /// Notes a request of this number to reset streams after this TSN.
+    pub fn reset(&mut self, number: u32, tsn: u32, streams: &[u8]) -> Result<(), AllocError>
+        ensures { vec_len self.new.fragments ≡ vec_len self.old.fragments }
     {
-        self.last.reset(number, streams);
+        self.last.reset(number, tsn, streams)?;
+        for place in 0..self.fragments.len() {
+            if let Some(fragment) = self.fragments.get_mut(place) {
+                fragment.key.is_before_reset |=
+                    self.last.is_before_reset(fragment.key.stream, fragment.tsn);
+            }
+        }
+        Ok(())
     }
 
     /// Notes that a fragment was sent that isn't followed.
@@ -114,10 +125,12 @@ impl Outgoing {
         if self.is_over || self.has_passed(fragment.tsn) {
             return Ok(false);
         }
+        let mut fragment = *fragment;
         let place = self.place_of(fragment.tsn);
         if let Some(known) = self.fragments.get_mut(place) {
             if known.tsn == fragment.tsn {
-                known.note_repeated(fragment);
+                fragment.key.is_before_reset = known.key.is_before_reset;
+                known.note_repeated(&fragment);
                 return Ok(false);
             }
         }
@@ -126,10 +139,12 @@ impl Outgoing {
             self.note_lost(ended);
             return Ok(false);
         }
-        let mut fragment = *fragment;
+        fragment.key.is_before_reset =
+            self.last.is_before_reset(fragment.key.stream, fragment.tsn);
         fragment.is_over = self.is_over_before(&fragment);
         fragment.late = self.lateness(place, &fragment);
         fragment.wait = self.unseen_before(place, &fragment);
+        fragment.in_flight = self.in_flight.add(fragment.key.stream, fragment.size)?;
         self.fragments.insert(place.min(count), fragment)?;
         self.end_before(place, ended)?;
         Ok(!fragment.is_over)
@@ -261,6 +276,7 @@ impl Outgoing {
                 if !fragment.is_acknowledged && is_acknowledged {
                     fragment.is_acknowledged = true;
                     fragment.is_fresh = true;
+                    self.in_flight.remove(fragment.key.stream, fragment.size);
                 }
             }
         }
@@ -324,9 +340,10 @@ impl Outgoing {
             return Ok(());
         }
         for index in 0..value.len() / 4 {
-            let Some(key) = MessageKey::skipped(chunk, value, index) else {
+            let Some(mut key) = MessageKey::skipped(chunk, value, index) else {
                 break;
             };
+            key.is_before_reset = self.last.is_before_reset(key.stream, cumulative);
             self.end_named(key, fate, ended)?;
             self.last.skip(key)?;
         }
@@ -695,7 +712,12 @@ impl Outgoing {
             if let Some(fragment) = self.fragments.get(place).copied() {
                 if !self.is_forgotten(&fragment) {
                     kept.push(fragment)?;
-                } else if !has_unseen {
+                    continue;
+                }
+                if !fragment.is_acknowledged {
+                    self.in_flight.remove(fragment.key.stream, fragment.size);
+                }
+                if !has_unseen {
                     self.last.note(fragment.key)?;
                 }
             }
