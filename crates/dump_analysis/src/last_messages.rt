@@ -81,7 +81,11 @@ impl LastMessages {
                 return Some(known.next());
             }
         }
-        if self.has_all && !key.is_before_reset { Some(0) } else { None }
+        if self.has_all && !key.is_before_reset {
+            Some(0)
+        } else {
+            None
+        }
     }
 
     /// Returns whether a message is known to be over: it is the last one of its stream, or comes

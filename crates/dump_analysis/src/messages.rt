@@ -217,7 +217,9 @@ fn note_resets(outgoing: &mut Outgoing, chunk: Item<'_>) -> Result<(), AllocErro
             && bytes.len() >= OutgoingSsnResetRequestNumbers::SIZE
         {
             let streams = &bytes[OutgoingSsnResetRequestNumbers::SIZE..];
-            let tsn = read_u32_be(&bytes[OutgoingSsnResetRequestNumbers::SENDER_LAST_ASSIGNED_TSN..]);
+            let tsn = read_u32_be(
+                &bytes[OutgoingSsnResetRequestNumbers::SENDER_LAST_ASSIGNED_TSN..],
+            );
             outgoing.reset(read_u32_be(bytes), tsn, streams)?;
         }
     }

@@ -91,8 +91,9 @@ impl Outgoing {
         self.last.reset(number, tsn, streams)?;
         for place in 0..self.fragments.len() {
             if let Some(fragment) = self.fragments.get_mut(place) {
-                fragment.key.is_before_reset |=
-                    self.last.is_before_reset(fragment.key.stream, fragment.tsn);
+                fragment.key.is_before_reset |= self
+                    .last
+                    .is_before_reset(fragment.key.stream, fragment.tsn);
             }
         }
         Ok(())
@@ -139,8 +140,7 @@ impl Outgoing {
             self.note_lost(ended);
             return Ok(false);
         }
-        fragment.key.is_before_reset =
-            self.last.is_before_reset(fragment.key.stream, fragment.tsn);
+        fragment.key.is_before_reset = self.last.is_before_reset(fragment.key.stream, fragment.tsn);
         fragment.is_over = self.is_over_before(&fragment);
         fragment.late = self.lateness(place, &fragment);
         fragment.wait = self.unseen_before(place, &fragment);
