@@ -695,12 +695,14 @@ struct dcsctp_association {
 /* What is done with a packet, by its verification tag. */
 enum dcsctp_tag_verdict {
     DCSCTP_TAG_ACCEPT = 0,          /* the tag is right: the packet is processed */
-    DCSCTP_TAG_ESTABLISH = 1,       /* an INIT alone under the tag 0, or COOKIE ECHO first or after AUTH: see section 5 */
+    DCSCTP_TAG_ESTABLISH = 1,       /* an INIT alone under the tag 0, or COOKIE ECHO first or after one AUTH: see section 5 */
     DCSCTP_TAG_OUT_OF_THE_BLUE = 2, /* the packet is treated as if it belonged to no association */
     DCSCTP_TAG_DISCARD = 3          /* the packet is discarded, without an answer */
 };
 
-/* Returns a dcsctp_tag_verdict (sections 8.5 and 8.5.1). */
+/* Returns a dcsctp_tag_verdict (sections 8.5 and 8.5.1). The first of these rules that applies decides, wherever the chunks lie:
+   under the tag 0 all but an INIT alone is discarded; under another, a packet with INIT, also under the right tag; ABORT, then
+   SHUTDOWN COMPLETE, go by the T bit; then comes COOKIE ECHO, then SHUTDOWN ACK in a state that awaits a cookie, then the tag. */
 uint32_t dcsctp_verify_tag(const uint8_t *packet, size_t length, const struct dcsctp_association *association);
 
 /* What is done with a packet that belongs to no association. */
@@ -712,8 +714,10 @@ enum dcsctp_answer {
     DCSCTP_ANSWER_ABORT = 4              /* the same */
 };
 
-/* Returns a dcsctp_answer (section 8.4). `is_unicast` says whether the packet is to and from unicast addresses. COOKIE ECHO is
-   the first chunk after an AUTH too (RFC 4895 section 6.3), whose keys are then those that its cookie says. */
+/* Returns a dcsctp_answer (section 8.4). `is_unicast` says whether the packet is to and from unicast addresses. Under the tag 0
+   all but an INIT alone is discarded (section 8.5.1). COOKIE ECHO is the first chunk behind one AUTH too (RFC 4895 section 6.3),
+   whose keys are then those that its cookie says. The packet has to be correctly formed, as section 8.4 begins: dcsctp_check it
+   first, or bytes that are no packet may be answered by ABORT. */
 uint32_t dcsctp_out_of_the_blue(const uint8_t *packet, size_t length, bool is_unicast);
 
 /* Writes what DCSCTP_ANSWER_SHUTDOWN_COMPLETE or DCSCTP_ANSWER_ABORT sends back to the sender of a packet with this header:
@@ -724,18 +728,20 @@ uint32_t dcsctp_reply(uint8_t *packet, size_t room, size_t *size, const struct d
 
 /* What is wrong with a packet that carries INIT or INIT ACK: the first of these that is so. */
 enum dcsctp_init_fault {
-    DCSCTP_INIT_NO_FAULT = 0,            /* it can be processed */
+    DCSCTP_INIT_NO_FAULT = 0,            /* none of these */
     DCSCTP_INIT_NOT_ALONE = 1,           /* the packet doesn't hold this chunk alone */
     DCSCTP_INIT_TOO_SHORT = 2,           /* the chunk has no room for its numbers */
     DCSCTP_INIT_TAG_ZERO = 3,            /* the initiate tag is 0 */
     DCSCTP_INIT_SMALL_WINDOW = 4,        /* the window is smaller than 1,500 bytes */
     DCSCTP_INIT_NO_OUTBOUND_STREAMS = 5, /* their number is 0 */
     DCSCTP_INIT_NO_INBOUND_STREAMS = 6,  /* their number is 0 */
-    DCSCTP_INIT_NO_STATE_COOKIE = 7      /* INIT ACK lacks its State Cookie */
+    DCSCTP_INIT_NO_STATE_COOKIE = 7,     /* INIT ACK lacks its State Cookie */
+    DCSCTP_INIT_HOST_NAME_ADDRESS = 8    /* it has a Host Name Address (section 3.3.2.1.4) */
 };
 
 /* Returns a dcsctp_init_fault of an INIT (section 3.3.2), or of an INIT ACK (section 3.3.3) where `is_ack` is true. Of the
-   parameters the State Cookie alone is looked for. */
+   parameters State Cookie and Host Name Address alone are looked for, up to the first whose length is impossible. That length is
+   no fault here, nor are bytes after the chunk that are no whole chunk: dcsctp_check finds both. */
 uint32_t dcsctp_init_fault(const uint8_t *packet, size_t length, bool is_ack);
 
 /* What is done with a packet whose INIT or INIT ACK isn't processed. */
@@ -751,7 +757,8 @@ uint32_t dcsctp_init_refusal(uint32_t fault, bool is_ack, bool in_cookie_wait);
 
 /* Writes the packet with the ABORT that says this fault, of at most 28 bytes, to the sender of an INIT or INIT ACK with this
    initiate tag in a packet with this header. Its cause is Missing Mandatory Parameter or Invalid Mandatory Parameter; it has
-   none for DCSCTP_INIT_NOT_ALONE and DCSCTP_INIT_TOO_SHORT, which no ABORT answers. Its tag is the initiate tag; for
+   none for DCSCTP_INIT_NOT_ALONE and DCSCTP_INIT_TOO_SHORT, which no ABORT answers, nor for DCSCTP_INIT_HOST_NAME_ADDRESS:
+   dcsctp_add_parameter may add the cause Unresolvable Address, which holds the parameter. Its tag is the initiate tag; for
    DCSCTP_INIT_TAG_ZERO it is the packet's own, with the T bit. Its checksum field is zero, which dcsctp_seal fills. Returns
    DCSCTP_OK; or changes nothing, and returns DCSCTP_BAD_VALUE for a number that is no fault's, else DCSCTP_NO_ROOM. */
 uint32_t dcsctp_init_abort(uint8_t *packet, size_t room, size_t *size, const struct dcsctp_header *header,
@@ -760,7 +767,9 @@ uint32_t dcsctp_init_abort(uint8_t *packet, size_t room, size_t *size, const str
 /* Returns whether an INIT adds addresses to an association that is there already, or in COOKIE-ECHOED (sections 5.2.1 and
    5.2.2): you answer it by an ABORT under its initiate tag, and the association stays as it is. `list` are the INIT's parameters,
    and `known` the association's addresses, as parameters too: IPv4 Address and IPv6 Address. What comes after the first whose
-   length is impossible isn't looked at. The address that the packet came from isn't in the list: look at it yourself. */
+   length is impossible isn't looked at. The address that the packet came from isn't in the list: look at it yourself. Each of
+   the INIT's addresses is compared with each known one, here and by dcsctp_add_new_addresses: both may be the peer's, so bound
+   how many you keep. */
 bool dcsctp_adds_addresses(const uint8_t *list, size_t list_size, const uint8_t *known, size_t known_size);
 
 /* Adds to the ABORT that begins at `start` the cause Restart of an Association with New Addresses (section 3.3.10.11), with the
@@ -781,10 +790,10 @@ enum dcsctp_rule {
     DCSCTP_RULE_TAG_ZERO = 0x8,             /* the verification tag is 0 with a chunk other than INIT (RFC 9260 section 8.5.1) */
     DCSCTP_RULE_INITIATE_TAG_ZERO = 0x10,   /* the Initiate Tag is 0 (RFC 9260 sections 3.3.2 and 3.3.3) */
     DCSCTP_RULE_NO_STREAMS = 0x20,          /* the number of outbound or inbound streams is 0 (RFC 9260 sections 3.3.2 and 3.3.3) */
-    DCSCTP_RULE_SMALL_WINDOW = 0x40,        /* INIT or INIT ACK advertises a window below 1,500 bytes (RFC 9260 section 6) */
+    DCSCTP_RULE_SMALL_WINDOW = 0x40,        /* INIT or INIT ACK advertises a window below 1,500 bytes (RFC 9260 sections 3.3.2 and 6) */
     DCSCTP_RULE_INIT_ACK_COOKIE = 0x80,     /* INIT ACK has no State Cookie (RFC 9260 section 3.3.3) */
     DCSCTP_RULE_HEARTBEAT_INFO = 0x100,     /* HEARTBEAT has no Heartbeat Info (RFC 9260 section 3.3.5) */
-    DCSCTP_RULE_NO_USER_DATA = 0x200,       /* DATA or I-DATA has no user data (RFC 9260 section 6.2) */
+    DCSCTP_RULE_NO_USER_DATA = 0x200,       /* DATA or I-DATA has no user data (RFC 9260 section 3.3.1) */
     DCSCTP_RULE_DATA_BESIDE_IDATA = 0x400,  /* an association has both DATA and I-DATA (RFC 8260 section 2.2.1) */
     DCSCTP_RULE_GAP_BLOCKS = 0x800,         /* gap ack blocks are empty, out of order or not isolated (RFC 9260 section 3.3.4) */
     DCSCTP_RULE_RESERVED_BITS = 0x1000,     /* reserved flags are set (RFC 9260 section 3.2) */
@@ -803,7 +812,9 @@ struct dcsctp_known {
 };
 
 /* Returns the rules that a packet breaks, each as its bit; zero if it breaks none. Its common header and its chunks are looked
-   at, up to the first chunk whose length is impossible: what can't be read breaks no rule. Its CRC32c is computed here. */
+   at, up to the first chunk whose length is impossible; a field that isn't there breaks no rule. Each field that is there is
+   judged by itself, also in bytes that are no packet: INIT ACK too short for its numbers lacks a State Cookie, and gap ack
+   blocks are those that are there of the number that SACK or NR-SACK has. Its CRC32c is computed here. */
 uint32_t dcsctp_broken_rules(const uint8_t *packet, size_t length, const struct dcsctp_known *known);
 
 /* ---- what is authenticated, under keys of yours
@@ -824,7 +835,8 @@ uint32_t dcsctp_shared_key(uint8_t *output, size_t room, size_t *size, const uin
 
 /* Returns whether the HMAC of an AUTH chunk is right under an association shared key (RFC 4895 section 6.3). `bytes` are those
    of the packet from the AUTH chunk on, up to its end. False also where no AUTH is there, its HMAC identifier is another than
-   1 and 3, or its HMAC is not as long as that of SHA-1 or SHA-256. */
+   1 and 3, or its HMAC is not as long as that of SHA-1 or SHA-256. An identifier that you didn't announce is answered by ERROR
+   with the cause DCSCTP_CAUSE_UNSUPPORTED_HMAC_IDENTIFIER: dcsctp_registered_chunk reads it. */
 bool dcsctp_verify_auth(const uint8_t *key, size_t key_size, const uint8_t *bytes, size_t length);
 
 /* Writes the HMAC into an AUTH chunk, whose field has to be as long (RFC 4895 section 6.2); all other bytes stay. `bytes` are
