@@ -9,6 +9,7 @@ typedef long long off_t;
 
 #define NULL ((void *)0)
 #define EINVAL 22
+#define ERANGE 34
 #define errno (*__error())
 int *__error(void);
 
@@ -25,6 +26,7 @@ off_t lseek(int, off_t, int);
 int open(const char *, int, ...);
 int pipe(int[2]);
 ssize_t read(int, void *, size_t);
+int unlink(const char *);
 ssize_t write(int, const void *, size_t);
 
 #define POLLIN 1
@@ -79,4 +81,5 @@ int stat(const char *, struct stat *);
 
 void *memcpy(void *, const void *, size_t);
 void *memset(void *, int, size_t);
+char *strerror(int);
 size_t strlen(const char *);
