@@ -12,7 +12,7 @@ const MOST_RANGES = 40;
 
 const NUMBERS = ['stream', 'size', 'fragments', 'first_tsn', 'last_tsn', 'sent_packet'];
 const MAYBE_NUMBERS = ['ssn', 'mid', 'ppid', 'acknowledged_packet', 'abandoned_packet', 'repeated', 'first_repeated_tsn', 'changed_tsn', 'missing',
-  'first_missing_tsn', 'first_missing_fsn', 'waited_for_tsn', 'closed_first', 'closed_last'];
+  'first_missing_tsn', 'first_missing_fsn', 'waited_for_tsn', 'waited_for_ssn', 'waited_for_mid', 'closed_first', 'closed_last'];
 const MAYBE_TEXTS = ['ppid_name', 'abandoned_by', 'sent_file', 'acknowledged_file', 'abandoned_file'];
 /** What there is to say of a message, by the keys. */
 const REMARKS = ['repeated', 'changed_tsn', 'missing', 'contradictory', 'no_beginning', 'no_end', 'waited_for_tsn', 'closed_first'];

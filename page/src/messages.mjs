@@ -37,14 +37,15 @@ function fateOf({ acknowledged_packet, acknowledged_file, abandoned_by, abandone
     @param {Message} it */
 function remarksOf(it) {
   const { repeated = 0, missing = 0, first_repeated_tsn: again, changed_tsn: changed, waited_for_tsn: awaited, closed_first: first, closed_last: last } = it;
-  const after = spanText(it.repeated_after), hole = it.first_missing_tsn ?? it.first_missing_fsn;
+  const after = spanText(it.repeated_after), hole = it.first_missing_tsn ?? it.first_missing_fsn, unseen = it.waited_for_ssn ?? it.waited_for_mid;
   return [[
     repeated > 0 ? `TSN ${again} sent again${after && ` after ${after}`}${repeated > 1 ? `, ${counted(repeated, 'repeat')} in all` : ''}` : '',
     changed !== undefined ? `TSN ${changed} sent again with other bytes` : '',
     missing > 0 ? `${it.first_missing_fsn === undefined ? 'TSN' : 'FSN'} ${hole}${missing > 1 ? ` and ${missing - 1} more` : ''} never seen` : '',
     it.contradictory ? 'fragments contradict one another' : '', it.no_beginning ? 'beginning not seen' : '', it.no_end ? 'end not seen' : '',
   ], [
-    awaited !== undefined ? `waited for TSN ${awaited} of its stream` : '',
+    awaited === undefined ? '' : unseen === undefined ? `waited for TSN ${awaited} of its stream` :
+      `waited for ${it.waited_for_ssn === undefined ? 'MID' : 'SSN'} ${unseen}, TSN ${awaited} not seen yet`,
     first !== undefined ? `peer’s window was 0 ${first === last ? `in ${first}` : `from ${first} to ${last}`}` : '',
   ]].map(texts => texts.filter(text => text).join('; ')).filter(text => text);
 }

@@ -165,6 +165,8 @@ interface Message {
   first_missing_tsn?: number;
   first_missing_fsn?: number;
   waited_for_tsn?: number;
+  waited_for_ssn?: number;
+  waited_for_mid?: number;
   closed_first?: number;
   closed_last?: number;
   [key: string]: unknown;

@@ -872,7 +872,8 @@ async function inBrowser(browser) {
       ['2', '1', end, '1 / ssn 0', string, '3 B', '100–102 / 3 fragments', 'in 1', 'acknowledged / in 7', '–',
         'TSN 101 sent again; TSN 101 sent again with other bytes / peer’s window was 0 in 5'],
       ['3', '1', end, '2 / ssn 0', string, '1 B', '104 / 1 fragment', 'in 8', 'acknowledged / in 10', '–', 'end not seen'],
-      ['4', '1', end, '2 / ssn 1', string, '1 B', '106 / 1 fragment', 'in 9', 'abandoned / in 11', '–', ''],
+      ['4', '1', end, '2 / ssn 1', string, '1 B', '106 / 1 fragment', 'in 9', 'abandoned / in 11', '–',
+        'waited for SSN 0, TSN 105 not seen yet'],
     ]);
     // By keys: to the tab, into the table, to a message's packets, and by what is said of one of these back.
     await browser.ask("document.getElementById('tab-channels').focus()");

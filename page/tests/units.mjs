@@ -751,6 +751,8 @@ each('the table of messages', it => messageRow(storeOf(...sentRows, fate(it))), 
     closed_first: 1, closed_last: 2 }, {
     ...ROW_OF_MESSAGE, 'Remarks': 'TSN 2 sent again after 1.42 s, 3 repeats in all; TSN 2 sent again with other bytes; fragments contradict one another; ' +
       'beginning not seen; end not seen / waited for TSN 1 of its stream; peer’s window was 0 from 1 to 2' }],
+  [{ ...isAcked, waited_for_tsn: 1, waited_for_ssn: 0 }, { ...ROW_OF_MESSAGE, 'Remarks': 'waited for SSN 0, TSN 1 not seen yet' }],
+  [{ ...isAcked, waited_for_tsn: 1, waited_for_mid: 7 }, { ...ROW_OF_MESSAGE, 'Remarks': 'waited for MID 7, TSN 1 not seen yet' }],
   [{ ...isAcked, repeated: 1, first_repeated_tsn: 2, missing: 1, first_missing_tsn: 3, closed_first: 1, closed_last: 1 }, {
     ...ROW_OF_MESSAGE, 'Remarks': 'TSN 2 sent again; TSN 3 never seen / peer’s window was 0 in 1' }],
   // What the program didn't print is text, whatever it is.
