@@ -341,7 +341,7 @@ class Sender:
             line.update(closed_first=min(closed)[1], closed_last=max(closed)[1])
         if is_whole(group):
             line['payload'] = b''.join(one.payload for one in group).hex()
-        # of the channel, no message says it
+        # (the line of a channel says it, and none of a message)
         line['in_flight'] = max(one.in_flight for one in group)
         for one in group:
             one.over = True
