@@ -37,8 +37,8 @@ crates/dcsctp_wire/proofs/ChunkRows.antt = COOKIE ECHO = plain_satisfies 10 _ ki
 crates/dcsctp_borrowed/specs/RawParameters.antt = RE-CONFIG = parameters_of (ReConfig ps) = Some ps
 crates/dcsctp_borrowed/specs/RawParameters.antt = HEARTBEAT ACK = || typ == 5
 crates/dcsctp_borrowed/src/raw_causes.rt = ERROR = error_chunk::CHUNK_TYPE =>
-crates/dcsctp_borrowed/proofs/ParametersAgain.antt = State Cookie = use Rattle.dcsctp_tlv.specs.StateCookie as cookie
-crates/dcsctp_borrowed/proofs/CausesAgain.antt = Protocol Violation = use Rattle.dcsctp_cause.specs.ProtocolViolation as violation
+crates/dcsctp_borrowed/proofs/ParametersRewritten.antt = State Cookie = use Rattle.dcsctp_tlv.specs.StateCookie as cookie
+crates/dcsctp_borrowed/proofs/CausesRewritten.antt = Protocol Violation = use Rattle.dcsctp_cause.specs.ProtocolViolation as violation
 crates/dcsctp_buffer/specs/Item.antt = INIT ACK = with_parameter (InitAck i) p =
 crates/dcsctp_c/src/parameters.rt = HEARTBEAT = heartbeat_request_chunk::CHUNK_TYPE
 crates/dcsctp_c/specs/Parameter.antt = SSN/TSN Reset Request = number_of (SsnTsnResetRequest number) = Some number

@@ -6,7 +6,7 @@ use Rattle.dcsctp_cause.specs.Cause as cause
 use Rattle.dcsctp_cause.proofs.CauseLaws.{IsGoodCause, causes_lawful, causes_form, causes_read_back}
 use Rattle.dcsctp_chunk.{specs.Flags.{is_set}, proofs.FlagLaws.{one_again}}
 use Rattle.dcsctp_wire.{specs.Chunk.{ChunkTree, Abort, Error, HoldsCauses, chunks, chunk_row, tlv as chunk_tlv}, specs.Canonical.{canonical, HasCanonical}, specs.Packet.{Meaning, PacketTree}, proofs.Canonicals.{canonical_of}, proofs.ChunkLaws.{IsGoodChunk, chunks_read_back}, proofs.ChunkRows.{chunks_lawful, chunks_form, chunks_account}}
-use Rattle.dcsctp_borrowed.{specs.declared.packet_ref.SctpPacketRef.{SctpPacketRef}, specs.PacketRef.{RefersTo}, specs.RawChunks.{MeanChunks}, specs.Rewritten.{IsByteItem, item_again, all_again, cause_again, chunk_again}, proofs.CausesAgain.{each_cause}, proofs.ChunksAgain.{each_chunk}, proofs.ItemsAgain.{items_are, byte_items, trees_again}, proofs.PlainAgain.{one_flag}, proofs.SameAgain.{IsWritten, IsShortItem, each_short, all_written, listed_one, causes_short, chunk_front}, proofs.Widths.{causes_fit, chunk_fits}}
+use Rattle.dcsctp_borrowed.{specs.declared.packet_ref.SctpPacketRef.{SctpPacketRef}, specs.PacketRef.{RefersTo}, specs.RawChunks.{MeanChunks}, specs.Rewritten.{IsByteItem, item_again, all_again, cause_again, chunk_again}, proofs.CausesRewritten.{each_cause}, proofs.ChunksRewritten.{each_chunk}, proofs.ItemsRewritten.{items_are, byte_items, trees_again}, proofs.PlainRewritten.{one_flag}, proofs.SameRewritten.{IsWritten, IsShortItem, each_short, all_written, listed_one, causes_short, chunk_front}, proofs.Widths.{causes_fit, chunk_fits}}
 
 -- ---- trees of a level that read back
 

@@ -27,7 +27,7 @@ use Rattle.dcsctp_wire.specs.ParameterList as list
 use Rattle.dcsctp_wire.specs.Abort as abort
 use Rattle.dcsctp_wire.specs.Error as error
 use Rattle.dcsctp_wire.specs.Chunk.{ChunkTree, Init, InitAck, HeartbeatRequest, HeartbeatAck, Abort, Error, ReConfig, Unknown, chunks, chunk_row, IsInWidth}
-use Rattle.dcsctp_borrowed.{specs.Rewritten.{IsByteItem}, proofs.FrameItems.{bytes_after}, proofs.ItemsAgain.{byte_items}, proofs.ParametersAgain.{response_with}, proofs.Rewritten.{first_bytes}, proofs.TreeRows.{of_listed, of_typed_as, of_chunk_as}}
+use Rattle.dcsctp_borrowed.{specs.Rewritten.{IsByteItem}, proofs.FrameItems.{bytes_after}, proofs.ItemsRewritten.{byte_items}, proofs.ParametersRewritten.{response_with}, proofs.Rewritten.{first_bytes}, proofs.TreeRows.{of_listed, of_typed_as, of_chunk_as}}
 
 -- ---- numbers and fields
 

@@ -14,8 +14,8 @@ use crate::structs::{DcsctpChunk, DcsctpParameter, DcsctpRegistered};
 use dcsctp_registry::address::Address;
 use dcsctp_registry::registered_cause::RegisteredCause;
 use dcsctp_registry::registered_chunk::{
-    AUTH_SIZE, NR_SACK_BLOCKS, NR_SACK_DUPLICATES, NR_SACK_NR_BLOCKS, NR_SACK_SIZE, PKTDROP_SIZE,
-    RegisteredChunk,
+    AUTH_VALUE_SIZE, NR_SACK_BLOCKS, NR_SACK_DUPLICATES, NR_SACK_NR_BLOCKS, NR_SACK_SIZE,
+    PKTDROP_SIZE, RegisteredChunk,
 };
 use dcsctp_registry::registered_parameter::RegisteredParameter;
 use dcsctp_tlv::parameter::RawParameter;
@@ -167,7 +167,7 @@ fn chunk_struct(offset: usize, value: &[u8], found: &RegisteredChunk<'_>) -> Dcs
                 second_short_number: *hmac_id,
                 ..empty()
             };
-            with_rest(AUTH_SIZE, offset, size, numbers)
+            with_rest(AUTH_VALUE_SIZE, offset, size, numbers)
         }
         RegisteredChunk::NrSack {
             cumulative_tsn_ack,

@@ -25,7 +25,7 @@ const SHUTDOWN_COMPLETE: u8 = 14;
 const AUTH: u8 = 15;
 
 /// The bytes of an AUTH chunk before its HMAC (RFC 4895 section 5.1).
-const AUTH_SIZE: usize = 8;
+pub const AUTH_CHUNK_SIZE: usize = 8;
 
 /// The bytes of the longest HMAC, as they are while it is computed.
 const ZEROS: [u8; 32] = [0; 32];
@@ -92,7 +92,7 @@ fn is_authenticated(key: &[u8], bytes: &[u8]) -> bool
     };
     let mac = auth_mac(function, key, bytes);
     are_equal(
-        &bytes[AUTH_SIZE..AUTH_SIZE + function.digest_size()],
+        &bytes[AUTH_CHUNK_SIZE..AUTH_CHUNK_SIZE + function.digest_size()],
         mac.as_bytes(),
     )
 }
@@ -115,7 +115,7 @@ pub fn sign(key: &[u8], bytes: &mut [u8]) -> bool
         return false;
     };
     let mac = auth_mac(function, key, bytes);
-    put_bytes(bytes, AUTH_SIZE, mac.as_bytes());
+    put_bytes(bytes, AUTH_CHUNK_SIZE, mac.as_bytes());
     true
 }
 
@@ -123,7 +123,7 @@ pub fn sign(key: &[u8], bytes: &mut [u8]) -> bool
 fn begins_with_auth(function: HashFunction, bytes: &[u8]) -> bool
     ensures { IsTrue result ↔ BeginsWithAuth function bytes.now }
 {
-    let size = AUTH_SIZE + function.digest_size();
+    let size = AUTH_CHUNK_SIZE + function.digest_size();
     if bytes.len() < size {
         return false;
     }
@@ -136,7 +136,7 @@ fn begins_with_auth(function: HashFunction, bytes: &[u8]) -> bool
 fn has_unknown_hmac(bytes: &[u8]) -> bool
     ensures { IsTrue result ↔ HasUnknownHmac bytes.now }
 {
-    if bytes.len() < AUTH_SIZE {
+    if bytes.len() < AUTH_CHUNK_SIZE {
         return false;
     }
     let size = read_u16_be(&bytes[2..]) as usize;
@@ -144,7 +144,7 @@ fn has_unknown_hmac(bytes: &[u8]) -> bool
     let sha1 = HashFunction::Sha1.hmac_identifier();
     let sha256 = HashFunction::Sha256.hmac_identifier();
     bytes[0] == AUTH
-        && AUTH_SIZE <= size
+        && AUTH_CHUNK_SIZE <= size
         && size <= bytes.len()
         && identifier != sha1
         && identifier != sha256
@@ -171,8 +171,8 @@ fn auth_mac(function: HashFunction, key: &[u8], bytes: &[u8]) -> Mac
 {
     let size = function.digest_size();
     let mut hmac = Hmac::new(function, key);
-    hmac.update(&bytes[..AUTH_SIZE]);
+    hmac.update(&bytes[..AUTH_CHUNK_SIZE]);
     hmac.update(&ZEROS[..size]);
-    hmac.update(&bytes[AUTH_SIZE + size..]);
+    hmac.update(&bytes[AUTH_CHUNK_SIZE + size..]);
     hmac.finalize()
 }

@@ -50,7 +50,7 @@ pub const ASCONF: u8 = 193;
 const TSN_SIZE: usize = 4;
 
 /// Bytes of AUTH's value before the HMAC: two numbers of two bytes.
-pub const AUTH_SIZE: usize = 4;
+pub const AUTH_VALUE_SIZE: usize = 4;
 
 /// Bytes of an NR-SACK's value before its lists.
 pub const NR_SACK_SIZE: usize = 16;
@@ -67,8 +67,9 @@ pub const NR_SACK_DUPLICATES: usize = 12;
 /// Bytes of PKTDROP's value before the packet.
 pub const PKTDROP_SIZE: usize = 12;
 
-/// Bytes of ASCONF's value before the address.
-const ASCONF_SIZE: usize = 4;
+/// Bytes of the sequence number at the front of the value of ASCONF and ASCONF ACK (RFC 5061 section
+/// 4.1).
+pub const SEQUENCE_NUMBER_SIZE: usize = 4;
 
 /// A chunk that IANA's registry or a draft has and `Chunk` doesn't name, whose bytes stay where
 /// they lie in the packet. Its flags are in the raw chunk.
@@ -254,7 +255,7 @@ impl<'a> RegisteredChunk<'a> {
     {
         match self {
             RegisteredChunk::Ecne(_) | RegisteredChunk::Cwr(_) => TSN_SIZE,
-            RegisteredChunk::Auth { hmac, .. } => AUTH_SIZE + hmac.len(),
+            RegisteredChunk::Auth { hmac, .. } => AUTH_VALUE_SIZE + hmac.len(),
             RegisteredChunk::NrSack {
                 gap_ack_blocks,
                 nr_gap_ack_blocks,
@@ -265,7 +266,7 @@ impl<'a> RegisteredChunk<'a> {
                 .saturating_add(nr_gap_ack_blocks.bytes().len())
                 .saturating_add(duplicate_tsns.bytes().len()),
             RegisteredChunk::AsconfAck { parameters, .. } => {
-                ASCONF_SIZE + parameters.bytes().len()
+                SEQUENCE_NUMBER_SIZE + parameters.bytes().len()
             }
             RegisteredChunk::PktDrop { packet, .. } => PKTDROP_SIZE + packet.len(),
             RegisteredChunk::Pad(bytes) => bytes.len(),
@@ -274,7 +275,10 @@ impl<'a> RegisteredChunk<'a> {
                 parameters,
                 ..
             } => {
-                ASCONF_SIZE + TLV_HEADER_SIZE + address.octets().len() + parameters.bytes().len()
+                SEQUENCE_NUMBER_SIZE
+                    + TLV_HEADER_SIZE
+                    + address.octets().len()
+                    + parameters.bytes().len()
             }
         }
     }
@@ -367,7 +371,7 @@ fn put_auth(output: &mut [u8], place: usize, shared_key_id: u16, hmac_id: u16, h
         (record { shared_key_id = shared_key_id; hmac_id = hmac_id; hmac = hmac.now })) }
 {
     put_shorts(output, place, shared_key_id, hmac_id);
-    put_bytes(output, place + AUTH_SIZE, hmac);
+    put_bytes(output, place + AUTH_VALUE_SIZE, hmac);
 }
 
 /// Writes the value of an NR-SACK.
@@ -486,7 +490,7 @@ fn put_asconf(
     })) }
 {
     put_numbered_address(output, place, sequence_number, address);
-    let list_place = place + ASCONF_SIZE + TLV_HEADER_SIZE + address.octets().len();
+    let list_place = place + SEQUENCE_NUMBER_SIZE + TLV_HEADER_SIZE + address.octets().len();
     put_bytes(output, list_place, parameters);
 }
 
@@ -551,13 +555,13 @@ fn asconf_back(sequence_number: u32, address: &Address, parameters: &RawItems)
 fn auth(value: &[u8]) -> Option<RegisteredChunk>
     ensures { option_map view result ≡ option_map AuthVariant (auth_of value.now) }
 {
-    if value.len() < AUTH_SIZE {
+    if value.len() < AUTH_VALUE_SIZE {
         return None;
     }
     Some(RegisteredChunk::Auth {
         shared_key_id: read_u16_be(value),
         hmac_id: read_u16_be(&value[2..]),
-        hmac: &value[AUTH_SIZE..],
+        hmac: &value[AUTH_VALUE_SIZE..],
     })
 }
 
@@ -604,10 +608,10 @@ fn pkt_drop(value: &[u8]) -> Option<RegisteredChunk>
 fn asconf(value: &[u8]) -> Option<RegisteredChunk>
     ensures { option_map view result ≡ option_map AsconfVariant (asconf_of value.now) }
 {
-    if value.len() < ASCONF_SIZE {
+    if value.len() < SEQUENCE_NUMBER_SIZE {
         return None;
     }
-    let (raw, rest) = front_item(&value[ASCONF_SIZE..])?;
+    let (raw, rest) = front_item(&value[SEQUENCE_NUMBER_SIZE..])?;
     let address = Address::of_value(raw.typ, raw.value)?;
     let parameters = RawItems::from_bytes(rest)?;
     Some(RegisteredChunk::Asconf {

@@ -56,6 +56,9 @@ pub const ERROR_CAUSE_INDICATION: u16 = 0xc003;
 /// The type of Set Primary Address.
 pub const SET_PRIMARY_ADDRESS: u16 = 0xc004;
 
+/// Bytes of the correlation id at the front of a parameter's value (RFC 5061 section 4.2).
+pub const CORRELATION_ID_SIZE: usize = 4;
+
 /// The type of Success Indication.
 pub const SUCCESS_INDICATION: u16 = 0xc005;
 

@@ -227,7 +227,7 @@ impl Chunk {
     }
 
     /// Appends a chunk with a list, or an unknown one.
-    fn other_onto(
+    fn push_listed_or_unknown(
         list: &mut Vec<Self>,
         alloc: Global,
         first: u8,
@@ -308,7 +308,7 @@ impl ReadableTlv for Chunk {
             list.push_reserved(chunk);
             Ok(())
         }, {
-            _ => Chunk::other_onto(list, alloc, first, second, value),
+            _ => Chunk::push_listed_or_unknown(list, alloc, first, second, value),
         })
     }
 

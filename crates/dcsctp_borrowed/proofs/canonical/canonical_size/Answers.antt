@@ -1,6 +1,6 @@
 use Rattle.std.proofs.Common.{arith, refl, subst, sym, List, ℕ}
 use Rattle.dcsctp_wire.{proofs.Canonicals.{length-canonical}}
-use Rattle.dcsctp_borrowed.{specs.RawChunks.{MeanChunks}, proofs.CanonicalAgain.{size_is, fits_if, size_fits}}
+use Rattle.dcsctp_borrowed.{specs.RawChunks.{MeanChunks}, proofs.CanonicalRewritten.{size_is, fits_if, size_fits}}
 use Rattle.dcsctp_borrowed.proofs.canonical.canonical_size.Goals as goal
 
 pub returns-in_default : goal.returns-in_default

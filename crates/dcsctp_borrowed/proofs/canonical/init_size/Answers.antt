@@ -1,4 +1,4 @@
-use Rattle.dcsctp_borrowed.proofs.PutsAgain.{rest_is, front_is, back_is}
+use Rattle.dcsctp_borrowed.proofs.PutsRewritten.{rest_is, front_is, back_is}
 use Rattle.dcsctp_borrowed.proofs.canonical.init_size.Goals as goal
 
 pub returns : goal.returns

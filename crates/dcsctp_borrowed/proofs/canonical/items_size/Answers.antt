@@ -1,6 +1,6 @@
 use Rattle.std.proofs.Common.{arith, refl, ap, ◌∙◌}
 use Rattle.dcsctp_tlv.specs.{Image.{list_size}}
-use Rattle.dcsctp_borrowed.{specs.Rewritten.{item_again}, proofs.ItemsAgain.{over_none, next_room, over_next, over_all}}
+use Rattle.dcsctp_borrowed.{specs.Rewritten.{item_again}, proofs.ItemsRewritten.{over_none, next_room, over_next, over_all}}
 use Rattle.dcsctp_borrowed.proofs.canonical.items_size.Goals as goal
 
 pub loop-value-init : goal.loop-value-init

@@ -1,5 +1,5 @@
 use Rattle.std.proofs.Common.{◌<◌, ◌^◌, length}
-use Rattle.dcsctp_borrowed.proofs.ItemsAgain.{GoneOver}
+use Rattle.dcsctp_borrowed.proofs.ItemsRewritten.{GoneOver}
 use Rattle.dcsctp_borrowed.proofs.canonical.items_size.Given as goal
 
 abbrev pub invariant-loop-value : goal.invariant-loop-value

@@ -1,6 +1,6 @@
 use Rattle.std.proofs.Common.{◌∙◌, ◌*◌, arith, ap}
 use Rattle.dcsctp_borrowed.specs.Rewritten.{stream_again}
-use Rattle.dcsctp_borrowed.proofs.PutsAgain.{rest_is, one_stream_more}
+use Rattle.dcsctp_borrowed.proofs.PutsRewritten.{rest_is, one_stream_more}
 use Rattle.dcsctp_borrowed.proofs.canonical.put_each.Goals as goal
 
 pub loop-i-preserved : goal.loop-i-preserved

@@ -1,4 +1,4 @@
-use Rattle.dcsctp_borrowed.proofs.PutsAgain.{rest_is, front_is, back_is}
+use Rattle.dcsctp_borrowed.proofs.PutsRewritten.{rest_is, front_is, back_is}
 use Rattle.dcsctp_borrowed.proofs.canonical.put_init.Goals as goal
 
 pub put_listed-requires-clause-encodable : goal.put_listed-requires-clause-encodable

@@ -1,6 +1,6 @@
 use Rattle.std.proofs.Common.{arith, refl, ap, ◌∙◌, ◌≡◌}
 use Rattle.dcsctp_tlv.{specs.Image.{size_of, image_of, list_size, list_image, written}, proofs.Items.{front_item}, proofs.Lengths.{length-image_of}, proofs.Listed.{written_length}}
-use Rattle.dcsctp_borrowed.{specs.Rewritten.{item_again}, proofs.ItemsAgain.{written_none, next_room, written_next, over_all}}
+use Rattle.dcsctp_borrowed.{specs.Rewritten.{item_again}, proofs.ItemsRewritten.{written_none, next_room, written_next, over_all}}
 use Rattle.dcsctp_borrowed.proofs.canonical.put_items.Goals as goal
 
 pub loop-value-init : goal.loop-value-init

@@ -1,5 +1,5 @@
 use Rattle.std.proofs.Common.{length}
-use Rattle.dcsctp_borrowed.proofs.ItemsAgain.{WrittenAgain}
+use Rattle.dcsctp_borrowed.proofs.ItemsRewritten.{WrittenAgain}
 use Rattle.dcsctp_borrowed.proofs.canonical.put_items.Given as goal
 
 abbrev pub invariant-loop-value : goal.invariant-loop-value

@@ -1,7 +1,7 @@
 use Rattle.std.proofs.Common.{◌≡◌, ◌+◌, ◌-◌, ◌*◌, ◌∙◌, ℕ, List, length, min, take, drop, arith, ap, ap₂, length-append}
 use Rattle.dcsctp_tlv.specs.Image.{put}
 use Rattle.dcsctp_chunk.specs.SkippedStreams.{stream_count}
-use Rattle.dcsctp_borrowed.{specs.Rewritten.{streams_again, value_again}, proofs.PutsAgain.{rest_is, front_is, back_is, length-streams, two_parts}}
+use Rattle.dcsctp_borrowed.{specs.Rewritten.{streams_again, value_again}, proofs.PutsRewritten.{rest_is, front_is, back_is, length-streams, two_parts}}
 use Rattle.dcsctp_borrowed.proofs.canonical.put_streams.Goals as goal
 
 -- how many bytes both parts have

@@ -1,6 +1,6 @@
 use Rattle.std.proofs.Common.{◌≡◌, ◌+◌, ◌-◌, ◌∙◌, ℕ, List, [], ◌∷◌, length, take, drop, arith, ap, ap₂, length-append}
 use Rattle.dcsctp_tlv.specs.Image.{put}
-use Rattle.dcsctp_borrowed.{proofs.PutsAgain.{rest_is, front_is, back_is, three_parts}}
+use Rattle.dcsctp_borrowed.{proofs.PutsRewritten.{rest_is, front_is, back_is, three_parts}}
 use Rattle.dcsctp_borrowed.proofs.canonical.put_unreserved.Goals as goal
 
 pub returns : goal.returns

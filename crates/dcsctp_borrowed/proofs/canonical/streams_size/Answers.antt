@@ -1,4 +1,4 @@
-use Rattle.dcsctp_borrowed.proofs.PutsAgain.{streams_size}
+use Rattle.dcsctp_borrowed.proofs.PutsRewritten.{streams_size}
 use Rattle.dcsctp_borrowed.proofs.canonical.streams_size.Goals as goal
 
 pub returns : goal.returns

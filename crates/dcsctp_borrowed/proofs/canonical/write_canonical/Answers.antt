@@ -1,7 +1,7 @@
 use Rattle.std.{proofs.Common.{arith, refl, subst, sym, ap, ap₂, ◌∙◌, ◌≡◌, ◌+◌, ◌-◌, ◌≤◌, ◌++◌, List, ℕ, length, drop, replicate}, specs.List.{flat_map}, proofs.lemmas.List.{drop-replicate}}
 use Rattle.dcsctp_tlv.specs.{Frame.{lenient, round_up_to_4}, Image.{written, list_image}, Level.{MeansSome}, Number.{AreBytes}}
 use Rattle.dcsctp_wire.{specs.Chunk.{chunks}, specs.Packet.{PacketTree}, specs.Canonical.{canonical, padded_size, padded_chunk, Fits}, proofs.Canonicals.{length-canonical}}
-use Rattle.dcsctp_borrowed.{specs.declared.packet_ref.SctpPacketRef.{SctpPacketRef}, specs.PacketRef.{RefersTo}, specs.RawChunks.{MeanChunks}, specs.Rewritten.{item_again, items_of, again_size, chunk_again}, proofs.CanonicalAgain.{referred, canonical_parts, size_is, body_is, written_of}}
+use Rattle.dcsctp_borrowed.{specs.declared.packet_ref.SctpPacketRef.{SctpPacketRef}, specs.PacketRef.{RefersTo}, specs.RawChunks.{MeanChunks}, specs.Rewritten.{item_again, items_of, again_size, chunk_again}, proofs.CanonicalRewritten.{referred, canonical_parts, size_is, body_is, written_of}}
 use Rattle.dcsctp_borrowed.proofs.canonical.write_canonical.Goals as goal
 
 mean_of : (r : SctpPacketRef) (bytes : List ℕ) (p : PacketTree) → bytes ≡ r.chunks → RefersTo r p

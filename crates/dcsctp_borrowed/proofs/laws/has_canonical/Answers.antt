@@ -1,6 +1,6 @@
 use Rattle.std.proofs.Common.{arith, subst}
 use Rattle.dcsctp_tlv.specs.Number.{AreBytes}
-use Rattle.dcsctp_borrowed.proofs.CanonicalAgain.{has_canonical}
+use Rattle.dcsctp_borrowed.proofs.CanonicalRewritten.{has_canonical}
 use Rattle.dcsctp_borrowed.proofs.laws.has_canonical.Goals as goal
 
 pub returns : goal.returns

@@ -1,7 +1,7 @@
 use Rattle.std.{proofs.Common.{arith, ◌≡◌, true, false, ◌==◌, ◌||◌}, proofs.lemmas.Bool.Decides.{nat_tests}}
 use lib.Pointwise.{bytes_decides}
 use Rattle.dcsctp_borrowed.specs.Rewritten.{cause_again, parameter_again, without_reserved, value_again}
-use Rattle.dcsctp_borrowed.proofs.SameAgain.{solid_same, listed_same, parameters_short, causes_short}
+use Rattle.dcsctp_borrowed.proofs.SameRewritten.{solid_same, listed_same, parameters_short, causes_short}
 use Rattle.dcsctp_borrowed.proofs.meaning.same_chunk.Goals as goal
 
 pub returns-in-6 : goal.returns-in-6

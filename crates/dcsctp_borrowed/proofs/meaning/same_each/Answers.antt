@@ -1,7 +1,7 @@
 use Rattle.std.proofs.Common.{arith, refl, ◌≡◌, ◌∙◌, ◌-◌, ◌*◌, ap, sym}
 use Rattle.dcsctp_borrowed.specs.Rewritten.{stream_again}
-use Rattle.dcsctp_borrowed.proofs.PutsAgain.{rest_is}
-use Rattle.dcsctp_borrowed.proofs.SameAgain.{streams_next, differ_tells}
+use Rattle.dcsctp_borrowed.proofs.PutsRewritten.{rest_is}
+use Rattle.dcsctp_borrowed.proofs.SameRewritten.{streams_next, differ_tells}
 use Rattle.dcsctp_borrowed.proofs.meaning.same_each.Goals as goal
 
 pub returns-then-ne : goal.returns-then-ne

@@ -1,6 +1,6 @@
 use Rattle.std.proofs.Common.{arith}
-use Rattle.dcsctp_borrowed.proofs.PutsAgain.{rest_is, back_is}
-use Rattle.dcsctp_borrowed.proofs.SameAgain.{fronts_tell, init_same}
+use Rattle.dcsctp_borrowed.proofs.PutsRewritten.{rest_is, back_is}
+use Rattle.dcsctp_borrowed.proofs.SameRewritten.{fronts_tell, init_same}
 use Rattle.dcsctp_borrowed.proofs.meaning.same_init.Goals as goal
 
 pub returns-then-eq : goal.returns-then-eq

@@ -1,5 +1,5 @@
 use Rattle.std.proofs.Common.{refl, ◌∙◌, sym}
-use Rattle.dcsctp_borrowed.proofs.SameAgain.{firsts_one, apart, all_none}
+use Rattle.dcsctp_borrowed.proofs.SameRewritten.{firsts_one, apart, all_none}
 use Rattle.dcsctp_borrowed.proofs.meaning.same_items.Goals as goal
 
 pub returns-in_default-split_frame-clause-same : goal.returns-in_default-split_frame-clause-same

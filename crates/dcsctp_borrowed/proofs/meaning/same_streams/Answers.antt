@@ -1,6 +1,6 @@
 use Rattle.std.proofs.Common.{◌∙◌, sym}
-use Rattle.dcsctp_borrowed.proofs.PutsAgain.{rest_is, back_is}
-use Rattle.dcsctp_borrowed.proofs.SameAgain.{fronts_tell, streams_parts, streams_same}
+use Rattle.dcsctp_borrowed.proofs.PutsRewritten.{rest_is, back_is}
+use Rattle.dcsctp_borrowed.proofs.SameRewritten.{fronts_tell, streams_parts, streams_same}
 use Rattle.dcsctp_borrowed.proofs.meaning.same_streams.Goals as goal
 
 pub returns-else-eq : goal.returns-else-eq

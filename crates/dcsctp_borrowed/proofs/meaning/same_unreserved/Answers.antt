@@ -1,5 +1,5 @@
 use Rattle.std.proofs.Common.{◌++◌, ◌∷◌, List, ℕ, ap₂}
-use Rattle.dcsctp_borrowed.proofs.SameAgain.{unreserved_one, fronts_tell, backs_tell}
+use Rattle.dcsctp_borrowed.proofs.SameRewritten.{unreserved_one, fronts_tell, backs_tell}
 use Rattle.dcsctp_borrowed.proofs.meaning.same_unreserved.Goals as goal
 
 pub returns-then-eq : goal.returns-then-eq

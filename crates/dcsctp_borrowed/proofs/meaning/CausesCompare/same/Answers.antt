@@ -1,7 +1,7 @@
 use Rattle.std.{proofs.Common.{◌≡◌, ◌↔◌, ◌∷◌, []}, specs.Prelude.{IsTrue}, specs.Int.{w16, from_be_bytes}}
 use lib.Pointwise.{bytes_decides}
 use Rattle.dcsctp_borrowed.specs.Rewritten.{cause_value}
-use Rattle.dcsctp_borrowed.proofs.SameAgain.{solid_same}
+use Rattle.dcsctp_borrowed.proofs.SameRewritten.{solid_same}
 use Rattle.dcsctp_borrowed.proofs.meaning.CausesCompare.same.Goals as goal
 
 pub returns-then-second-other_second : goal.returns-then-second-other_second

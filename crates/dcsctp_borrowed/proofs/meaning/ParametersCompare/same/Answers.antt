@@ -1,7 +1,7 @@
 use Rattle.std.{proofs.Common.{arith, ◌≡◌, ◌∷◌, [], true, false, ◌==◌, ◌||◌}, specs.Int.{w16, from_be_bytes}, proofs.lemmas.Bool.Decides.{nat_tests}}
 use lib.Pointwise.{bytes_decides}
 use Rattle.dcsctp_borrowed.specs.Rewritten.{without_reserved}
-use Rattle.dcsctp_borrowed.proofs.SameAgain.{solid_same}
+use Rattle.dcsctp_borrowed.proofs.SameRewritten.{solid_same}
 use Rattle.dcsctp_borrowed.proofs.meaning.ParametersCompare.same.Goals as goal
 
 pub returns-in-17 : goal.returns-in-17

@@ -1,6 +1,6 @@
 use Rattle.std.proofs.Common.{sym}
 use Rattle.dcsctp_chunk.specs.Sack.{IsBlockInWidth, block_at, block_bytes}
-use Rattle.dcsctp_borrowed.proofs.{FieldWidths.{block_below, each_below}, PlainAgain.{block_again}, Rewritten.{fields_again}}
+use Rattle.dcsctp_borrowed.proofs.{FieldWidths.{block_below, each_below}, PlainRewritten.{block_again}, Rewritten.{fields_again}}
 use Rattle.dcsctp_borrowed.proofs.sack_ref.GapAckBlocks.bytes.Goals as goal
 
 pub returns-clause-bytes : goal.returns-clause-bytes

@@ -2,7 +2,7 @@
 use Rattle.std.{proofs.Common.{◌≡◌, ◌≢◌, ℕ, ◌+◌, ◌-◌, ◌^◌, ◌<◌, ◌≤◌, Option, List, [], ◌∷◌, ◌++◌, length, take, replicate, refl, sym, ap, subst, ◌∙◌, append_assoc, arith, append-nil}, specs.List.{AllByRecursion, flat_map}, proofs.Math.Seq.{take-append_seam}}
 use Rattle.dcsctp_tlv.{specs.Frame.{lenient, round_up_to_4}, specs.Image.{zeroed, gap, holes, written, size_of, image_of, IsEncodable, list_image, list_size}, specs.Level.{MeansSome}, specs.Number.{AreBytes}, proofs.Forms.{list_formed}, proofs.Images.{length-list_image, written-zeros, zeroed-append, zeroed-holes}, proofs.ReadsBack.{each_encodable}}
 use Rattle.dcsctp_wire.{specs.Chunk.{ChunkTree, ForwardTsn, IForwardTsn, chunks, tlv as chunk_tlv, IsPlaced, IsChunkEncodable, IsWellFormed}, specs.Packet.{Meaning, PacketTree}, specs.Canonical.{canonical, padded_chunk, padded_size, Fits, HasCanonical, IsCanonicalOf}, proofs.Canonicals.{padded_size-is, length-chunk, canonical_of}, proofs.ChunkRows.{chunks_form}}
-use Rattle.dcsctp_borrowed.{specs.declared.packet_ref.SctpPacketRef.{SctpPacketRef}, specs.PacketRef.{RefersTo}, specs.RawChunks.{MeanChunks}, specs.Rewritten.{item_again, items_of, again_size, chunk_again}, proofs.ItemsAgain.{list_again}, proofs.ChunksAgain.{each_chunk}, proofs.Widths.{chunks_fit}}
+use Rattle.dcsctp_borrowed.{specs.declared.packet_ref.SctpPacketRef.{SctpPacketRef}, specs.PacketRef.{RefersTo}, specs.RawChunks.{MeanChunks}, specs.Rewritten.{item_again, items_of, again_size, chunk_again}, proofs.ItemsRewritten.{list_again}, proofs.ChunksRewritten.{each_chunk}, proofs.Widths.{chunks_fit}}
 
 -- a list's image over zeros is the chunks with their padding
 joined : (ts : List ChunkTree) → zeroed (list_image chunk_tlv ts)

@@ -1,7 +1,7 @@
 use Rattle.std.proofs.Common.{refl}
 use Rattle.dcsctp_wire.proofs.Filled.{filled}
 use Rattle.dcsctp_wire.specs.declared.packet.chunk.Chunk.TheVariants as variant
-use Rattle.dcsctp_wire.proofs.packet.chunk.Chunk.other_onto.Goals as goal
+use Rattle.dcsctp_wire.proofs.packet.chunk.Chunk.push_listed_or_unknown.Goals as goal
 
 pub returns-in_ok-fill-in-1-clause-grows : goal.returns-in_ok-fill-in-1-clause-grows
 returns-in_ok-fill-in-1-clause-grows c = rw c.in-1.is (filled c.args.list.now _ (variant.Init c.fill.new.self)

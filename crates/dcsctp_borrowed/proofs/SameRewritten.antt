@@ -6,7 +6,7 @@ use Rattle.dcsctp_chunk.specs.SkippedStreams.{stream_count}
 use Rattle.dcsctp_cause.specs.Text.{text_or}
 use Rattle.dcsctp_cause.specs.UserInitiatedAbort as abort
 use Rattle.dcsctp_cause.specs.ProtocolViolation as violation
-use Rattle.dcsctp_borrowed.{specs.Grammar.{whole}, specs.Part.{begins_with_item}, specs.Rewritten.{Again, IsSized, item_again, first_items, items_of, all_again, again_size, listed_again, without_reserved, parameter_again, cause_again, chunk_again, flags_again, value_again, stream_again, streams_again, parameter_sized, cause_sized, either}, proofs.FrameItems.{bytes_after}, proofs.ItemsAgain.{begins_back, next_in, end_in}, proofs.PutsAgain.{rest_is, front_is, back_is, streams_size}, proofs.Widths.{half_at}}
+use Rattle.dcsctp_borrowed.{specs.Grammar.{whole}, specs.Part.{begins_with_item}, specs.Rewritten.{Again, IsSized, item_again, first_items, items_of, all_again, again_size, listed_again, without_reserved, parameter_again, cause_again, chunk_again, flags_again, value_again, stream_again, streams_again, parameter_sized, cause_sized, either}, proofs.FrameItems.{bytes_after}, proofs.ItemsRewritten.{begins_back, next_in, end_in}, proofs.PutsRewritten.{rest_is, front_is, back_is, streams_size}, proofs.Widths.{half_at}}
 
 -- ---- values
 

@@ -9,7 +9,7 @@ use Rattle.dcsctp_wire.specs.ParameterList as list
 use Rattle.dcsctp_wire.specs.Abort as abort
 use Rattle.dcsctp_wire.specs.Error as error
 use Rattle.dcsctp_wire.specs.Chunk.{ChunkTree, Init, InitAck, HeartbeatRequest, HeartbeatAck, Abort, Error, ReConfig, Unknown, table, chunks, chunk_row, tlv}
-use Rattle.dcsctp_borrowed.{specs.Rewritten.{IsByteItem, item_again, listed_again, parameter_again, cause_again, chunk_again}, proofs.FrameItems.{bytes_after}, proofs.ItemsAgain.{listed_is}, proofs.CausesAgain.{each_cause}, proofs.ParametersAgain.{each_parameter}, proofs.PlainAgain.{one_flag, app, word_at, half_at, data_again, sack_again, shutdown_again, shutdown_ack_again, cookie_echo_again, cookie_ack_again, shutdown_complete_again, idata_again, forward_again, iforward_again}, proofs.TreeRows.{of_listed, of_chunk_as}}
+use Rattle.dcsctp_borrowed.{specs.Rewritten.{IsByteItem, item_again, listed_again, parameter_again, cause_again, chunk_again}, proofs.FrameItems.{bytes_after}, proofs.ItemsRewritten.{listed_is}, proofs.CausesRewritten.{each_cause}, proofs.ParametersRewritten.{each_parameter}, proofs.PlainRewritten.{one_flag, app, word_at, half_at, data_again, sack_again, shutdown_again, shutdown_ack_again, cookie_echo_again, cookie_ack_again, shutdown_complete_again, idata_again, forward_again, iforward_again}, proofs.TreeRows.{of_listed, of_chunk_as}}
 
 -- what a value of a type means, in bytes
 abbrev ChunkAgain : ℕ → ℕ → List ℕ → ChunkTree → Type 0
