@@ -147,7 +147,7 @@ MARKED = {
 def files_of(table):
     """The text of each file, by its path."""
     return {
-        'crates/dump_report/src/registry.rt': languages.rattle(table),
+        'crates/dcsctp_report/src/registry.rt': languages.rattle(table),
         'bindings/go/registry.go': languages.go(table),
         'bindings/python/src/davgyuti/registered.py': languages.python_registered(table),
         'page/src/registry.mjs': languages.page(table),

@@ -43,11 +43,11 @@ crates/dcsctp_buffer/specs/Item.antt = INIT ACK = with_parameter (InitAck i) p =
 crates/dcsctp_c/src/parameters.rt = HEARTBEAT = heartbeat_request_chunk::CHUNK_TYPE
 crates/dcsctp_c/specs/Parameter.antt = SSN/TSN Reset Request = number_of (SsnTsnResetRequest number) = Some number
 crates/dcsctp_c/specs/Parameter.antt = No User Data = cause_number_of (NoUserData tsn) = Some tsn
-crates/dump_report/src/chunks.rt = SHUTDOWN COMPLETE = 14 if value.size == 0 =>
-crates/dump_report/src/chunks.rt = SHUTDOWN ACK =         8 |
-crates/dump_report/src/parameters.rt = Forward-TSN-Supported = | 0xc000
-crates/dump_report/src/causes.rt = Protocol Violation = | 13
-crates/dump_report/src/fault.rt = RE-CONFIG = | 130
+crates/dcsctp_report/src/chunks.rt = SHUTDOWN COMPLETE = shutdown_complete_chunk::CHUNK_TYPE if value.size == 0 =>
+crates/dcsctp_report/src/chunks.rt = SHUTDOWN ACK = shutdown_ack_chunk::CHUNK_TYPE |
+crates/dcsctp_report/src/parameters.rt = Forward-TSN-Supported = | forward_tsn_supported_parameter::PARAMETER_TYPE
+crates/dcsctp_report/src/causes.rt = Protocol Violation = | protocol_violation_error_cause::CAUSE_CODE
+crates/dcsctp_report/src/fault.rt = RE-CONFIG = | re_config_chunk::CHUNK_TYPE
 crates/dcsctp_receive/src/chunk_test.rt = RE-CONFIG = 130 |
 crates/test_callers/src/tests/facade.rt = INIT = (init_chunk::CHUNK_TYPE, 1),
 crates/test_rows/src/kinds.rt = State Cookie = 7 => write_read(bytes, StateCookie::try_from(alloc, raw), out),
@@ -85,8 +85,8 @@ chunk  191  MADE_LIST  MADE LIST  9999 1  4+1  kind  data  serial u32, parameter
     crates/dcsctp_wire/specs/MadeList.antt crates/dcsctp_wire/specs/Lib.antt crates/dcsctp_wire/specs/Chunk.antt
     crates/dcsctp_wire/specs/Caller.antt crates/dcsctp_wire/src/packet/made_list_chunk.rt crates/dcsctp_wire/src/packet/chunk.rt
     crates/dcsctp_borrowed/specs/RawParameters.antt crates/dcsctp_borrowed/src/raw_parameters.rt crates/dcsctp_buffer/specs/Item.antt
-    crates/dcsctp_buffer/proofs/Longer.antt crates/dcsctp_c/src/parameters.rt crates/dump_report/src/chunks.rt
-    crates/dump_report/src/fault.rt tests/dump/refused.txt tests/c/fuzz.c docs/PROVED.md
+    crates/dcsctp_buffer/proofs/Longer.antt crates/dcsctp_c/src/parameters.rt crates/dcsctp_report/src/chunks.rt
+    crates/dcsctp_report/src/fault.rt tests/dump/refused.txt tests/c/fuzz.c docs/PROVED.md
 parameter  0xffff  MADE_VALUE  Made Value  9999 1  4+1  kind  a parameter  Made
     crates/dcsctp_tlv/specs/MadeValue.antt crates/dcsctp_tlv/specs/Parameter.antt tests/refusals/rows.txt
 parameter  0xffff  MADE_NUMBER  Made Number  9999 1  4  kind  milliseconds u32  Made
@@ -100,7 +100,7 @@ parameter  0xffff  MADE_NUMBER  Made Number  9999 1  4  kind  milliseconds u32  
 cause  0xffff  MADE_NUMBER  Made Number  9999 1  4  kind  microseconds u32  Made
     crates/dcsctp_cause/specs/MadeNumber.antt crates/dcsctp_cause/specs/Cause.antt crates/dcsctp_cause/src/lib.rt
     crates/dcsctp_cause/src/error_causes.rt crates/dcsctp_cause/proofs/CauseLaws.antt crates/dcsctp_c/specs/Parameter.antt
-    crates/dump_report/src/causes.rt include/dcsctp.h bindings/js/davgyuti.js bindings/js/davgyuti.d.ts bindings/cpp/dcsctp.hpp
+    crates/dcsctp_report/src/causes.rt include/dcsctp.h bindings/js/davgyuti.js bindings/js/davgyuti.d.ts bindings/cpp/dcsctp.hpp
 '''
 
 failures = []

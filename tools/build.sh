@@ -63,7 +63,7 @@ else
     [ -f "$archive" ] || first='; the first run takes 8 to 20 minutes'
     echo "tools/build.sh: proving and building twelve crates$first" >&2
     (cd crates/dcsctp_c && rt lib) 2>&1 | tee "$work/log" |
-        sed -n -u -E 's/^crate (dcsctp_[a-z0-9_]*|dump_report): .*/  \1/p; s/^rt: (.*waiting.*)/  \1/p' >&2 || {
+        sed -n -u -E 's/^crate (dcsctp_[a-z0-9_]*): .*/  \1/p; s/^rt: (.*waiting.*)/  \1/p' >&2 || {
         { grep -E 'error|not proved|^rt:' "$work/log" || cat "$work/log"; } | tail -n 10 | cut -c1-300 >&2
         give_up 'crates/dcsctp_c was not built'
     }

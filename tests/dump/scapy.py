@@ -73,7 +73,7 @@ RESULTS = ('Success - Nothing to do', 'Success - Performed', 'Denied', 'Error - 
            'Error - Request already in progress', 'Error - Bad Sequence Number', 'In progress')
 # RFC 8832 section 5.1: the kinds of channels, and what is said of their reliability.
 CHANNELS = (('reliable', ''), ('partial reliable rexmit', 'reliability N, '), ('partial reliable timed', 'reliability N ms, '))
-# Controls, what crates/dump_report/specs/Printed.antt hides, and bytes that are no character of UTF-8.
+# Controls, what crates/dcsctp_report/specs/Printed.antt hides, and bytes that are no character of UTF-8.
 UNSEEN = re.compile('[\0-\x1f"\\\\\x7f-\xa0\xad\u034f\u061c\u115f\u1160\u1680\u17b4\u17b5\u180b-\u180f\u2000-\u200f\u2028-\u202f'
                     '\u205f-\u206f\u2800\u3000\u3164\udc80-\udcff\ufe00-\ufe0f\ufeff\uffa0\ufff0-\ufffb\U0001bca0-\U0001bca3'
                     '\U0001d173-\U0001d17a\U000e0000-\U0010ffff]')

@@ -1,8 +1,1 @@
-pub mod ChunkKinds
-pub mod InputFormats
-pub mod LineDrops
-pub mod PacketCounts
-pub mod Powers
-pub mod Passed
 pub mod Printed
-pub mod Steps

@@ -1,35 +1,32 @@
 -- A printer that hasn't failed counted one event more, and the rules that its packet breaks.
-use Rattle.std.proofs.Common.{◌≡◌, false, ℕ, List, [], ◌∷◌, ◌++◌, Option, None, Some, is_some, Result, Ok, Err, IsOk, IfOk, refl, subst, sym}
+use Rattle.std.proofs.Common.{◌≡◌, false, ℕ, List, [], ◌∷◌, ◌++◌, Option, None, Some, is_some, Result, Ok, Err, refl, subst}
 use Rattle.dump_capture.specs.Event.{Event}
 use Rattle.dump_capture.specs.Frame.{Packet}
 use Rattle.dump_capture.specs.declared.frame.NoPacket.{NoPacket}
-use Rattle.sctp_dump.specs.declared.options.Options.{Options}
-use Rattle.sctp_dump.specs.declared.counts.Counts.{Counts}
-use Rattle.sctp_dump.specs.declared.counts.Verdict.{Verdict}
-use Rattle.sctp_dump.specs.declared.failure.Failure.{Failure}
-use Rattle.sctp_dump.specs.Counts.{AreCounts, more, CountsEvent, CountsFrame, CountsPacket}
-use Rattle.sctp_dump.specs.Verdict.{IsVerdict}
-use Rattle.sctp_dump.specs.Warnings as warnings
-use Rattle.sctp_dump.specs.Warnings.{AreWarnings, WarnsEvent, WarnsFrame, WarnsOf}
+use Rattle.dump_command.specs.declared.options.Options.{Options}
+use Rattle.dump_command.specs.declared.counts.Counts.{Counts}
+use Rattle.dump_command.specs.declared.counts.Verdict.{Verdict}
+use Rattle.dump_command.specs.declared.failure.Failure.{Failure}
+use Rattle.dump_command.specs.Counts.{AreCounts, more, CountsEvent, CountsFrame, CountsPacket}
+use Rattle.dump_command.specs.Verdict.{IsVerdict}
+use Rattle.dump_command.specs.Warnings as warnings
+use Rattle.dump_command.specs.Warnings.{AreWarnings, WarnsEvent, WarnsFrame, WarnsOf}
 
 pub sound : (failure : Option Failure) → is_some failure ≡ false → failure ≡ None
 sound None is = refl
 sound (Some failure) is = cc
 
-pub counted_more : (o same : Options) (events : List Event) (event : Event)
-    (before counted after : Counts) → CountsEvent o before event counted → same ≡ o
-    → after ≡ counted → AreCounts o events before → AreCounts same (events ++ event ∷ []) after
-counted_more o same events event before counted after counts same_is after_is old =
-    subst (λ (x : Options). AreCounts x (events ++ event ∷ []) after) (sym same_is)
-    (subst (AreCounts o (events ++ event ∷ [])) (sym after_is)
-    (more (events ++ event ∷ []) events event before counted old counts refl))
+pub counted_more : (o : Options) (events : List Event) (event : Event) (before after : Counts)
+    → CountsEvent o before event after → AreCounts o events before
+    → AreCounts o (events ++ event ∷ []) after
+counted_more o events event before after counts old =
+    more (events ++ event ∷ []) events event before after old counts refl
 
-pub warned_more : (o same : Options) (events : List Event) (event : Event)
-    (before after : List ℕ) → WarnsEvent o event before after → same ≡ o
-    → AreWarnings o events before → AreWarnings same (events ++ event ∷ []) after
-warned_more o same events event before after warns same_is old =
-    subst (λ (x : Options). AreWarnings x (events ++ event ∷ []) after) (sym same_is)
-    (warnings.more (events ++ event ∷ []) events event before after old warns refl)
+pub warned_more : (o : Options) (events : List Event) (event : Event) (before after : List ℕ)
+    → WarnsEvent o event before after → AreWarnings o events before
+    → AreWarnings o (events ++ event ∷ []) after
+warned_more o events event before after warns old =
+    warnings.more (events ++ event ∷ []) events event before after old warns refl
 
 -- what was found of a frame
 pub counts_packet : (o : Options) (before after : Counts) (p : Packet) (r : Result Packet NoPacket)
@@ -50,12 +47,7 @@ warns_packet o before after p r v word is found warns =
     subst (λ (x : Result Packet NoPacket). WarnsFrame o x before after) is
     (v, (word, found, warns))
 
-pub warns_none : (o : Options) (before after : List ℕ) (why : NoPacket)
-    (r : Result Packet NoPacket) → Err why ≡ r → after ≡ before → WarnsFrame o r before after
-warns_none o before after why r is same =
-    subst (λ (x : Result Packet NoPacket). WarnsFrame o x before after) is same
-
--- what a call ensures of an Ok, where it was one
-pub when_ok : {T E : Type 0} (P : Type 0) (r : Result T E) → IsOk r → IfOk r (λ _. P) → P
-when_ok P (Ok x) is holds = holds
-when_ok P (Err e) is holds = cc
+pub warns_none : (o : Options) (before : List ℕ) (why : NoPacket) (r : Result Packet NoPacket)
+    → Err why ≡ r → WarnsFrame o r before before
+warns_none o before why r is =
+    subst (λ (x : Result Packet NoPacket). WarnsFrame o x before before) is refl

@@ -1,7 +1,7 @@
 -- Which failures end a run.
 use Rattle.std.specs.Prelude.{Bool, true, false, Result, Ok, Err}
-use Rattle.sctp_dump.specs.declared.failure.Failure.{Failure}
-use Rattle.sctp_dump.specs.declared.failure.Failure.TheVariants.{OutOfMemory, Write, ClosedPipe, MessageFile}
+use Rattle.dump_command.specs.declared.failure.Failure.{Failure}
+use Rattle.dump_command.specs.declared.failure.Failure.TheVariants.{OutOfMemory, Write, ClosedPipe, MessageFile}
 
 -- A failure of the output, of a message's file or of memory ends the run; after another one, which
 -- is reported, or after none the next input is begun. This says whether the input failed.

@@ -1,21 +1,18 @@
 //! The program on its host: its arguments, files, standard streams and status.
 
 ghost use Rattle.std.specs.Prelude.{◌≡◌, ◌≤◌, IfOk, Ok, Err, MatchResult};
-ghost use Rattle.sctp_dump.specs.Counts.{is_unread, status};
+ghost use Rattle.dump_command.specs.Counts.{is_unread, status};
 ghost use Rattle.sctp_dump.specs.Totals.{after_input};
-ghost use Rattle.dump_analysis.specs.Warnings.{is_warned};
-ghost use Rattle.sctp_dump.specs.declared.failure.Failure.{Failure};
+ghost use Rattle.dump_packet.specs.Warnings.{is_warned};
+ghost use Rattle.dump_command.specs.declared.failure.Failure.{Failure};
 
-use crate::arguments::{Action, HELP, Request, STANDARD_INPUT, VERSION, request_of};
-use crate::counts::Counts;
 use crate::event_printer::EventPrinter;
-use crate::failure::Failure;
-use crate::input::read_input;
-use crate::stop::Stop;
+use dcsctp_report::printed::Unquoted;
 use dump_capture::reassembler::Reassembler;
+use dump_command::{Action, Counts, Failure, HELP, Request, STANDARD_INPUT, VERSION, request_of};
+use dump_input::{Stop, read_input};
 use dump_io::watched::Watched;
 use dump_io::window::Window;
-use dump_report::printed::Unquoted;
 use std::io::Write;
 use std::{env, fs, io};
 
@@ -97,7 +94,7 @@ fn print(rt: &HostRuntime, text: &str) -> Result<u8, Failure>
 
 /// Prints the packets of all inputs, and then the counts of them all. An input that can't be read
 /// is reported, and the next one begun.
-fn dump_all(rt: &HostRuntime, request: &Request<'_>) -> Result<u8, Failure>
+fn dump_all<'h>(rt: &'h HostRuntime, request: &Request<'h>) -> Result<u8, Failure>
     ensures { IfOk result (λ status. status ≤ 3) }
 {
     let mut window = Window::new(rt.alloc())?;
@@ -144,7 +141,7 @@ fn finish<W: Write>(
             "sctp_dump: no SCTP packet was found (in UDP, --udp-port says the port)"
         );
     }
-    let lacks_log = printer.options.needs_log() && !printer.has_log;
+    let lacks_log = printer.options.needs_log() && !printer.screen.has_log;
     if lacks_log {
         let _ = eprintln!(rt; "sctp_dump: --direction and --transport need a log: none was read");
     }

@@ -1,8 +1,9 @@
 //! The files that user messages are written to.
 
-use crate::failure::Failure;
-use dump_analysis::{EndedMessage, Message, Side};
-use dump_report::printed::Unquoted;
+use dcsctp_report::printed::Unquoted;
+use dump_command::Failure;
+use dump_messages::{EndedMessage, Message};
+use dump_packet::Side;
 use std::fs;
 use std::fs::Files;
 use std::io::Write;

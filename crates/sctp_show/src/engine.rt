@@ -52,7 +52,7 @@ fn run<R: Read, W: Write>(
         (change W.contents output.old output.new) result }
 {
     let reply = reply_to(alloc, strict, input);
-    tell(output, &reply)
+    write_reply(output, &reply)
 }
 
 /// Returns the answer to the input, or why there is none.
@@ -91,7 +91,7 @@ fn read_input<R: Read>(alloc: Global, input: &mut Watched<R>) -> Result<Vec<u8>,
 }
 
 /// Writes the reply and returns its status, or 2 where the output failed.
-fn tell<W: Write>(output: &mut Watched<W>, reply: &Result<String, Failure>) -> u8
+fn write_reply<W: Write>(output: &mut Watched<W>, reply: &Result<String, Failure>) -> u8
     ensures status { has_failed output.old ≡ false
         → (result ≡ 2) ↔ (has_failed output.new ≡ true) }
     ensures whole { has_failed output.new ≡ false → Writes (reply_of reply.now) result

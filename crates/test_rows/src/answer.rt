@@ -98,7 +98,7 @@ impl Answer {
     }
 
     /// Returns what was made; none if memory ran out, and then the answer ends.
-    pub fn had<T>(&mut self, made: Result<T, AllocError>) -> Option<T> {
+    pub fn or_out_of_memory<T>(&mut self, made: Result<T, AllocError>) -> Option<T> {
         match made {
             Ok(made) => Some(made),
             Err(AllocError) => {
@@ -117,7 +117,7 @@ impl Answer {
 
     /// Returns the list that was made; an empty one if memory ran out.
     pub fn list<T: Drop>(&mut self, made: Result<Vec<T>, AllocError>) -> Vec<T> {
-        self.had(made).unwrap_or(Vec::new(self.alloc))
+        self.or_out_of_memory(made).unwrap_or(Vec::new(self.alloc))
     }
 
     /// Returns a copy of the bytes.
@@ -141,7 +141,7 @@ impl Answer {
                 self.end = End::Row;
             }
             for _ in 0..often {
-                self.had(bytes.extend_from_slice(&part));
+                self.or_out_of_memory(bytes.extend_from_slice(&part));
             }
         }
         bytes

@@ -76,6 +76,6 @@ pub fn write_built(words: &str, out: &mut Answer) {
 /// Returns the packet that is built of the chunk alone; nothing if it can't be.
 pub fn built_of(chunk: &[u8], out: &mut Answer) -> Vec<u8> {
     let mut builder = SctpPacketBuilder::new(out.alloc, 0x01020304, 5000, 5000, 65535);
-    out.had(add_bytes(out.alloc, &mut builder, chunk, true));
+    out.or_out_of_memory(add_bytes(out.alloc, &mut builder, chunk, true));
     builder.build(0)
 }

@@ -94,9 +94,9 @@ fn made(making: Making, bytes: &[u8], number: usize, out: &mut Answer) -> Vec<u8
         Making::CutOff => packet.truncate(number),
         Making::Shortened => {}
         Making::Around(item) => {
-            out.had(packet.extend_from_slice(&item.to_be_bytes()));
+            out.or_out_of_memory(packet.extend_from_slice(&item.to_be_bytes()));
             length = bytes.len().saturating_add(number).saturating_sub(2);
-            out.had(packet.resize(length.saturating_add(12), 0));
+            out.or_out_of_memory(packet.resize(length.saturating_add(12), 0));
         }
     }
     if !matches!(making, Making::CutOff) && bytes.len() > 2 {

@@ -95,7 +95,7 @@ fn with(typ: u8, tsn: u32, user_data: Data, immediate_ack: bool) -> Chunk {
 /// Writes DATA or I-DATA of a type, a TSN, and a copy of user data; the flags ask for a SACK too.
 fn write_data(fields: &[u8], out: &mut Answer) {
     let data = user_data(from(fields, 5), out);
-    if let Some(copy) = out.had(data.clone()) {
+    if let Some(copy) = out.or_out_of_memory(data.clone()) {
         let is_immediate = first(from(fields, 21)) & 8 != 0;
         let chunk = with(first(fields), word_at(fields, 1), copy, is_immediate);
         write_made(&chunk, out)

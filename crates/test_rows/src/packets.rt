@@ -23,7 +23,7 @@ pub const ANY: ChecksumPolicy = ChecksumPolicy::ANY_CHECKSUM;
 /// Returns the header, and these chunks.
 pub fn packet_of(chunks: &[u8], out: &mut Answer) -> Vec<u8> {
     let mut bytes = out.copy(&HEADER);
-    out.had(bytes.extend_from_slice(chunks));
+    out.or_out_of_memory(bytes.extend_from_slice(chunks));
     bytes
 }
 
@@ -42,7 +42,7 @@ fn write_canonical(packet: &SctpPacket, header: &[u8], bytes: &[u8], out: &mut A
 }
 
 /// Returns whether the check refuses the packet for this fault.
-fn is_checked_so(
+fn is_checked_under(
     bytes: &[u8],
     word: u32,
     policy: &ChecksumPolicy,
@@ -70,7 +70,7 @@ fn has_no_fault(
         Ok(_) => false,
         Err(error) => error == fault,
     };
-    if !is_read_so || !is_checked_so(other, word, policy, &fault) {
+    if !is_read_so || !is_checked_under(other, word, policy, &fault) {
         out.say("check or reader answers otherwise");
     } else if let PacketParseError::FailedParseChunk(fault) = fault {
         write!(out, "{fault:?} at {offset}");
@@ -169,9 +169,9 @@ fn add_chunk(chunk: &Chunk, written: &mut Vec<u8>, text: &mut Answer) {
     text.unless(written.is_empty(), " / ");
     write!(text, "{chunk}");
     let image = image_of(chunk, text);
-    text.had(written.extend_from_slice(&image));
+    text.or_out_of_memory(written.extend_from_slice(&image));
     let size = written.len().wrapping_add(3) / 4 * 4;
-    text.had(written.resize(size, 0));
+    text.or_out_of_memory(written.resize(size, 0));
 }
 
 /// Returns whether a packet's answer has this text after the number of parts. A packet that is too

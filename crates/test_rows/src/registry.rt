@@ -14,7 +14,7 @@ use dcsctp_wire::packet::sack_chunk::GapAckBlock;
 use dcsctp_wire::types::Tsn;
 
 /// Of items in one another, how many are opened.
-const MOST: usize = 4;
+const MOST_OPENED: usize = 4;
 
 /// Items in one, and whether these are error causes.
 type Inner<'a> = Option<(bool, RawItems<'a>)>;
@@ -201,7 +201,7 @@ fn write_inner(bytes: &[u8], list: Inner, out: &mut Answer) {
                 out.push(&mut lists, (is_cause, items));
                 let depth = lists.len();
                 write!(out, "; {depth} ");
-                if depth == MOST {
+                if depth == MOST_OPENED {
                     write_bytes(raw.typ, raw.value, out);
                 } else if let Some(inner) = write_item(is_cause, &raw, out) {
                     out.push(&mut lists, inner);
@@ -242,7 +242,7 @@ fn write_chunk_row(bytes: &[u8], out: &mut Answer) {
 fn write_opened(nested: RawItems, out: &mut Answer) {
     let mut items = nested;
     let (mut opened, mut left) = (0, 0);
-    for i in 0..MOST {
+    for i in 0..MOST_OPENED {
         if let Some(raw) = items.next() {
             left = raw.value.len();
             if let Some(
@@ -263,7 +263,7 @@ fn write_nested(count: u16, out: &mut Answer) {
     let mut bytes = Vec::new(out.alloc);
     for i in 0..count {
         let [high, low] = (count - i).saturating_mul(4).to_be_bytes();
-        out.had(bytes.extend_from_slice(&[0, 8, high, low]));
+        out.or_out_of_memory(bytes.extend_from_slice(&[0, 8, high, low]));
     }
     match RawItems::from_bytes(&bytes) {
         Some(nested) => write_opened(nested, out),

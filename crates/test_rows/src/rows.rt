@@ -69,7 +69,7 @@ fn write_line(line: &str, out: &mut Answer) {
     let (row, _) = line.split_once(" = ").unwrap_or((line, ""));
     let mut answer = out.another();
     write_row(row, &mut answer);
-    out.had(answer.text.push_str(answer.end.words()));
+    out.or_out_of_memory(answer.text.push_str(answer.end.words()));
     write_laid_out(row, &answer.text, out)
 }
 

@@ -8,21 +8,21 @@ returns g c = record {
   at_most = c.reply_to-reply.ensures.at_most;
   shown = λ began opened read works.
       writes_shown c.args.strict _ _ _ _ _ _ read _ (c.reply_to-reply.ensures.reply began)
-      (c.tell.ensures.whole works);
+      (c.write_reply.ensures.whole works);
   some_answer = Shows-some c.args.strict;
   one_answer = Shows-one c.args.strict;
   read_failed = λ began opened works.
-      (let told = c.tell.ensures.whole works in
+      (let told = c.write_reply.ensures.whole works in
       only_read_failed c.args.strict _ _ _ _ _ _ _ (c.reply_to-reply.ensures.reply began) told.0
       told.1);
-  status = c.tell.ensures.status;
+  status = c.write_reply.ensures.status;
   whole =
-      λ began opened works. (_, c.reply_to-reply.ensures.reply began, c.tell.ensures.whole works);
+      λ began opened works. (_, c.reply_to-reply.ensures.reply began, c.write_reply.ensures.whole works);
   cut = λ began opened failed. (
     _,
     c.reply_to-reply.ensures.reply began,
-    c.tell.ensures.cut opened
+    c.write_reply.ensures.cut opened
         failed,
   );
-  flushed = c.tell.ensures.flushed;
+  flushed = c.write_reply.ensures.flushed;
 }

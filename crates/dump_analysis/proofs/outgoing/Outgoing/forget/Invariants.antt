@@ -1,7 +1,0 @@
--- No more are kept than were looked at.
-use Rattle.std.proofs.Common.{◌≤◌}
-use Rattle.std.specs.Prelude.{vec_len}
-use Rattle.dump_analysis.proofs.outgoing.Outgoing.forget.Given as goal
-
-abbrev pub invariant-loop-place : goal.invariant-loop-place
-invariant-loop-place l = vec_len l.kept ≤ l.place

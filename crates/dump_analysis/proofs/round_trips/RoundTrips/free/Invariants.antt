@@ -1,6 +1,0 @@
-use Rattle.std.proofs.Common.{All, take}
-use Rattle.dump_analysis.specs.RoundTrips.{IsFree}
-use Rattle.dump_analysis.proofs.round_trips.RoundTrips.free.Given as goal
-
-abbrev pub invariant-loop-place : goal.invariant-loop-place
-invariant-loop-place l = All (λ sent. ¬ (IsFree sent)) (take l.place l.fn.self.waiting)

@@ -1,0 +1,5 @@
+pub mod ChunkCounts
+pub mod HeaderCounts
+pub mod Marks
+pub mod PathCounts
+pub mod Slots

@@ -1,0 +1,15 @@
+pub mod Announced
+pub mod Attribution
+pub mod Authentication
+pub mod Counts
+pub mod Ends
+pub mod IcmpErrors
+pub mod Order
+pub mod PathTables
+pub mod Paths
+pub mod RoundTrips
+pub mod Routes
+pub mod StaleCookies
+pub mod Table
+pub mod Transports
+pub mod Tsns

@@ -1,0 +1,3 @@
+pub mod ChunkKinds
+pub mod PacketCounts
+pub mod Powers

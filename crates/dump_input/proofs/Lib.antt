@@ -1,0 +1,4 @@
+pub mod InputFormats
+pub mod LineDrops
+pub mod Passed
+pub mod Steps

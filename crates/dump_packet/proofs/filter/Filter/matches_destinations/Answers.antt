@@ -1,0 +1,13 @@
+use Rattle.std.proofs.{Common.{◌||◌, Bool, ap, sym, ◌∙◌, rules, tests}, lemmas.Iterator.{YieldsList-from_slice}, lemmas.Iterator.Search.{any_from_yields_List}}
+use Rattle.std.specs.List.{list_any}
+use Rattle.dump_packet.specs.Filter.{is_destination, is_met}
+use Rattle.dump_packet.proofs.filter.Filter.matches_destinations.Goals as goal
+
+pub returns-else-asks_nothing : goal.returns-else-asks_nothing
+returns-else-asks_nothing c =
+    let asked = c.args.self.now.destinations in
+    let test = is_met (λ host. is_destination host c.args.addresses) in
+    any_from_yields_List test _ _ c.any.result c.any.ensures.ran
+    (YieldsList-from_slice asked cc) (λ x b q k. search (rules, tests))
+    ∙ ap (λ (b : Bool). b || list_any test asked)
+    (sym c.if-asks_nothing.false ∙ c.asks_nothing.ensures)

@@ -1,0 +1,13 @@
+pub mod Acknowledged
+pub mod Buckets
+pub mod Calendar
+pub mod ChunkTypes
+pub mod Delays
+pub mod Filter
+pub mod Firsts
+pub mod Questions
+pub mod Seen
+pub mod SeenPackets
+pub mod Serial
+pub mod Sides
+pub mod Warnings

@@ -1,5 +1,0 @@
-use Rattle.dump_report.proofs.JsonStrings.{is_string}
-use Rattle.dump_report.proofs.laws.json_string.Goals as goal
-
-pub returns : goal.returns
-returns c = is_string
