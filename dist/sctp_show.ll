@@ -387,7 +387,7 @@ start:
   store ptr %r2, ptr %r6, align 8
   %r18 = load ptr, ptr %r5, align 8, !noundef !1
   %r19 = load ptr, ptr %r6, align 8, !noundef !1
-  %r20 = call i8 @sctp_show.engine.tell.cdc8ff12022c16a2(ptr %r18, ptr %r19)
+  %r20 = call i8 @sctp_show.engine.write_reply.cdc8ff12022c16a2(ptr %r18, ptr %r19)
   store i8 %r20, ptr %r0, align 1
   %r21 = load i8, ptr %r2, align 1, !noundef !1
   switch i8 %r21, label %noarm.3 [
@@ -13739,7 +13739,7 @@ default.11:                                       ; preds = %start
   %r283 = load ptr, ptr %r122, align 8, !noundef !1
   %r284 = getelementptr i8, ptr %r122, i64 8
   %r285 = load i64, ptr %r284, align 8, !noundef !1
-  %r286 = call i8 @dcsctp_wire.packet.chunk.Chunk.other_onto(ptr %r280, i8 %r281, i8 %r282, ptr %r283, i64 %r285)
+  %r286 = call i8 @dcsctp_wire.packet.chunk.Chunk.push_listed_or_unknown(ptr %r280, i8 %r281, i8 %r282, ptr %r283, i64 %r285)
   store i8 %r286, ptr %r26, align 1
   br label %join.12
 
@@ -20708,7 +20708,7 @@ after.1:                                          ; preds = %start
 }
 
 ; Function Attrs: nounwind
-define internal noundef i8 @dcsctp_wire.packet.chunk.Chunk.other_onto(ptr noundef %a0, i8 noundef %a1, i8 noundef %a2, ptr noundef %a3, i64 noundef %a4) #0 {
+define internal noundef i8 @dcsctp_wire.packet.chunk.Chunk.push_listed_or_unknown(ptr noundef %a0, i8 noundef %a1, i8 noundef %a2, ptr noundef %a3, i64 noundef %a4) #0 {
 start:
   %r0 = alloca [1 x i8], align 1
   %r1 = alloca [0 x i8], align 1
@@ -66604,7 +66604,7 @@ return.5:                                         ; preds = %join.3
 }
 
 ; Function Attrs: nounwind
-define internal noundef i8 @sctp_show.engine.tell.cdc8ff12022c16a2(ptr noundef %a0, ptr noundef %a1) #0 {
+define internal noundef i8 @sctp_show.engine.write_reply.cdc8ff12022c16a2(ptr noundef %a0, ptr noundef %a1) #0 {
 start:
   %r0 = alloca i8, align 1
   %r1 = alloca ptr, align 8
