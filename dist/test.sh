@@ -264,7 +264,7 @@ kept_on_arm64() {
 as_elf() {
     sed -E 's/^\t\.section\t__TEXT,__text.*/\t.text/; s/^\t\.section\t__TEXT,__(const|literal|cstring).*/\t.section .rodata/
         s/^\t\.section\t__DATA,__const.*/\t.section .data.rel.ro,"aw"/
-        /^\.subsections_via_symbols|^\t\.(loh|data_region|end_data_region)\b/d; s/\b_([a-z_][A-Za-z0-9_.$]*)/\1/g
+        /^\.subsections_via_symbols|^\t\.(loh|data_region|end_data_region)\b/d; /^\t\.asci[iz]\t/!s/\b_([a-z_][A-Za-z0-9_.$]*)/\1/g
         s/([A-Za-z0-9_.$]+)@PAGEOFF/:lo12:\1/g; s/@PAGE\b//g' "$dist/$1-macho.s"
 }
 
