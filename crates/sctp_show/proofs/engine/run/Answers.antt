@@ -12,9 +12,9 @@ returns g c = record {
   some_answer = Shows-some c.args.strict;
   one_answer = Shows-one c.args.strict;
   read_failed = λ began opened works.
-      (let told = c.write_reply.ensures.whole works in
-      only_read_failed c.args.strict _ _ _ _ _ _ _ (c.reply_to-reply.ensures.reply began) told.0
-      told.1);
+      (let written = c.write_reply.ensures.whole works in
+      only_read_failed c.args.strict _ _ _ _ _ _ _ (c.reply_to-reply.ensures.reply began) written.0
+      written.1);
   status = c.write_reply.ensures.status;
   whole =
       λ began opened works. (_, c.reply_to-reply.ensures.reply began, c.write_reply.ensures.whole works);
