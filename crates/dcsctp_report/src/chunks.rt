@@ -71,7 +71,7 @@ fn walk_meaning<F: Fields>(chunk: &Item<'_>, fields: &mut F) -> bool {
         }
         error_chunk::CHUNK_TYPE => walk_list::<Causes, F>(value, fields),
         shutdown_chunk::CHUNK_TYPE if value.is_whole() && size == 4 => {
-            fields.number(&Number::read(": cumulative tsn ", "cumulative_tsn", chunk, 4, 4));
+            fields.number(&Number::read(": cumulative tsn ", "cumulative_tsn_ack", chunk, 4, 4));
         }
         shutdown_ack_chunk::CHUNK_TYPE | cookie_ack_chunk::CHUNK_TYPE if value.size == 0 => {}
         registered_chunk::ECNE | registered_chunk::CWR if value.is_whole() && size == 4 => {
@@ -146,7 +146,13 @@ fn walk_sack<F: Fields>(chunk: &Item<'_>, fields: &mut F) -> bool {
         return false;
     }
     let cumulative = SackNumbers::CUMULATIVE_TSN_ACK;
-    fields.number(&Number::at(": cumulative tsn ", "cumulative_tsn", chunk, cumulative, 4));
+    fields.number(&Number::at(
+        ": cumulative tsn ",
+        "cumulative_tsn_ack",
+        chunk,
+        cumulative,
+        4,
+    ));
     fields.number(&Number::at(", a_rwnd ", "a_rwnd", chunk, SackNumbers::A_RWND, 4));
     let captured = (bytes.len() - SackNumbers::SIZE) / SACK_ENTRY_SIZE;
     let blocks = numbers.gap_ack_block_count as usize;
@@ -184,7 +190,7 @@ fn walk_nr_sack<F: Fields>(chunk: &Item<'_>, fields: &mut F) -> bool {
     if chunk.value.size != NR_SACK_SIZE + SACK_ENTRY_SIZE * entries {
         return false;
     }
-    let cumulative = Number::at(": cumulative tsn ", "cumulative_tsn", chunk, 0, 4);
+    let cumulative = Number::at(": cumulative tsn ", "cumulative_tsn_ack", chunk, 0, 4);
     let tsn = cumulative.value;
     fields.number(&cumulative);
     fields.number(&Number::at(", a_rwnd ", "a_rwnd", chunk, 4, 4));

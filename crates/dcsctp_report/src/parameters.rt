@@ -178,8 +178,8 @@ fn walk_re_config<F: Fields>(item: &Item<'_>, fields: &mut F) -> bool {
             let request = OutgoingSsnResetRequestNumbers::REQUEST_SEQ_NBR;
             let response = OutgoingSsnResetRequestNumbers::RESPONSE_SEQ_NBR;
             let last_tsn = OutgoingSsnResetRequestNumbers::SENDER_LAST_ASSIGNED_TSN;
-            fields.number(&Number::at(": request ", "request", item, request, 4));
-            fields.number(&Number::at(", response ", "response", item, response, 4));
+            fields.number(&Number::at(": request ", "request_number", item, request, 4));
+            fields.number(&Number::at(", response ", "response_number", item, response, 4));
             fields.number(&Number::at(", last tsn ", "last_tsn", item, last_tsn, 4));
             walk_streams(
                 streams.count(),
@@ -190,18 +190,18 @@ fn walk_re_config<F: Fields>(item: &Item<'_>, fields: &mut F) -> bool {
         }
         ReConfigRef::IncomingSsnResetRequest { streams, .. } => {
             let request = RequestNumbers::REQUEST_SEQ_NBR;
-            fields.number(&Number::at(": request ", "request", item, request, 4));
+            fields.number(&Number::at(": request ", "request_number", item, request, 4));
             walk_streams(streams.count(), RequestNumbers::SIZE, item, fields);
         }
         ReConfigRef::SsnTsnResetRequest(_) => {
             let request = RequestNumbers::REQUEST_SEQ_NBR;
-            fields.number(&Number::at(": request ", "request", item, request, 4));
+            fields.number(&Number::at(": request ", "request_number", item, request, 4));
         }
         ReConfigRef::ReconfigurationResponse(response) => walk_response(response, item, fields),
         ReConfigRef::AddOutgoingStreamsRequest(_) | ReConfigRef::AddIncomingStreamsRequest(_) => {
             let request = AddStreamsNumbers::REQUEST_SEQ_NBR;
             let new_streams = AddStreamsNumbers::NBR_NEW_STREAMS;
-            fields.number(&Number::at(": request ", "request", item, request, 4));
+            fields.number(&Number::at(": request ", "request_number", item, request, 4));
             fields.number(&Number::at(", new streams ", "new_streams", item, new_streams, 2));
         }
     }
@@ -221,7 +221,7 @@ fn walk_response<F: Fields>(
     fields: &mut F,
 ) {
     let number = ReconfigurationResponseNumbers::RESPONSE_SEQ_NBR;
-    fields.number(&Number::at(": response ", "response", item, number, 4));
+    fields.number(&Number::at(": response ", "response_number", item, number, 4));
     let result = Number::at(
         ", result ",
         "result",
