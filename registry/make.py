@@ -15,38 +15,49 @@ import sys
 import types
 
 sys.dont_write_bytecode = True
-import languages
+import layouts
 import proved
+from languages import c, cpp, go, javascript, page, pages, python, rattle, rust
 
 ROOT = os.path.dirname(os.path.dirname(os.path.abspath(__file__)))
 TABLE = 'registry/sctp.txt'
 
 NAMED = ['number', 'identifier', 'name', 'standard']
 COLUMNS = {
-    'chunk': [*NAMED, 'least', 'read', 'group', 'value', 'about'],
-    'flag': ['chunk', *NAMED],
-    'parameter': [*NAMED, 'least', 'read', 'value', 'about'],
-    'cause': [*NAMED, 'least', 'read', 'value', 'about'],
+    'chunk': [*NAMED, 'read', 'struct', 'group', 'value', 'about'],
+    'flag': ['chunk', *NAMED, 'field'],
+    'parameter': [*NAMED, 'read', 'struct', 'value', 'about'],
+    'cause': [*NAMED, 'read', 'value', 'about'],
+    'record': ['name', 'standard', 'struct', 'value', 'about'],
+    'field': ['name', 'about'],
     'result': NAMED,
     'address': ['number', 'name', 'standard'],
     'hmac': ['number', 'name', 'standard'],
     'channel': ['number', 'name', 'standard'],
     'port': NAMED,
+    'enum': ['name', 'about'],
+    'constant': ['of', 'number', 'identifier', 'text', 'about'],
+    'rule': ['number', 'identifier', 'text', 'standard'],
     'protocol': ['number', 'name'],
 }
 FORMS = {
     'chunk': r'\d+',
     'number': r'\d+|0x[0-9a-f]+',
     'identifier': r'[A-Z][A-Z0-9_]*',
-    'name': r'[A-Za-z0-9./-]+( [A-Za-z0-9./-]+)*',
-    'standard': r'\d{4}( [0-9A-Z]+(\.\d+)*)?|draft-[a-z-]+',
-    'least': r'-|\d+(\+(\d+|\?))?',
+    'name': r'[A-Za-z0-9_./-]+( [A-Za-z0-9./-]+)*',
+    'standard': r'\d{4}( [0-9A-Z]+(\.\d+)*)?|\d{4} [\d.]+ and [\d.]+|draft-[a-z-]+',
     'read': 'kind|bytes|draft',
+    'struct': r'-|[a-z_]+',
     'group': r'-|[a-z]+',
     'value': r'.+',
+    'field': r'[a-z ]+( = 1)?',
+    'of': r'[a-z_]+',
+    'text': r'[A-Za-z].*',
     'about': r'[A-Z].*',
 }
 BITS = {'chunk': 8, 'flag': 8, 'parameter': 16, 'cause': 16, 'address': 16, 'hmac': 16, 'channel': 8, 'port': 16}
+# What has to differ from the rows of a level before it, of the rows of one chunk or of one enum.
+UNIQUE = ('number', 'identifier', 'name')
 
 
 class Broken(Exception):
@@ -66,38 +77,51 @@ def row_of(at, line):
     for column, cell in zip(columns, cells):
         if not re.fullmatch(FORMS[column], cell):
             raise Broken(at, f'no {column} is {cell}' if cell else f'no {column}')
-    row = types.SimpleNamespace(level=level, **dict(zip(columns, cells)))
-    row.number = int(row.number, 0)
-    if row.number >= 1 << BITS.get(level, 32):
-        raise Broken(at, f'{row.number} has more than {BITS[level]} bits')
+    row = types.SimpleNamespace(level=level, notes={}, **dict(zip(columns, cells)))
+    if 'number' in columns:
+        row.number = int(row.number, 0)
+        if row.number >= 1 << BITS.get(level, 32):
+            raise Broken(at, f'{row.number} has more than {BITS.get(level, 32)} bits')
     if level == 'flag':
         row.chunk = int(row.chunk)
     # (what has no name is "unknown", or begins with a small letter)
     if level in ('chunk', 'parameter', 'cause') and not row.name[0].isupper():
         raise Broken(at, f'{row.name} doesn\'t begin with a capital')
-    for column in ('least', 'group'):
-        if getattr(row, 'read', '') == 'kind' and getattr(row, column, '') == '-':
-            raise Broken(at, f'{row.name} is a kind, and has no {column}')
-    # (places.py goes by the names)
-    if getattr(row, 'read', '') == 'kind' and re.match(r'u?\d', row.value):
-        raise Broken(at, f'{row.name} is a kind, and its first field has no name')
+    if getattr(row, 'read', '') == 'kind' and getattr(row, 'group', '') == '-':
+        raise Broken(at, f'{row.name} is a kind, and has no group')
     return row
+
+
+def note(at, line, row):
+    """Keeps what an indented line says of a field of the row above it."""
+    name, *about = re.split(r' {2,}', line.strip())
+    if row is None or not hasattr(row, 'value'):
+        raise Broken(at, f'no value has {name}')
+    if len(about) != 1 or not re.fullmatch(FORMS['about'], about[0]) or name in row.notes:
+        raise Broken(at, f'nothing is said of {name}')
+    row.notes[name] = about[0]
 
 
 def rows_of(text):
     """The rows of a table, in its order."""
     rows, seen, last = [], {}, None
     for at, line in enumerate(text.splitlines(), 1):
+        if line.startswith('    '):
+            note(at, line, rows[-1] if rows else None)
+            continue
         if not line or line.startswith('#'):
             continue
         row = row_of(at, line)
-        level = f'flag of {row.chunk}' if row.level == 'flag' else row.level
-        for column in ('number', 'identifier', 'name'):
-            key = level, column, getattr(row, column, at)
+        owner = getattr(row, 'chunk', getattr(row, 'of', ''))
+        for column in UNIQUE:
+            key = row.level, owner, column, getattr(row, column, at)
             if key in seen:
                 raise Broken(at, f'the {column} of line {seen[key]} again')
             seen[key] = at
-        place = list(COLUMNS).index(row.level), getattr(row, 'chunk', 0), row.number
+        owners = [it.name for it in rows if it.level == 'enum']
+        if row.level == 'constant' and row.of not in owners:
+            raise Broken(at, f'no enum is {row.of}')
+        place = list(COLUMNS).index(row.level), owners.index(owner) if row.level == 'constant' else owner or 0, getattr(row, 'number', 0)
         if last and place < last:
             raise Broken(at, 'not in order')
         last = place
@@ -106,8 +130,10 @@ def rows_of(text):
 
 
 def table_of(rows):
-    """The rows of each level."""
-    return {level: [row for row in rows if row.level == level] for level in COLUMNS}
+    """The rows of each level, laid out."""
+    table = {level: [row for row in rows if row.level == level] for level in COLUMNS}
+    table['records'] = layouts.lay_out(table)
+    return table
 
 
 def read(path):
@@ -117,7 +143,7 @@ def read(path):
 
 # ---- files
 
-MARK = 'generated by registry/make.py of registry/sctp.txt, in the words of registry/languages.py'
+MARK = 'generated by registry/make.py of registry/sctp.txt'
 END = 'end of what registry/make.py generates'
 
 
@@ -131,28 +157,15 @@ def between_marks(path, texts):
     return ''.join(parts)
 
 
-MARKED = {
-    'include/dcsctp.h': languages.c,
-    'bindings/python/src/davgyuti/_values.py': languages.python,
-    'bindings/rust/src/registered.rs': languages.rust_registered,
-    'bindings/rust/src/types.rs': languages.rust,
-    'bindings/cpp/dcsctp.hpp': languages.cpp,
-    'bindings/js/davgyuti.js': languages.javascript,
-    'bindings/js/davgyuti.d.ts': languages.typescript,
-    'README.md': languages.readme,
-    'docs/C.md': languages.c_page,
-}
+# Of each language the files that are written whole, by their paths, and those that are written between marks.
+LANGUAGES = (rattle, c, python, rust, go, javascript, cpp, page, pages)
+MARKED = {path for language in LANGUAGES for path in language.MARKED}
 
 
 def files_of(table):
     """The text of each file, by its path."""
-    return {
-        'crates/dcsctp_report/src/registry.rt': languages.rattle(table),
-        'bindings/go/registry.go': languages.go(table),
-        'bindings/python/src/davgyuti/registered.py': languages.python_registered(table),
-        'page/src/registry.mjs': languages.page(table),
-        **{path: between_marks(path, language(table)) for path, language in MARKED.items()},
-    }
+    files = {path: text(table) for language in LANGUAGES for path, text in language.FILES.items()}
+    return files | {path: between_marks(path, texts(table)) for language in LANGUAGES for path, texts in language.MARKED.items()}
 
 
 def stale_files(table):
@@ -169,11 +182,13 @@ def main(words):
         print(__doc__.split('\n')[0], file=sys.stderr)
         return 2
     try:
-        rows = rows_of(read(TABLE))
+        table = table_of(rows_of(read(TABLE)))
     except Broken as broken:
         print(broken, file=sys.stderr)
         return 1
-    table = table_of(rows)
+    except layouts.Wrong as wrong:
+        print(f'{TABLE}: {wrong}', file=sys.stderr)
+        return 1
     stale = stale_files(table)
     if words:
         lines = [f'{path}: not what {TABLE} gives; registry/make.py writes it' for path in stale]

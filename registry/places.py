@@ -17,8 +17,9 @@ import sys
 import types
 
 sys.dont_write_bytecode = True
-import languages
+import layouts
 import make
+from languages import words as written
 
 PLACES = 'registry/places.txt'
 
@@ -42,7 +43,7 @@ CRATES = {
 }
 """Where the code of the kinds is, and the file that lists the modules there; of the chunks with a list last."""
 
-LISTS = {'parameters': 'Parameters', 'error causes': 'Causes'}
+LISTS = {'parameters': 'Parameters', 'causes': 'Causes'}
 """What a value that ends in a list ends in, in the table and in names."""
 
 NUMBER, ARM = '\0', '\1'
@@ -78,7 +79,8 @@ def sources(level):
 
 
 def last_field(row):
-    return row.value.rpartition(', ')[2]
+    """What a value ends in, in the table's words."""
+    return row.layout.rest.form if row.layout.rest else ''
 
 
 def own_names(row):
@@ -96,7 +98,7 @@ def own_names(row):
 
 def words_of(row, module, flags):
     """The words of a kind: its level, what its value is, and what there is of it already."""
-    value, last = row.value, last_field(row)
+    fields, last = row.layout.fields, last_field(row)
     has_flags = row.level == 'chunk' and row.number in flags
     tests = {
         'any': True,
@@ -105,18 +107,18 @@ def words_of(row, module, flags):
         'plain': last not in LISTS,
         'parameters': last == 'parameters',
         'flagless': not has_flags,
-        'empty': value == '-' and not has_flags,
-        'number': value.endswith(' u32') and value.count('u32') == 1 and ', ' not in value,
-        'several': ', ' in value,
-        'text': last == 'a text',
-        'payload': last == 'payload',
-        'streams': 'streams (' in value,
+        'empty': not fields and not has_flags,
+        'number': [(it.what, it.form) for it in fields] == [('number', 'u32')],
+        'several': len(fields) > 1,
+        'text': last == 'text',
+        'payload': any(it.name == 'payload' for it in fields),
+        'streams': any(it.what == 'list' and it.form in row.records for it in fields) and not any(it.count for it in fields),
         # Its value is as long as its sender likes: it is on the heap.
-        'memory': '+' in row.least and not value.endswith('or none'),
+        'memory': bool(row.layout.lists or row.layout.rest),
         # Some length of its value is a fault.
         'refused': row.least != '0+1',
         # More is known of its value than that it is bytes.
-        'fields': value == '-' or last in LISTS or last == 'a text' or bool(re.search(r'\bu(8|16|32)\b', value)),
+        'fields': not fields or last in (*LISTS, 'text') or bool(row.layout.size),
         # No part of it is read in place.
         'whole': last not in LISTS and f'{module}::' not in read('crates/dcsctp_borrowed/src/checked_chunks.rt'),
         # It has a form of its own that is added to a packet.
@@ -125,13 +127,6 @@ def words_of(row, module, flags):
         'named': not row.standard.startswith('6525 4'),
     }
     return {word for word, holds in tests.items() if holds}
-
-
-def python_name(row, otherwise):
-    """The name of a kind's class in the package for Python, by its type."""
-    classes = re.split(r'^class ', read('bindings/python/src/davgyuti/_values.py'), flags=re.M)
-    typ = f'= {LEVELS[row.level]["type"]}.{row.identifier}\n'
-    return next((text.partition('(')[0] for text in classes if typ in text), otherwise)
 
 
 def kind_of(row, flags, counts):
@@ -144,7 +139,6 @@ def kind_of(row, flags, counts):
         level=row.level, upper=row.level.upper(), title=row.level.capitalize(), number=NUMBER, arm=ARM, name=row.name,
         identifier=row.identifier, lower=row.identifier.lower(),
         crate=crate, source=source, modules=modules, module=module, struct=struct, spec=spec, variant=variant, snake=snake,
-        python=python_name(row, variant),
         alias=module if spec.endswith(struct_end) else snake,
         term=variant if 'empty' in words else f'({variant} ..)',
         content='Text' if 'text' in words else 'Varied' if 'memory' in words else 'Fixed',
@@ -153,10 +147,12 @@ def kind_of(row, flags, counts):
     return types.SimpleNamespace(row=row, words=words, names=names)
 
 
-def kinds_of(rows):
+def kinds_of(table):
     """The kinds of a table."""
-    flags = {row.chunk for row in rows if row.level == 'flag'}
-    kinds = [row for row in rows if getattr(row, 'read', '') == 'kind']
+    flags = {row.chunk for row in table['flag']}
+    kinds = [row for level in LEVELS for row in table[level] if row.read == 'kind']
+    for row in kinds:
+        row.records = table['records']
     counts = {f'{level}_kinds': sum(row.level == level for row in kinds) for level in LEVELS}
     counts['plain_kinds'] = sum(row.level == 'chunk' and last_field(row) not in LISTS for row in kinds)
     return [kind_of(row, flags, counts) for row in kinds]
@@ -238,7 +234,7 @@ def is_count(place):
 
 def said(kind, path, wanted, with_name):
     """What is printed of a place."""
-    digits = languages.digits(kind.row)
+    digits = written.digits(kind.row)
     start, _, line = wanted.replace(NUMBER, digits).replace(ARM, digits).rpartition(' > ')
     name = f'{kind.row.level} {digits}, {kind.row.name}: ' if with_name else ''
     return f'{path}: {name}no ' + ' or '.join(f'"{line}"' for line in line.split(' or ')) + (f' after "{start}"' if start else '')
@@ -259,9 +255,9 @@ def main(words):
         print(__doc__.split('\n')[0], file=sys.stderr)
         return 2
     try:
-        kinds = kinds_of(make.rows_of(make.read(make.TABLE)))
-    except make.Broken as broken:
-        print(broken, file=sys.stderr)
+        kinds = kinds_of(make.table_of(make.rows_of(make.read(make.TABLE))))
+    except (make.Broken, layouts.Wrong) as wrong:
+        print(wrong, file=sys.stderr)
         return 1
     lines = lines_of(kinds)
     print(*lines, sep='\n', end='\n' if lines else '')

@@ -5,7 +5,7 @@ import glob
 import os
 import re
 
-import languages
+from languages import words
 
 NUMBER = r'(0x[\dA-Fa-f]+|\d+)'
 LEVELS = {'CHUNK_TYPE': 'chunk', 'PARAMETER_TYPE': 'parameter', 'CAUSE_CODE': 'cause'}
@@ -34,8 +34,15 @@ LEASTS = [
     (r'read_of stream_at (\d+) value .*length value == (\d+) \+ size \*', '{1}+{0}'),
     (r'length value == (\d+) \+ \d \* number32 value|size_of_value n = (\d+) \+', '{}+?'),
 ]
-# Words in the names of a definition's fields, for which the table has another.
-FIELD_WORDS = {'ppid': 'protocol', 'count': 'counts', 'blocks': 'counts', 'duplicates': 'counts'}
+# The names of fields in the code, for which the table has other words.
+FIELDS = {
+    'a_rwnd': 'a_rwnd',
+    'stream_id': 'stream', 'ppid_or_fsn': 'PPID or FSN', 'nbr_outbound_streams': 'outbound streams',
+    'nbr_inbound_streams': 'inbound streams', 'gap_ack_block_count': 'count of blocks', 'duplicate_tsn_count': 'count of duplicates',
+    'request_seq_nbr': 'request number', 'response_seq_nbr': 'response number', 'sender_last_assigned_tsn': 'last TSN',
+    'nbr_new_streams': 'new streams', 'sender_next_tsn': 'sender', 'receiver_next_tsn': 'receiver'}
+BYTES = {'u16': 2, 'StreamId': 2, 'Ssn': 2}
+"""The bytes of a field's type, where these aren't four."""
 FLAGS = {'is_end': 'END', 'is_beginning': 'BEGINNING', 'stream_key': 'UNORDERED', 'immediate_ack': 'IMMEDIATE_ACK',
          'tag_reflected': 'TAG_REFLECTED'}
 
@@ -83,6 +90,26 @@ class Comparison:
         if key in self.rows and self.rows[key].least != least:
             self.wrong.append(f'{place}: the sizes of {" ".join(key)} are {least}, but {self.rows[key].least} in the table')
 
+    def layout(self, place, row, numbers, text):
+        """Compares the numbers of a row's value with those that its code reads: the fields, their places, and their sizes."""
+        table = [(it.at, named(it), int(it.form[1:]) // 8) for it in row.layout.numbers if it.what != 'reserved']
+        sizes, optional = {row.layout.size}, row.layout.optional
+        if optional:
+            record = self.table['records'][optional.form].layout
+            sizes.add(row.layout.size + record.size)
+            table += [(row.layout.size + it.at, it.name, int(it.form[1:]) // 8) for it in record.numbers]
+        if numbers:
+            (fields, places, read_sizes), = numbers
+            types = dict(fields)
+            read = sorted((at, FIELDS.get(name, name.replace('_', ' ')), BYTES.get(types.get(name), 4)) for name, at in places.items())
+        else:
+            fields = re.findall(r'^    pub (\w+): (?!Vec)(\w+),', re.search(r'^pub struct \w+ \{\n(?:.+\n)*?\}', text, re.M)[0], re.M)
+            read, read_sizes = [(0, FIELDS.get(name, name.replace('_', ' ')), BYTES.get(of, 4)) for name, of in fields], {4}
+        if row.layout.lists and not fields:
+            read = [(0, f'count of {row.layout.lists[0].name}', 4)]
+        if [(at, name.lower(), width) for at, name, width in read] != [(at, name.lower(), width) for at, name, width in table] or read_sizes != sizes:
+            self.wrong.append(f'{place}: {row.name} has {read} in {sorted(read_sizes)} bytes, but {table} in {sorted(sizes)} in the table')
+
     def fields(self, place, key, text):
         """Compares the names and the places of the numbers that a row's value begins with with those that a definition reads."""
         field = r'\b(\w+) = (?:record \{ 0 = )?number(16|32) (?:value\b|\(drop (\d+) value\))'
@@ -90,22 +117,31 @@ class Comparison:
         numbers = list(numbers_of(self.rows[key])) if key in self.rows else []
         for at, bits, name in numbers:
             of = read.get((at, bits), '' if len(numbers) > 1 else name)
-            words = {FIELD_WORDS.get(word, word) for word in of.lower().split('_')} | {of}
-            if not words & {name, *name.lower().split()}:
+            if name != 'counts' and not {of, *of.lower().split('_')} & {name, *name.lower().split()}:
                 self.wrong.append(f'{place}: {" ".join(key)} has {of or "no number"} at {at}, but {name} in the table')
 
 
 def numbers_of(row):
     """The numbers with a name that the value of a row begins with: the place, the bits and the name of each."""
-    at, end = 0, int(row.least.partition('+')[0].replace('-', '65536'))
+    if row.layout:
+        for it in row.layout.numbers:
+            if it.what != 'reserved':
+                yield it.at, int(it.form[1:]), named(it)
+        return
+    at = 0
     for part in row.value.split(', '):
         name, sizes = re.fullmatch(r'(.*?)((?: ?\bu(?:16|32)\b)*)', part).groups()
-        if not sizes or part in languages.PARTS or at >= end:
+        if not sizes or part in words.PARTS:
             return
         for size in sizes.split():
             if name:
                 yield at, int(size[1:]), name
             at += int(size[1:]) // 8
+
+
+def named(it):
+    """The name of a field, in one way for all."""
+    return f'count of {it.name}' if it.what == 'count' else f'{it.name} or {it.other}' if it.what == 'either' else it.name
 
 
 def constants(them):
@@ -131,6 +167,32 @@ def constants(them):
         them.number(place, key, match[2])
         if key in them.rows and them.rows[key].read == 'kind':
             them.wrong.append(f'{place}: {match[1]} is a kind: `pub use` its constant')
+
+
+def layouts(them):
+    """The order, the names and the widths of the numbers of each kind's code, and their bytes together: those of its struct ..Numbers;
+    or of its own struct, where the value is one number."""
+    structs, sizes, consts = {}, {}, {}
+    for place, _, match in them.places('crates/dcsctp_*/src/**/*.rt', r'^pub struct (\w+Numbers) \{\n((?:.+\n)*?)\}'):
+        structs[match[1]] = place, re.findall(r'^    pub (\w+): (\w+),', match[2], re.M)
+    for _, _, match in them.places('crates/dcsctp_*/src/**/*.rt', r'^impl (\w+Numbers) \{\n((?:.*\n)*?)\}'):
+        places = re.findall(r'^    pub const (\w+): usize = (\d+);', match[2], re.M)
+        sizes[match[1]] = {int(at) for name, at in places if name.startswith('SIZE')}
+        consts[match[1]] = {name.lower(): int(at) for name, at in places if not name.startswith('SIZE')}
+    own = rf'^pub const (CHUNK_TYPE|PARAMETER_TYPE|CAUSE_CODE): u\d+ = {NUMBER};(?:.*\n)*'
+    for place, name, match in them.places('crates/dcsctp_*/src/**/*.rt', own):
+        row = them.rows.get(them.key(LEVELS[match[1]], name))
+        if row and row.layout and row.layout.size:
+            used = set(re.findall(r'\b(\w+Numbers)::SIZE\b', match[0])) or ({'InitNumbers'} if 'InitNumbers' in match[0] else set())
+            them.layout(place, row, [(structs[it][1], consts[it], sizes[it]) for it in used if it in structs], match[0])
+    field = r'\b(StreamId|Ssn|Mid)\(read_u\d+_be\((?:bytes|&bytes\[(\d+)\.\.\])\)\)'
+    for place, _, match in them.places('crates/dcsctp_chunk/src/*.rt', r'^pub struct (Ssn|Mid)StreamField;(?:.*\n)*?\}\n\n(?:.*\n)*'):
+        record = them.table['records'][{'Ssn': 'SkippedStream', 'Mid': 'SkippedIStream'}[match[1]]]
+        read = [(int(at or 0), {'StreamId': 'stream'}.get(name, name.upper())) for name, at in re.findall(field, match[0])]
+        numbers = [(it.at, it.name) for it in record.layout.numbers if it.what == 'number']
+        size = int(re.search(r'const SIZE: usize = (\d+);', match[0])[1])
+        if read != numbers or size != record.layout.size:
+            them.wrong.append(f'{place}: {record.name} has {read} in {size} bytes, but {numbers} in {record.layout.size} in the table')
 
 
 def definitions(them):
@@ -204,6 +266,7 @@ def differences(root, table):
     """A line for each difference, with the file and the line."""
     them = Comparison(root, table)
     constants(them)
+    layouts(them)
     definitions(them)
     registered(them)
     others(them)

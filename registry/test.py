@@ -15,6 +15,7 @@ import sys
 import tempfile
 
 sys.dont_write_bytecode = True
+import layouts
 import make
 import proved
 
@@ -36,15 +37,15 @@ def check(what, is_right):
 def refusal(lines):
     """What is said of a table that is refused."""
     try:
-        make.rows_of('\n'.join(lines))
-    except make.Broken as broken:
-        return str(broken)
+        make.table_of(make.rows_of('\n'.join(lines)))
+    except (make.Broken, layouts.Wrong) as wrong:
+        return str(wrong)
     return 'accepted'
 
 
 # What is changed in the line of INIT, and what is said of it.
 BROKEN = [
-    ('chunk  ', 'chunks  ', 'no level is chunks'),
+    ('chunk ', 'chunks ', 'no level is chunks'),
     ('  kind  ', '  ', '9 columns, but chunk has 10'),
     ('  1  ', '  one  ', 'no number is one'),
     ('  1  ', '  256  ', '256 has more than 8 bits'),
@@ -56,13 +57,21 @@ BROKEN = [
     ('INIT               9260', 'iNIT               9260', "iNIT doesn't begin with a capital"),
     ('INIT               9260', '"               9260', 'no name is "'),
     ('9260 3.3.2 ', '9260 3.3. ', 'no standard is 9260 3.3.'),
-    ('16+1', '16+', 'no least is 16+'),
     ('  kind  ', '  kinds  ', 'no read is kinds'),
+    ('  init  ', '  Init  ', 'no struct is Init'),
     ('  setup  ', '  Setup  ', 'no group is Setup'),
     ('Asks for', 'asks for', 'no about is asks for'),
-    ('  16+1  ', '  -  ', 'INIT is a kind, and has no least'),
     ('  setup  ', '  -  ', 'INIT is a kind, and has no group'),
-    ('  tag u32', '  u32', 'INIT is a kind, and its first field has no name'),
+]
+# What is changed in INIT's value, and what is said of it.
+WRONG = [
+    ('initiate tag u32', 'initiate tag u31', 'no field is initiate tag u31'),
+    ('initiate tag u32', 'initiate tags u32', 'nothing is said of initiate tags'),
+    ('initiate tag u32', 'parameters', 'a_rwnd u32 comes after parameters, which is the rest'),
+    ('a_rwnd u32', 'a_rwnd u32?', 'no field is a_rwnd u32?'),
+    ('a_rwnd u32', 'count of TSNs u32', 'no list is TSNs'),
+    ('parameters', 'streams SkippedStreams*', 'no record is SkippedStreams'),
+    ('parameters', 'TSN if B or else MID u32', 'no flag is B'),
 ]
 
 
@@ -73,10 +82,14 @@ def broken_tables():
         at = INIT + 2 if why == 'not in order' else INIT + 1
         check(f'{new.strip()} for {old.strip()}', line != LINES[INIT] and said.startswith(f'{make.TABLE}:{at}: {why}') or
               print(f'{line}\n  {said}'))
+    for old, new, why in WRONG:
+        line = LINES[INIT].replace(old, new, 1)
+        check(f'{new} for {old}', line != LINES[INIT] and refusal([*LINES[:INIT], line, *LINES[INIT + 1:]]) == f'INIT: {why}')
     for at, line in enumerate(LINES):
         if line and line[0] != '#':
-            said = refusal([*LINES[:at], line, *LINES[at:]])
-            check(f'line {at + 1} twice', said.startswith(f'{make.TABLE}:{at + 2}: the number of line {at + 1} again'))
+            said = refusal([*LINES[:at + 1], line, *LINES[at + 1:]])
+            what = 'nothing is said of' if line[0] == ' ' else rf'the (number|name) of line {at + 1} again'
+            check(f'line {at + 1} twice', re.match(rf'{make.TABLE}:{at + 2}: {what}', said))
 
 
 def changed_files():
@@ -109,18 +122,34 @@ def changed_files():
             make.ROOT = root
 
 
+FLAGS = {line.split('  ')[-1].strip().removesuffix(' = 1') for line in LINES if line.startswith('flag ')}
+
 # What is changed in a row: the crates have it otherwise.
 OTHERS = [
     ('chunk', 'DATA', 'read', 'bytes'),
-    ('chunk', 'ERROR', 'least', '0+1'),
-    ('chunk', 'I_DATA', 'least', '16+4'),
-    ('parameter', 'RECONFIGURATION_RESPONSE', 'least', '8+4'),
-    ('chunk', 'DATA', 'value', 'TSN u32, SSN u16, stream u16, protocol u32, payload'),
-    ('chunk', 'INIT', 'value', 'TSN u32, a_rwnd u32, streams u16 u16, tag u32, parameters'),
-    ('chunk', 'NR_SACK', 'value', 'a_rwnd u32, TSN u32, counts u16 u16 u16, u16, blocks, TSNs u32'),
+    ('chunk', 'DATA', 'value', 'TSN u32, SSN u16, stream u16, PPID u32, payload bytes'),
+    ('chunk', 'DATA', 'value', 'TSN u32, stream u32, SSN u16, PPID u16, payload bytes'),
+    ('chunk', 'INIT', 'value', 'initial TSN u32, a_rwnd u32, outbound streams u16, inbound streams u16, initiate tag u32, parameters'),
+    ('chunk', 'INIT_ACK', 'value', 'initiate tag u32, a_rwnd u32, inbound streams u16, outbound streams u16, initial TSN u32, parameters'),
+    ('chunk', 'SACK', 'value', 'cumulative TSN ack u32, a_rwnd u32, count of duplicates u16, count of blocks u16, blocks GapAckBlock*, duplicates u32*'),
+    ('chunk', 'SHUTDOWN', 'value', 'new cumulative TSN u32'),
+    ('chunk', 'ERROR', 'value', 'causes'),
+    ('chunk', 'COOKIE_ECHO', 'value', 'cookie bytes'),
+    ('chunk', 'I_DATA', 'value', 'TSN u32, stream u16, u16, MID u32, FSN if B or else PPID u32, payload bytes'),
+    ('chunk', 'I_DATA', 'value', 'TSN u32, u16, stream u16, MID u32, PPID if B or else FSN u32, payload bytes'),
+    ('chunk', 'FORWARD_TSN', 'value', 'new cumulative TSN u32, streams SkippedIStream*'),
+    ('record', 'SkippedStream', 'value', 'SSN u16, stream u16'),
+    ('record', 'SkippedIStream', 'value', 'stream u16, MID u32, is unordered bit u16'),
+    ('record', 'NextTsns', 'value', 'receiver u32, sender u32'),
+    ('chunk', 'NR_SACK', 'value', 'a_rwnd u32, cumulative TSN ack u32, counts u16 u16 u16, u16, blocks, TSNs u32'),
     ('chunk', 'PKTDROP', 'value', 'queued u32, bandwidth u32, size u16, u16, a packet'),
-    ('parameter', 'OUTGOING_SSN_RESET', 'value', 'response u32, request u32, last TSN u32, streams u16'),
-    ('parameter', 'ADD_INCOMING_STREAMS', 'value', 'request u32, u16, new streams u16'),
+    ('parameter', 'OUTGOING_SSN_RESET', 'value', 'response number u32, request number u32, last TSN u32, streams u16*'),
+    ('parameter', 'INCOMING_SSN_RESET', 'value', 'request number u32, streams u32*'),
+    ('parameter', 'RECONFIGURATION_RESPONSE', 'value', 'response number u32, result u32 of results'),
+    ('parameter', 'ADD_INCOMING_STREAMS', 'value', 'request number u32, u16, new streams u16'),
+    ('parameter', 'ZERO_CHECKSUM_ACCEPTABLE', 'value', 'method u16, u16'),
+    ('cause', 'MISSING_MANDATORY_PARAMETER', 'value', 'count of types u16, types u16*'),
+    ('cause', 'NO_USER_DATA', 'value', 'method u32'),
 ]
 
 
@@ -145,11 +174,14 @@ def proved_numbers():
     said = [line for line in proved.differences(make.ROOT, table) if re.search('the sizes of .*, but 99 in the table', line)]
     check('other sizes of each kind', len(said) == len(kinds))
     for level, identifier, column, value in OTHERS:
-        table = make.table_of(make.rows_of(TEXT))
-        row = next(row for row in table[level] if row.identifier == identifier)
+        rows = make.rows_of(TEXT)
+        row = next(row for row in rows if row.level == level and identifier in (row.name, getattr(row, 'identifier', '')))
         check(f'the {column} of {identifier} is of the table', getattr(row, column) != value)
         setattr(row, column, value)
-        check(f'{value} as the {column} of {identifier}', proved.differences(make.ROOT, table))
+        row.notes = {name: about for name, about in row.notes.items() if name in value}
+        # (what no kind has any more would be refused before)
+        rows = [row for row in rows if row.level != 'field' or row.name in f'{[row.value for row in rows if hasattr(row, "value")]}' or row.name in FLAGS]
+        check(f'{value} as the {column} of {identifier}', proved.differences(make.ROOT, make.table_of(rows)))
     table = make.table_of(make.rows_of(TEXT))
     for row in table['chunk']:
         row.read = 'kind'

@@ -61,46 +61,41 @@ tests/c/fuzz.c = Zero Checksum Acceptable = case 0x8001: /* RFC 9653 section 4 *
 crates/dcsctp_c/specs/Parameter.antt = SSN/TSN Reset Request = the request number of an SSN/TSN Reset Request
 crates/dcsctp_c/src/parameters.rt = No User Data = the TSN of the cause No User Data
 include/dcsctp.h = Zero Checksum Acceptable = Zero Checksum Acceptable, the cause
-bindings/python/src/davgyuti/_fast.c = Zero Checksum Acceptable = {"ZeroChecksumAcceptable", {
-bindings/python/tests/support.py = Re-configuration Response = 16,
-bindings/cpp/dcsctp.hpp = Zero Checksum Acceptable = four bytes: Zero Checksum Acceptable
-bindings/js/davgyuti.d.ts = No User Data = | { code: Of<typeof CauseCode, 'NO_USER_DATA'>; number: number; missing?: undefined }
 '''
 
 # Files of tests, which have a line of a place as often as they like.
-TESTS = {'crates/test_rows/stdin', 'tests/refusals/rows.txt', 'tests/dump/refused.txt', 'bindings/python/tests/test_kinds.py',
-         'bindings/js/tests/kinds.test.mjs', 'bindings/rust/tests/kinds.rs'}
+TESTS = {'crates/test_rows/stdin', 'tests/refusals/rows.txt', 'tests/dump/refused.txt'}
 
 # Rows that the table doesn't have, of types and codes that no standard will have, and files that their kinds need.
 MADE = '''
-chunk  191  MADE_BYTES  MADE BYTES  9999 1  0+1  kind  data  any bytes  Made
+chunk  191  MADE_BYTES  MADE BYTES  9999 1  kind  -  data  bytes  Made
     crates/dcsctp_chunk/specs/MadeBytes.antt crates/dcsctp_chunk/specs/Lib.antt crates/dcsctp_chunk/specs/PlainKinds.antt
     crates/dcsctp_chunk/src/made_bytes_chunk.rt crates/dcsctp_chunk/src/lib.rt crates/dcsctp_chunk/src/plain_check.rt
     crates/dcsctp_wire/specs/Chunk.antt crates/dcsctp_wire/proofs/ChunkRows.antt crates/dcsctp_wire/src/packet/chunk.rt
     crates/dcsctp_wire/src/packet.rt crates/dcsctp_wire/src/laws.rt crates/dcsctp_buffer/proofs/Longer.antt
     crates/test_rows/src/in_place.rt crates/test_rows/src/kinds.rt crates/test_rows/stdin crates/test_callers/src/tests/facade.rt
-    tests/refusals/rows.txt tests/c/assertions.c tests/c/plain_reader.h bindings/python/tests/support.py bindings/cpp/README.md docs/C.md
+    tests/refusals/rows.txt tests/c/assertions.c tests/c/plain_reader.h docs/C.md
     docs/ARCHITECTURE.md CHANGELOG.md
-chunk  191  MADE_LIST  MADE LIST  9999 1  4+1  kind  data  serial u32, parameters  Made
+chunk  191  MADE_LIST  MADE LIST  9999 1  kind  -  data  initial TSN u32, parameters  Made
     crates/dcsctp_wire/specs/MadeList.antt crates/dcsctp_wire/specs/Lib.antt crates/dcsctp_wire/specs/Chunk.antt
     crates/dcsctp_wire/specs/Caller.antt crates/dcsctp_wire/src/packet/made_list_chunk.rt crates/dcsctp_wire/src/packet/chunk.rt
     crates/dcsctp_borrowed/specs/RawParameters.antt crates/dcsctp_borrowed/src/raw_parameters.rt crates/dcsctp_buffer/specs/Item.antt
     crates/dcsctp_buffer/proofs/Longer.antt crates/dcsctp_c/src/parameters.rt crates/dcsctp_report/src/chunks.rt
     crates/dcsctp_report/src/fault.rt tests/dump/refused.txt tests/c/fuzz.c docs/PROVED.md
-parameter  0xffff  MADE_VALUE  Made Value  9999 1  4+1  kind  a parameter  Made
+parameter  0xffff  MADE_VALUE  Made Value  9999 1  kind  -  parameters+  Made
     crates/dcsctp_tlv/specs/MadeValue.antt crates/dcsctp_tlv/specs/Parameter.antt tests/refusals/rows.txt
-parameter  0xffff  MADE_NUMBER  Made Number  9999 1  4  kind  milliseconds u32  Made
+parameter  0xffff  MADE_NUMBER  Made Number  9999 1  kind  -  method u32  Made
     crates/dcsctp_tlv/specs/MadeNumber.antt crates/dcsctp_tlv/specs/Lib.antt
     crates/dcsctp_tlv/specs/Parameter.antt crates/dcsctp_tlv/src/parameter/made_number_parameter.rt
     crates/dcsctp_tlv/src/parameter.rt crates/dcsctp_tlv/proofs/ParameterLaws.antt crates/dcsctp_wire/src/packet.rt
     crates/dcsctp_wire/src/laws.rt crates/dcsctp_c/specs/Parameter.antt crates/dcsctp_c/proofs/NumberRows.antt
     crates/test_rows/src/kinds.rt crates/test_rows/stdin crates/test_callers/src/tests/facade.rt tests/c/assertions.c tests/c/fuzz.c
-    tests/dump/refused.txt include/dcsctp.h bindings/js/davgyuti.d.ts bindings/js/tests/user/imported.mts bindings/python/tests/support.py
-    bindings/go/read.go bindings/go/write.go bindings/rust/src/list.rs bindings/rust/src/builder.rs docs/C.md CHANGELOG.md
-cause  0xffff  MADE_NUMBER  Made Number  9999 1  4  kind  microseconds u32  Made
+    tests/dump/refused.txt include/dcsctp.h
+    docs/C.md CHANGELOG.md
+cause  0xffff  MADE_NUMBER  Made Number  9999 1  kind  TSN u32  Made
     crates/dcsctp_cause/specs/MadeNumber.antt crates/dcsctp_cause/specs/Cause.antt crates/dcsctp_cause/src/lib.rt
     crates/dcsctp_cause/src/error_causes.rt crates/dcsctp_cause/proofs/CauseLaws.antt crates/dcsctp_c/specs/Parameter.antt
-    crates/dcsctp_report/src/causes.rt include/dcsctp.h bindings/js/davgyuti.js bindings/js/davgyuti.d.ts bindings/cpp/dcsctp.hpp
+    crates/dcsctp_report/src/causes.rt include/dcsctp.h
 '''
 
 failures = []
@@ -159,14 +154,16 @@ def try_lines(needs):
 def try_made():
     """Adds each made row to the table."""
     rows = make.rows_of(make.read(make.TABLE))
+    about = make.row_of(0, 'field  bytes  Any bytes.')
     for made in re.split(r'\n(?! )', MADE.strip()):
         line, _, files = made.partition('\n')
         row = make.row_of(0, line)
-        kinds = places.kinds_of([*rows, row])
-        lacking = {path for path, _ in places.missing(kinds[-1])}
+        kinds = places.kinds_of(make.table_of([*rows, row, *([about] if row.value == 'bytes' else [])]))
+        own = next(kind for kind in kinds if kind.row is row)
+        lacking = {path for path, _ in places.missing(own)}
         expect(lacking >= set(files.split()), row.name, 'not named', *sorted(set(files.split()) - lacking))
         # (of the first kind the counts alone are wrong)
-        unnamed = [line for line in places.lines_of([kinds[0], kinds[-1]]) if f', {row.name}: no ' not in line]
+        unnamed = [line for line in places.lines_of([kinds[0], own]) if f', {row.name}: no ' not in line]
         expect(not unnamed, row.name, 'not in', *unnamed)
 
 
@@ -195,11 +192,11 @@ def try_example(needs):
 
 
 def try_program(kinds):
-    """Runs the program where a file is missing, and where a row of the table has no least value."""
+    """Runs the program where a file is missing, and where a kind of the table has no group."""
     with tempfile.TemporaryDirectory() as folder:
         paths = {path for kind in kinds for path, _ in places.places_of(kind)}
         folders = {f'crates/{crate}/{source}' for crates in places.CRATES.values() for crate, *sources in crates
-                   for source in ['specs', *sources[:1]]} | {'crates/dcsctp_buffer/src', 'registry'}
+                   for source in ['specs', *sources[:1]]} | {'crates/dcsctp_buffer/src', 'registry', 'registry/languages'}
         paths |= {f'{path}/{name}' for path in folders for name in os.listdir(os.path.join(make.ROOT, path)) if '.' in name}
         for path in {*paths, 'crates/dcsctp_borrowed/src/checked_chunks.rt'}:
             os.makedirs(os.path.dirname(os.path.join(folder, path)), exist_ok=True)
@@ -220,12 +217,12 @@ def try_program(kinds):
             file.write(text)
             file.truncate()
         answer = run()
-        expect(answer.returncode == 1 and re.fullmatch(r'registry/sctp.txt:\d+: .* is a kind, and has no least\n', answer.stderr),
-               'the program without a least value', answer.stdout + answer.stderr)
+        expect(answer.returncode == 1 and re.fullmatch(r'registry/sctp.txt:\d+: ECNE is a kind, and has no group\n', answer.stderr),
+               'the program without a group', answer.stdout + answer.stderr)
 
 
 def main():
-    kinds = places.kinds_of(make.rows_of(make.read(make.TABLE)))
+    kinds = places.kinds_of(make.table_of(make.rows_of(make.read(make.TABLE))))
     needs = [(kind, *place) for kind in kinds for place in places.places_of(kind)]
     if places.lines_of(kinds):
         print('registry/places.py: it prints lines that are missing; it is tried where none is')

@@ -65,12 +65,13 @@ class Auth(RegisteredChunk):
 @dataclass(slots=True, unsafe_hash=True)
 class NrSack(RegisteredChunk):
     """NR-SACK (draft-tuexen-tsvwg-sctp-multipath). Acknowledges user data, some of which can't be
-    dropped any more. Its value: TSN u32, a_rwnd u32, counts u16 u16 u16, u16, blocks, TSNs u32."""
+    dropped any more. Its value: cumulative TSN ack u32, a_rwnd u32, counts u16 u16 u16, u16,
+    blocks, TSNs u32."""
 
     type: ClassVar[ChunkType] = ChunkType.NR_SACK
-    fields: ClassVar[dict[str, str]] = {"tsn": "number", "a_rwnd": "second_number", "counts": "counts",
-        "lists": "bytes"}
-    tsn: int
+    fields: ClassVar[dict[str, str]] = {"cumulative_tsn_ack": "number", "a_rwnd": "second_number",
+        "counts": "counts", "lists": "bytes"}
+    cumulative_tsn_ack: int
     a_rwnd: int
     counts: tuple[int, int, int]
     lists: bytes = b""
@@ -229,56 +230,56 @@ class Padding(RegisteredParameter):
 
 @dataclass(slots=True, unsafe_hash=True)
 class AddIpAddress(RegisteredParameter):
-    """Add IP Address (RFC 5061 section 4.2.1). Adds an address. Its value: request u32, an
+    """Add IP Address (RFC 5061 section 4.2.1). Adds an address. Its value: correlation ID u32, an
     address."""
 
     type: ClassVar[ParameterType] = ParameterType.ADD_IP_ADDRESS
-    fields: ClassVar[dict[str, str]] = {"request": "number", "address": "address"}
-    request: int
+    fields: ClassVar[dict[str, str]] = {"correlation_id": "number", "address": "address"}
+    correlation_id: int
     address: Address
 
 
 @dataclass(slots=True, unsafe_hash=True)
 class DeleteIpAddress(RegisteredParameter):
-    """Delete IP Address (RFC 5061 section 4.2.2). Deletes an address. Its value: request u32, an
-    address."""
+    """Delete IP Address (RFC 5061 section 4.2.2). Deletes an address. Its value: correlation ID
+    u32, an address."""
 
     type: ClassVar[ParameterType] = ParameterType.DELETE_IP_ADDRESS
-    fields: ClassVar[dict[str, str]] = {"request": "number", "address": "address"}
-    request: int
+    fields: ClassVar[dict[str, str]] = {"correlation_id": "number", "address": "address"}
+    correlation_id: int
     address: Address
 
 
 @dataclass(slots=True, unsafe_hash=True)
 class ErrorCauseIndication(RegisteredParameter):
     """Error Cause Indication (RFC 5061 section 4.2.3). Refuses a request of ASCONF. Its value:
-    request u32, error causes."""
+    correlation ID u32, error causes."""
 
     type: ClassVar[ParameterType] = ParameterType.ERROR_CAUSE_INDICATION
-    fields: ClassVar[dict[str, str]] = {"request": "number", "causes": "causes"}
-    request: int
+    fields: ClassVar[dict[str, str]] = {"correlation_id": "number", "causes": "causes"}
+    correlation_id: int
     causes: tuple[Cause, ...] = ()
 
 
 @dataclass(slots=True, unsafe_hash=True)
 class SetPrimaryAddress(RegisteredParameter):
     """Set Primary Address (RFC 5061 section 4.2.4). Asks the peer to send to this address. Its
-    value: request u32, an address."""
+    value: correlation ID u32, an address."""
 
     type: ClassVar[ParameterType] = ParameterType.SET_PRIMARY_ADDRESS
-    fields: ClassVar[dict[str, str]] = {"request": "number", "address": "address"}
-    request: int
+    fields: ClassVar[dict[str, str]] = {"correlation_id": "number", "address": "address"}
+    correlation_id: int
     address: Address
 
 
 @dataclass(slots=True, unsafe_hash=True)
 class SuccessIndication(RegisteredParameter):
-    """Success Indication (RFC 5061 section 4.2.5). Grants a request of ASCONF. Its value: request
-    u32."""
+    """Success Indication (RFC 5061 section 4.2.5). Grants a request of ASCONF. Its value:
+    correlation ID u32."""
 
     type: ClassVar[ParameterType] = ParameterType.SUCCESS_INDICATION
-    fields: ClassVar[dict[str, str]] = {"request": "number"}
-    request: int
+    fields: ClassVar[dict[str, str]] = {"correlation_id": "number"}
+    correlation_id: int
 
 
 @dataclass(slots=True, unsafe_hash=True)
