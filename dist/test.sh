@@ -182,12 +182,20 @@ arm64() {
 }
 
 wine=$(command -v wine64 || command -v wine || ls /usr/lib/wine/wine64 2>/dev/null)
+wineserver=$(command -v wineserver || ls /usr/lib/wine/wineserver64 2>/dev/null)
+# Begins what programs under Wine share, which would keep the first one's pipe open. It stays for a minute after each, so that none
+# begins while it ends.
+begin_wine() {
+    mkdir -p "$WINEPREFIX"
+    if [ -n "$wineserver" ]; then "$wineserver" -p60; fi
+    "$wine" cmd /c exit
+}
 in_wine() {
     "$wine" ./show.exe "Z:$1" 2>/dev/null | tr -d '\r'
 }
 
 windows() {
-    x86_64-w64-mingw32-gcc -O2 -I "$dist" -o show.exe "$examples/c/show.c" "$dist/dcsctp-x86_64-coff.s" && all_of in_wine
+    x86_64-w64-mingw32-gcc -O2 -I "$dist" -o show.exe "$examples/c/show.c" "$dist/dcsctp-x86_64-coff.s" && begin_wine && all_of in_wine
 }
 
 # The start of the programs takes nothing but what tests/c/apple.h has.
@@ -455,7 +463,7 @@ elsewhere() {
 windows_programs() {
     local name='a folder\ß ☃ 文' cooked=$root/crates/sctp_dump/data/cooked.pcap
     program sctp_dump "$cc" || return
-    "$wine" cmd /c exit # (starts what would keep the next one's pipe open)
+    begin_wine
     elsewhere x86_64-coff "$wine" x86_64-w64-mingw32-gcc && mkdir 'a folder' && cp "$cooked" "${name/\\//}" || return
     ./sctp_dump --brief "$name" | diff - <(../sctp_dump --brief "$cooked") &&
         diff <(./sctp_dump --summary "$name!" 2>&1 >/dev/null) <(../sctp_dump --summary "$name!" 2>&1 >/dev/null) || return

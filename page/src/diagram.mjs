@@ -528,7 +528,7 @@ class Diagram {
       if (acked.length) {
         parts.push(`Acknowledges ${counted(acked.length, 'packet')}: `, ...acked.slice(0, MOST_NAMED).flatMap(row => [this.link(row), ' ']));
         parts.push(acked.length > MOST_NAMED ? '…' : '');
-      } else if (chunks.some(it => isNumber(it.cumulative_tsn))) {
+      } else if (chunks.some(it => isNumber(it.cumulative_tsn_ack))) {
         parts.push('Acknowledges nothing that the SACK before it didn’t.');
       }
     }

@@ -42,14 +42,14 @@ function trackOver({ store, rows, senderOf, repeats }, bases, lines, put) {
   let x = 0;
   rows.forEach((row, i) => {
     x = first === undefined ? i : store.between(first, row) ?? x;
-    const own = senderOf(row), other = 1 - own, acking = (lines.get(row)?.chunks ?? []).filter(it => isNumber(it.cumulative_tsn));
+    const own = senderOf(row), other = 1 - own, acking = (lines.get(row)?.chunks ?? []).filter(it => isNumber(it.cumulative_tsn_ack));
     if (store.has(row, 'data')) {
       const again = new Set(repeats(row).map(([tsn]) => tsn));
       store.tsns(row).forEach(tsn => put(again.has(tsn) ? 'again' : 'sent', own, x, tsn - bases[own] | 0, row));
     }
-    for (const { cumulative_tsn, blocks = [], nr_blocks = [] } of acking) {
-      bases[other] ??= cumulative_tsn;
-      put('acked', other, x, cumulative_tsn - bases[other] | 0, row);
+    for (const { cumulative_tsn_ack, blocks = [], nr_blocks = [] } of acking) {
+      bases[other] ??= cumulative_tsn_ack;
+      put('acked', other, x, cumulative_tsn_ack - bases[other] | 0, row);
       for (const { first_tsn, last_tsn } of [...blocks, ...nr_blocks].filter(it => isNumber(it.first_tsn) && isNumber(it.last_tsn)))
         put('gaps', other, x, first_tsn - bases[other] | 0, row, last_tsn - bases[other] | 0);
     }

@@ -81,10 +81,10 @@ function controlInfo(chunk) {
   const streams = objects(chunk.streams).map(it => it.stream).filter(isNumber), blocks = [...objects(chunk.blocks), ...objects(chunk.nr_blocks)];
   const duplicates = objects(chunk.duplicates).map(it => it.tsn).filter(isNumber);
   const received = blocks.length ? ` and ${rangeTexts(blocks.map(it => [it.first_tsn, it.last_tsn]))}` : '';
-  add('tag', it => `tag ${hex(it, 8)}`);
+  add('initiate_tag', it => `tag ${hex(it, 8)}`);
   add('initial_tsn', it => `initial TSN ${it}`);
   add('outbound_streams', it => `streams ${it} out, ${shown(String(chunk.inbound_streams), 10)} in`);
-  add('cumulative_tsn', it => `acknowledges ${it}${received}`);
+  add('cumulative_tsn_ack', it => `acknowledges ${it}${received}`);
   if (duplicates.length)
     parts.push(`${duplicates.length > 1 ? 'duplicates' : 'duplicate'} ${some(duplicates)}`);
   add('new_cumulative_tsn', it => `new TSN ${it}`);

@@ -64,7 +64,7 @@ const mayBeList = (it, test) => isNone(it) || Array.isArray(it) && it.every(test
 
 const isBlock = it => isObject(it) && mayBeNumber(it.first_tsn) && mayBeNumber(it.last_tsn);
 const isChunk = it => isObject(it) && isNumber(it.chunk) && mayBeText(it.name) && mayBeNumber(it.tsn) && mayBeNumber(it.stream) &&
-  mayBeNumber(it.ppid) && mayBeText(it.ppid_name) && mayBeNumber(it.cumulative_tsn) && mayBeNumber(it.new_cumulative_tsn) && mayBeList(it.blocks, isBlock);
+  mayBeNumber(it.ppid) && mayBeText(it.ppid_name) && mayBeNumber(it.cumulative_tsn_ack) && mayBeNumber(it.new_cumulative_tsn) && mayBeList(it.blocks, isBlock);
 const isPacket = it => isNumber(it.packet) && Array.isArray(it.chunks) && it.chunks.every(isChunk) && mayBeText(it.time) &&
   mayBeText(it.direction) && mayBeText(it.transport) && mayBeText(it.from) && mayBeText(it.to) && mayBeNumber(it.length) &&
   mayBeNumber(it.captured) && mayBeNumber(it.source) && mayBeNumber(it.destination) && mayBeNumber(it.tag) &&
@@ -253,9 +253,9 @@ class Rows {
         flags |= FLAGS.data;
         if (isText(chunk.text) && text.length < MOST_TEXT)
           text += `${chunk.text.slice(0, MOST_TEXT)}\n`;
-      } else if (chunk.chunk === SACK && chunk.cumulative_tsn !== undefined) {
+      } else if (chunk.chunk === SACK && chunk.cumulative_tsn_ack !== undefined) {
         flags |= FLAGS.sack | (chunk.blocks?.length ? FLAGS.gaps : 0);
-        ack = chunk.cumulative_tsn;
+        ack = chunk.cumulative_tsn_ack;
       }
     }
     const forward = forwardOf(chunks);

@@ -10,18 +10,18 @@ export { chunkLabel, chunksLabel, doubtsOf, groupOfRow, fitted };
 /** Of a chunk with user data the TSN, the stream and the message; of a SACK the TSNs; of others what the list says, too.
     @param {Chunk} chunk */
 function chunkLabel(chunk) {
-  const name = shown(chunk.name ?? `chunk ${chunk.chunk}`, 40), { cumulative_tsn, blocks: some = [], nr_blocks = [] } = chunk, blocks = [...some, ...nr_blocks];
+  const name = shown(chunk.name ?? `chunk ${chunk.chunk}`, 40), { cumulative_tsn_ack, blocks: some = [], nr_blocks = [] } = chunk, blocks = [...some, ...nr_blocks];
   if (isData(chunk)) {
     const { stream, ppid, ppid_name, payload_size } = chunk, kind = ppid_name ? shown(ppid_name, 40) : isNumber(ppid) && `ppid ${ppid}`;
     const size = isNumber(payload_size) && counted(payload_size, 'byte'), said = messageOf(chunk);
     return [name, chunk.tsn, isNumber(stream) && `stream ${stream}`, ...said ? [said] : [kind, size], fragmentOf(chunk)].filter(it => it || it === 0).join(' ');
   }
-  if (!isNumber(cumulative_tsn))
+  if (!isNumber(cumulative_tsn_ack))
     return [name, controlInfo(chunk).join(', ')].filter(it => it).join(' ');
   const received = blocks.length ? [`gap blocks ${rangeTexts(blocks.map(it => [it.first_tsn, it.last_tsn]))}`] : [];
   // (the window is in the packet's fields)
-  const others = controlInfo({ ...chunk, cumulative_tsn: undefined, blocks: undefined, nr_blocks: undefined, a_rwnd: undefined });
-  return [`${name} ${cumulative_tsn}`, ...received, ...others].join(', ');
+  const others = controlInfo({ ...chunk, cumulative_tsn_ack: undefined, blocks: undefined, nr_blocks: undefined, a_rwnd: undefined });
+  return [`${name} ${cumulative_tsn_ack}`, ...received, ...others].join(', ');
 }
 
 /** Of all chunks, as far as anybody reads.

@@ -85,13 +85,13 @@ async function bringersOf(store, rows, first, senderOf, row, tsns) {
     @param {number} row
     @param {Chunk[]} chunks */
 function acknowledgedBy(store, rows, senderOf, row, chunks) {
-  const acking = chunks.filter(it => isNumber(it.cumulative_tsn));
+  const acking = chunks.filter(it => isNumber(it.cumulative_tsn_ack));
   if (!acking.length)
     return [];
   const own = senderOf(row), before = rows.slice(0, rows.indexOf(row));
   const last = before.findLast(it => senderOf(it) === own && store.has(it, 'sack'));
-  const ranges = acking.flatMap(({ cumulative_tsn, blocks = [] }) => [
-    [last === undefined ? undefined : store.columns.ack[last] + 1, cumulative_tsn],
+  const ranges = acking.flatMap(({ cumulative_tsn_ack, blocks = [] }) => [
+    [last === undefined ? undefined : store.columns.ack[last] + 1, cumulative_tsn_ack],
     ...blocks.map(it => [it.first_tsn, it.last_tsn]).filter(it => it.every(isNumber)),
   ]).slice(0, MOST_RANGES);
   const isIn = tsn => ranges.some(([least, most]) => (least === undefined || (tsn - least | 0) >= 0) && (Number(most) - tsn | 0) >= 0);

@@ -7,12 +7,12 @@ interface Chunk {
   chunk: number;
   name?: string;
   tsn?: number;
-  tag?: number;
+  initiate_tag?: number;
   tag_reflected?: boolean;
   stream?: number;
   ppid?: number;
   ppid_name?: string;
-  cumulative_tsn?: number;
+  cumulative_tsn_ack?: number;
   new_cumulative_tsn?: number;
   blocks?: { first_tsn: number; last_tsn: number }[];
   nr_blocks?: { first_tsn: number; last_tsn: number }[];

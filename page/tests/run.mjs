@@ -402,7 +402,7 @@ async function inBrowser(browser) {
       // (as the traffic was made: 1003 is missing before packet 9)
       'tsn:1003': it => isIn(9, 9)(it) || hasData(its => its.tsn === 1003)(it),
       'tsn:1000-1002': hasData(it => it.tsn >= 1000 && it.tsn <= 1002),
-      'ack:1001': hasSack(it => it.cumulative_tsn === 1001), gaps: hasSack(it => it.blocks.length > 0),
+      'ack:1001': hasSack(it => it.cumulative_tsn_ack === 1001), gaps: hasSack(it => it.blocks.length > 0),
       'port:9900 chunk:SACK -gaps': hasSack(it => !it.blocks.length),
       // (as the traffic was made: TSN 1003 comes after 1006, and then once more)
       jump: isIn(9, 9), late: isIn(14, 14), repeated: isIn(15, 15),

@@ -183,13 +183,13 @@ each('what is said of TSNs', others => flagsOf(storeOf(packet(1, A, [data(5)], o
 
 // ---- a capture
 
-const SACK = { chunk: 3, name: 'SACK', cumulative_tsn: LAST, blocks: [] };
+const SACK = { chunk: 3, name: 'SACK', cumulative_tsn_ack: LAST, blocks: [] };
 const sent = (number, end, time, chunks, others) => packet(number, end, chunks, { time: `170000000${time}`, ...others });
 const FIRST = { association: 1, end: 0, ...A }, SECOND = { association: 1, end: 1, ...B };
 const capture = storeOf(
   { file: 'a.pcap' },
-  sent(1, { ...FIRST, tag: 0 }, '0.000000', [{ chunk: 1, name: 'INIT', tag: 10, initial_tsn: LAST }]),
-  sent(2, SECOND, '0.250000', [{ chunk: 2, name: 'INIT ACK', tag: 20 }]),
+  sent(1, { ...FIRST, tag: 0 }, '0.000000', [{ chunk: 1, name: 'INIT', initiate_tag: 10, initial_tsn: LAST }]),
+  sent(2, SECOND, '0.250000', [{ chunk: 2, name: 'INIT ACK', initiate_tag: 20 }]),
   sent(3, FIRST, '0.500000', [data(LAST, { stream: 1, ppid: 51, ppid_name: 'WebRTC String', text: 'Hello, 漢字' })], { length: 40, warnings: [{}] }),
   sent(4, FIRST, '2.000000', [data(1, { stream: 2, ppid: 99 }), data(2, { stream: 2, ppid: 50, ppid_name: 'WebRTC DCEP', message: 3, message_name: 'DATA_CHANNEL_OPEN', label: 'Chat' })], { missing: 1 }),
   sent(5, SECOND, '2.100000', [{ ...SACK, blocks: [{ start: 2, end: 3, first_tsn: 1, last_tsn: 2 }] }], { verdict: 'zero' }),
@@ -198,7 +198,7 @@ const capture = storeOf(
   packet(8, SECOND, [SACK], { fault: { kind: 'length', offset: 32, reason: 'COOKIE ACK: length 3' } }),
   packet(9, FIRST, [{ chunk: 0, name: 'DATA' }], { captured: 26, verdict: 'unknown' }),
   { record: 10, skipped: 'a fragment' },
-  packet(11, { association: 2, end: 0, source: 1, destination: 2, tag: 3 }, [{ chunk: 66 }, { chunk: 16, name: 'NR-SACK', cumulative_tsn: 9 }]),
+  packet(11, { association: 2, end: 0, source: 1, destination: 2, tag: 3 }, [{ chunk: 66 }, { chunk: 16, name: 'NR-SACK', cumulative_tsn_ack: 9 }]),
   { association: 1, ends: [A, B].map(it => ({ addresses: [it.from], port: it.source, tag: 30 - it.tag })) },
   { association: 2, ends: [{ addresses: [], port: 1 }, { addresses: [], port: 2, tag: 3 }] },
   { packets: 10, skipped: 1, fragment: 1 },
@@ -262,10 +262,10 @@ each('what a row says', (...chunks) => infoOf({ chunks }), [
   [{ ...SACK, blocks: [[2, 2], [4, 6]].map(([first_tsn, last_tsn]) => ({ first_tsn, last_tsn })), duplicates: [{ tsn: 7 }] },
     'acknowledges 4294967295 and 2, 4–6 · duplicate 7'],
   [{ ...SACK, chunk: 16, nr_blocks: [{ first_tsn: 4, last_tsn: 6 }] }, 'acknowledges 4294967295 and 4–6'],
-  [{ chunk: 1, tag: 10, a_rwnd: 5, outbound_streams: 3, inbound_streams: 4, initial_tsn: 9, parameters: [{ parameter: 7, name: 'x' }] },
+  [{ chunk: 1, initiate_tag: 10, a_rwnd: 5, outbound_streams: 3, inbound_streams: 4, initial_tsn: 9, parameters: [{ parameter: 7, name: 'x' }] },
     'tag 0x0000000a · initial TSN 9 · streams 3 out, 4 in · a_rwnd 5'],
   [{ chunk: 192, new_cumulative_tsn: 9, streams: [{ stream: 1, ssn: 2 }, { stream: 4, ssn: 2 }] }, 'new TSN 9 · skips in stream 1, 4'],
-  [{ chunk: 7, cumulative_tsn: 9 }, 'acknowledges 9'],
+  [{ chunk: 7, cumulative_tsn_ack: 9 }, 'acknowledges 9'],
   [reset({ parameter: 13, name: 'Outgoing SSN Reset Request', streams: [{ stream: 1 }, { stream: 2 }] }), 'resets stream 1, 2'],
   [reset({ parameter: 13, name: 'Outgoing SSN Reset Request', streams: [] }), 'resets all streams'],
   [reset({ parameter: 14, name: 'Incoming SSN Reset Request', streams: [{ stream: 1 }] }), 'asks to reset stream 1'],
@@ -278,7 +278,7 @@ each('what a row says', (...chunks) => infoOf({ chunks }), [
   [{ chunk: 6, causes: 5, streams: [null, 5, {}], duplicates: {}, a_rwnd: '1' }, ''],
   [reset(null, 5, {}), 'parameter undefined'],
 ]);
-each('a long row', () => infoOf({ chunks: Array(50).fill({ chunk: 7, cumulative_tsn: 9 }) }).split(' · ').length, [[12]]);
+each('a long row', () => infoOf({ chunks: Array(50).fill({ chunk: 7, cumulative_tsn_ack: 9 }) }).split(' · ').length, [[12]]);
 
 const ALL = '0 1 2 3 4 5 6 7 8 9 11';
 each('a filter', text => {
@@ -480,9 +480,9 @@ each('the end of a diagram', last => {
 
 const acked = sack => ({ ...SACK, ...sack });
 const exchange = storeOf(...[
-  [A, data(LAST)], [A, data(0), data(1)], [A, data(2)], [B, acked({ cumulative_tsn: LAST })], [A, data(0)], [A, data(4)],
-  [B, acked({ cumulative_tsn: 0, blocks: [{ first_tsn: 2, last_tsn: 2 }, { first_tsn: 4, last_tsn: 5 }] })], [A, data(1), data(5)],
-  [B, acked({ cumulative_tsn: 5 }), data(0)], [B, acked({ cumulative_tsn: 5 })], [A, { chunk: 7, name: 'SHUTDOWN', cumulative_tsn: 0 }],
+  [A, data(LAST)], [A, data(0), data(1)], [A, data(2)], [B, acked({ cumulative_tsn_ack: LAST })], [A, data(0)], [A, data(4)],
+  [B, acked({ cumulative_tsn_ack: 0, blocks: [{ first_tsn: 2, last_tsn: 2 }, { first_tsn: 4, last_tsn: 5 }] })], [A, data(1), data(5)],
+  [B, acked({ cumulative_tsn_ack: 5 }), data(0)], [B, acked({ cumulative_tsn_ack: 5 })], [A, { chunk: 7, name: 'SHUTDOWN', cumulative_tsn_ack: 0 }],
 ].map(([end, ...chunks], i) => packet(i + 1, end, chunks, { repeated: [4, 7].includes(i) ? 1 : 0 })));
 const [pair] = exchange.associations, { rows: exchanged, senderOf: senderIn } = exchange.rowsOf(pair);
 const firsts = firstSendings(exchange, exchanged, senderIn);
@@ -516,11 +516,11 @@ each('a label', chunkLabel, [
   [data(5, opened), 'DATA 5 stream 0 DATA_CHANNEL_OPEN “chat” reliable ordered'],
   [data(5, { beginning: true, end: false, payload_size: 1200, ppid: 53, ppid_name: 'WebRTC Binary' }), 'DATA 5 stream 0 WebRTC Binary 1,200 bytes first fragment'],
   [data(0, { ppid: 0 }), 'DATA 0 stream 0 ppid 0'],
-  [acked({ cumulative_tsn: 1005, a_rwnd: 5, blocks: [{ first_tsn: 1007, last_tsn: 1009 }], duplicates: [{ tsn: 7 }] }), 'SACK 1005, gap blocks 1007–1009, duplicate 7'],
+  [acked({ cumulative_tsn_ack: 1005, a_rwnd: 5, blocks: [{ first_tsn: 1007, last_tsn: 1009 }], duplicates: [{ tsn: 7 }] }), 'SACK 1005, gap blocks 1007–1009, duplicate 7'],
   [{ chunk: 192, name: 'FORWARD-TSN', new_cumulative_tsn: 9, streams: [{ stream: 1, ssn: 2 }] }, 'FORWARD-TSN new TSN 9, skips in stream 1'],
   [reset({ parameter: 13, name: 'x', streams: [{ stream: 1 }, { stream: 2 }] }), 'RE-CONFIG resets stream 1, 2'],
   [{ chunk: 6, name: 'ABORT', causes: [{ cause: 12, name: 'User-Initiated Abort', text: 'enough' }] }, 'ABORT User-Initiated Abort “enough”'],
-  [{ chunk: 7, name: 'SHUTDOWN', cumulative_tsn: 9 }, 'SHUTDOWN 9'],
+  [{ chunk: 7, name: 'SHUTDOWN', cumulative_tsn_ack: 9 }, 'SHUTDOWN 9'],
   [{ chunk: 99 }, 'chunk 99'],
 ]);
 each('labels of chunks', count => chunksLabel(Array(count).fill({ chunk: 11, name: 'COOKIE ACK' }), 2), [
@@ -735,7 +735,7 @@ function messageRow(store, at = 0) {
   return Object.fromEntries(table.draw(at).parts.map(it => [it.dataset.title, it.parts.map(line => line.textContent).join(' / ')]));
 }
 const sentRows = [packet(1, A, [data(2, { stream: 1, ssn: 0 })], { association: 1, end: 0, time: '1700000000.5' }),
-  packet(2, B, [{ chunk: 3, cumulative_tsn: 2 }], { association: 1, end: 1, time: '1700000000.501500' })];
+  packet(2, B, [{ chunk: 3, cumulative_tsn_ack: 2 }], { association: 1, end: 1, time: '1700000000.501500' })];
 const ROW_OF_MESSAGE = {
   'No.': '1', 'Association': '1', 'From': 'first end / 10.0.0.1:40000', 'Stream': '1 / ssn 0', 'Payload': 'WebRTC String', 'Size': '5 B', 'TSN': '2 / 1 fragment',
   'Sent': 'in 1 / 0.0 s', 'Fate': 'acknowledged / in 2', 'Delay': '1.5 ms', 'Remarks': '',
@@ -776,7 +776,7 @@ each('a fragment', (chunk, it) => isOf({ ...data(2, { stream: 1, ssn: 0, unorder
 ]);
 // A message's packets are those of its fragments, with repeats, and the one that acknowledged or abandoned it.
 const spread = storeOf(...ofEnds([[0, [data(LAST, { stream: 1, ssn: 0 })]], [0, [data(0, { stream: 1, ssn: 0 }), data(1, { stream: 1, ssn: 1 })]], [1, [data(0, { stream: 1, ssn: 0 })]],
-  [0, [data(0, { stream: 1, ssn: 1 })]], [1, [{ chunk: 3, cumulative_tsn: 0 }]], [0, [data(LAST, { stream: 1, ssn: 0 })], { repeated: 1 }]]));
+  [0, [data(0, { stream: 1, ssn: 1 })]], [1, [{ chunk: 3, cumulative_tsn_ack: 0 }]], [0, [data(LAST, { stream: 1, ssn: 0 })], { repeated: 1 }]]));
 const over0 = fate({ first_tsn: LAST, last_tsn: 0, acknowledged_packet: 5 });
 const [rowsOfIt, rowsOfOne] = [await packetsOf(spread, over0), await packetsOf(spread, fate({ first_tsn: 1, last_tsn: 1, ssn: 1, abandoned_packet: 6 }))];
 each('packets of a message', rows => rows.map(row => row + 1).join(' '), [[rowsOfIt, '1 2 5 6'], [rowsOfOne, '2 6']]);
@@ -804,16 +804,16 @@ async function marksOf(store) {
 }
 const block = (first_tsn, last_tsn) => ({ first_tsn, last_tsn });
 const graphed = await marksOf(storeOf(...ofEnds([
-  [0, [data(LAST), data(0)], { time: '1.0' }], [0, [data(2)], { time: '1.5' }], [1, [{ chunk: 3, cumulative_tsn: 0, blocks: [block(2, 2)] }, data(70)], { time: '1.75' }],
-  [0, [data(1), data(0)], { time: '2.0', repeated: 1 }], [1, [{ chunk: 3, cumulative_tsn: 2 }], { time: '2.5' }], [0, [{ chunk: 16, cumulative_tsn: 70, nr_blocks: [block(72, 73)] }], { time: '3.0' }],
-  [1, [{ chunk: 7, cumulative_tsn: 2 }], { time: '3.25' }],
+  [0, [data(LAST), data(0)], { time: '1.0' }], [0, [data(2)], { time: '1.5' }], [1, [{ chunk: 3, cumulative_tsn_ack: 0, blocks: [block(2, 2)] }, data(70)], { time: '1.75' }],
+  [0, [data(1), data(0)], { time: '2.0', repeated: 1 }], [1, [{ chunk: 3, cumulative_tsn_ack: 2 }], { time: '2.5' }], [0, [{ chunk: 16, cumulative_tsn_ack: 70, nr_blocks: [block(72, 73)] }], { time: '3.0' }],
+  [1, [{ chunk: 7, cumulative_tsn_ack: 2 }], { time: '3.25' }],
 ])));
 each('the graph', () => graphed, [[['4294967295 70', 'sent 0 0 0 1', 'sent 0 0 1 1', 'sent 0 500 3 2', 'sent 1 750 0 3', 'acked 0 750 1 3', 'gaps 0 750 3-3 3', 'sent 0 1000 2 4',
   'again 0 1000 1 4', 'acked 0 1500 3 5', 'acked 1 2000 0 6', 'gaps 1 2000 2-3 6', 'acked 0 2250 3 7']]]);
 // Without times packets are counted; without DATA the first TSN that is acknowledged is the base.
-const untimed = await marksOf(storeOf(...ofEnds([[1, [{ chunk: 3, cumulative_tsn: 9 }]], [1, [{ chunk: 3, cumulative_tsn: 12 }]]])));
+const untimed = await marksOf(storeOf(...ofEnds([[1, [{ chunk: 3, cumulative_tsn_ack: 9 }]], [1, [{ chunk: 3, cumulative_tsn_ack: 12 }]]])));
 each('a graph without times and DATA', () => untimed, [[['9 ', 'acked 0 0 0 1', 'acked 0 0.000001 3 2']]]);
-const withGaps = storeOf(...Array.from({ length: 5000 }, (_, i) => packet(i + 1, B, [{ chunk: 3, cumulative_tsn: 1, blocks: [block(3, 3)] }], { association: 1, end: 1 })));
+const withGaps = storeOf(...Array.from({ length: 5000 }, (_, i) => packet(i + 1, B, [{ chunk: 3, cumulative_tsn_ack: 1, blocks: [block(3, 3)] }], { association: 1, end: 1 })));
 each('too many gaps', () => (({ wanted, step }) => [wanted.length, step])(rowsToRead(withGaps, rowsOf(withGaps))), [[[1667, 3]]]);
 const drawnTrack = { sent: 1500, again: 2, acked: 3, gaps: 1, least: 0, most: 1499, last: 1498 };
 each('what a panel says', (...by) => trackText(...by), [
@@ -964,7 +964,7 @@ const TREE = {
   packet: 1, tag: 3, 'tag@': [4, 4], bytes: '00',
   chunks: [{
     chunk: 3, '@': [12, 24], 'chunk@': [12, 1], name: 'SACK', flags: 0, 'flags@': [13, 1],
-    cumulative_tsn: 9, 'cumulative_tsn@': [16, 4],
+    cumulative_tsn_ack: 9, 'cumulative_tsn_ack@': [16, 4],
     blocks: [{ '@': [28, 4], start: 2, 'start@': [28, 2], end: 3, 'end@': [30, 2] }], duplicates: [],
   }, { chunk: 66, '@': [36, -1] }],
   fault: { kind: 'length', offset: 36 },
@@ -977,11 +977,11 @@ each('a field', i => {
 }, [
   [0, '0 packet=1 [] in - - up to 1'],
   [1, '0 tag=3 [4, 8] in - - up to 2'],
-  [2, '0 SACK=chunk 3, cumulative_tsn 9 [12, 36] in - ack up to 11'],
+  [2, '0 SACK=chunk 3, cumulative_tsn_ack 9 [12, 36] in - ack up to 11'],
   [3, '1 chunk=3 [12, 13] in SACK ack up to 4'],
   [4, '1 name=SACK [] in SACK ack up to 5'],
   [5, '1 flags=0 [13, 14] in SACK ack up to 6'],
-  [6, '1 cumulative_tsn=9 [16, 20] in SACK ack up to 7'],
+  [6, '1 cumulative_tsn_ack=9 [16, 20] in SACK ack up to 7'],
   [7, '1 blocks 1=start 2, end 3 [28, 32] in SACK ack up to 10'],
   [8, '2 start=2 [28, 30] in blocks 1 ack up to 9'],
   [9, '2 end=3 [30, 32] in blocks 1 ack up to 10'],
@@ -1017,7 +1017,7 @@ each('the name of a field', i => nodes[i].name, [
 ]);
 // RFC 9260 sections 3.3.1, 3.3.2 and 3.3.10; RFC 6525 section 4.1; RFC 8832 section 5.1.
 each('the name of a field in lists', (key, ...lists) => fieldName(lists, key), [
-  ['tag', 'chunks', 'Initiate Tag'], ['end', 'chunks', 'E bit: ending fragment'], ['end', undefined],
+  ['initiate_tag', 'chunks', 'Initiate Tag'], ['end', 'chunks', 'E bit: ending fragment'], ['end', undefined],
   ['last_tsn', 'chunks', 'parameters', 'Sender’s Last Assigned TSN'], ['length', 'chunks', 'causes', 'Cause Length'],
   ['reliability', 'chunks', 'Reliability Parameter'], ['stream', 'chunks', 'parameters', 'streams', 'Stream Number'],
   ['stream', 'chunks', 'streams', 'Stream Identifier'], ['tag', 'ends', undefined], ['verdict', 'Whether the Checksum is right'],
@@ -1028,7 +1028,7 @@ each('the name of a field in lists', (key, ...lists) => fieldName(lists, key), [
 ]);
 // The deepest field of each byte.
 each('the field of a byte', byte => nodes[ownersOf(nodes, 34)[byte]]?.label, [
-  [3, undefined], [4, 'tag'], [7, 'tag'], [8, undefined], [12, 'chunk'], [13, 'flags'], [14, 'SACK'], [19, 'cumulative_tsn'],
+  [3, undefined], [4, 'tag'], [7, 'tag'], [8, undefined], [12, 'chunk'], [13, 'flags'], [14, 'SACK'], [19, 'cumulative_tsn_ack'],
   [20, 'SACK'], [29, 'start'], [30, 'end'], [33, 'SACK'], [34, undefined],
 ]);
 each('bytes', text => [...bytesOf(text)], [['0a1bff', [10, 27, 255]], ['', []], [undefined, []], [5, []]]);

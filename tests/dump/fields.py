@@ -88,15 +88,15 @@ TSHARK = {
     'parameter_length': 'length', 'cause_code': 'cause', 'cause_length': 'length',
     'data_tsn_raw': 'tsn', 'data_sid': 'stream', 'data_ssn': 'ssn', 'data_mid': 'mid', 'data_fsn': 'fsn',
     'data_payload_proto_id': 'ppid', 'data_u_bit': 'unordered', 'data_b_bit': 'beginning', 'data_e_bit': 'end',
-    'data_i_bit': 'immediate', 'init_initiate_tag': 'tag', 'init_credit': 'a_rwnd', 'init_nr_out_streams': 'outbound_streams',
-    'init_nr_in_streams': 'inbound_streams', 'init_initial_tsn': 'initial_tsn', 'initack_initiate_tag': 'tag',
+    'data_i_bit': 'immediate', 'init_initiate_tag': 'initiate_tag', 'init_credit': 'a_rwnd', 'init_nr_out_streams': 'outbound_streams',
+    'init_nr_in_streams': 'inbound_streams', 'init_initial_tsn': 'initial_tsn', 'initack_initiate_tag': 'initiate_tag',
     'initack_credit': 'a_rwnd', 'initack_nr_out_streams': 'outbound_streams', 'initack_nr_in_streams': 'inbound_streams',
-    'initack_initial_tsn': 'initial_tsn', 'sack_cumulative_tsn_ack_raw': 'cumulative_tsn', 'sack_a_rwnd': 'a_rwnd',
+    'initack_initial_tsn': 'initial_tsn', 'sack_cumulative_tsn_ack_raw': 'cumulative_tsn_ack', 'sack_a_rwnd': 'a_rwnd',
     'sack_gap_block_start': 'blocks.start', 'sack_gap_block_end': 'blocks.end', 'sack_duplicate_tsn': 'duplicates.tsn',
-    'nr_sack_cumulative_tsn_ack': 'cumulative_tsn', 'nr_sack_a_rwnd': 'a_rwnd', 'nr_sack_gap_block_start': 'blocks.start',
+    'nr_sack_cumulative_tsn_ack': 'cumulative_tsn_ack', 'nr_sack_a_rwnd': 'a_rwnd', 'nr_sack_gap_block_start': 'blocks.start',
     'nr_sack_gap_block_end': 'blocks.end', 'nr_sack_nr_gap_block_start': 'nr_blocks.start',
     'nr_sack_nr_gap_block_end': 'nr_blocks.end', 'nr_sack_duplicate_tsn': 'duplicates.tsn',
-    'shutdown_cumulative_tsn_ack': 'cumulative_tsn', 'abort_t_bit': 'tag_reflected', 'shutdown_complete_t_bit': 'tag_reflected',
+    'shutdown_cumulative_tsn_ack': 'cumulative_tsn_ack', 'abort_t_bit': 'tag_reflected', 'shutdown_complete_t_bit': 'tag_reflected',
     'forward_tsn_tsn': 'new_cumulative_tsn', 'forward_tsn_sid': 'streams.stream', 'forward_tsn_ssn': 'streams.ssn',
     'i_forward_tsn_tsn': 'new_cumulative_tsn', 'i_forward_tsn_sid': 'streams.stream', 'forward_tsn_mid': 'streams.mid',
     'i_forward_tsn_u_bit': 'streams.unordered', 'cookie': 'value', 'parameter_state_cookie': 'value', 'random_number': 'value',
@@ -168,8 +168,8 @@ def of_fragments(fields):
 # Its fields; what isn't named has the name of the JSON, or isn't compared.
 SCAPY = {
     'len': 'length', 'delay_sack': 'immediate', 'ending': 'end', 'TCB': 'tag_reflected', 'stream_id': 'stream', 'stream_seq': 'ssn',
-    'proto_id': 'ppid', 'init_tag': 'tag', 'n_out_streams': 'outbound_streams', 'n_in_streams': 'inbound_streams',
-    'init_tsn': 'initial_tsn', 'cumul_tsn_ack': 'cumulative_tsn', 'dup_tsn_list': 'duplicates.tsn', 'cookie': 'value',
+    'proto_id': 'ppid', 'init_tag': 'initiate_tag', 'n_out_streams': 'outbound_streams', 'n_in_streams': 'inbound_streams',
+    'init_tsn': 'initial_tsn', 'cumul_tsn_ack': 'cumulative_tsn_ack', 'dup_tsn_list': 'duplicates.tsn', 'cookie': 'value',
     'random': 'value', 'shared_key_id': 'shared_key', 'HMAC_function': 'hmac_identifier', 'HMAC': 'hmac', 'seq': 'sequence_number',
     'addr_type': 'parameter', 'addr_len': 'length', 'addr': 'address', 'addr_type_list': 'address_types.type',
     'chunk_list': 'chunk_types.type', 'HMAC_functions_list': 'hmacs.identifier', 'supported_extensions': 'chunk_types.type',
@@ -253,11 +253,10 @@ class Scapy:
 
 # The names of its fields, by kind and of all kinds, and of what is in its lists; what isn't named has the name of the JSON.
 PACKAGE = {
-    'initiate_tag': 'tag', 'cumulative_tsn_ack': 'cumulative_tsn', 'NrSack.tsn': 'cumulative_tsn', 'duplicates': 'duplicates.tsn',
-    'request_number': 'request', 'response_number': 'response', 'request': 'correlation_id', 'key': 'shared_key', 'cookie': 'value',
-    'info': 'value', 'data': 'value', 'reason': 'value', 'chunk': 'value', 'chunk_types': 'chunk_types.type',
-    'ChunkList.types': 'chunk_types.type', 'SupportedAddressTypes.types': 'address_types.type', 'hmacs': 'hmacs.identifier',
-    'microseconds': 'staleness', 'milliseconds': 'increment'}
+    'duplicates': 'duplicates.tsn', 'key': 'shared_key', 'cookie': 'value', 'info': 'value', 'data': 'value', 'reason': 'value',
+    'chunk': 'value', 'chunk_types': 'chunk_types.type', 'ChunkList.types': 'chunk_types.type',
+    'SupportedAddressTypes.types': 'address_types.type', 'hmacs': 'hmacs.identifier', 'microseconds': 'staleness',
+    'milliseconds': 'increment'}
 ENTRIES = {'is_unordered': 'unordered'}
 # Fields that are bits of flags.
 PACKAGE_BITS = {'beginning': 'is_beginning', 'end': 'is_end', 'immediate': 'immediate_ack', 'tag_reflected': 'tag_reflected',

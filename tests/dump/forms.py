@@ -30,7 +30,8 @@ COUNTS = (
 HEADS = {"chunk", "parameter", "cause", "name", "flags", "length", "payload", "text", "label", "protocol", "value"}
 # The words of a block, and the form of a number, where they aren't `key number`.
 WORDS = {
-    "tag": "tag {:#010x}", "a_rwnd": "a_rwnd {}", "address": "{}", "indication": "{:#010x}", "increment": "increment {} ms",
+    "initiate_tag": "tag {:#010x}", "cumulative_tsn_ack": "cumulative tsn {}", "request_number": "request {}",
+    "response_number": "response {}", "a_rwnd": "a_rwnd {}", "address": "{}", "indication": "{:#010x}", "increment": "increment {} ms",
     "staleness": "staleness {} us", "sender_next_tsn": "\n    sender's next tsn {}", "receiver_next_tsn": "\n    receiver's next tsn {}",
 }
 # Bytes at the end of a chunk, and what of its length is before them.
@@ -97,7 +98,7 @@ def brief_chunk(chunk):
             continue
         elif not is_reliable(chunk, key):
             name = "/" + chunk[key + "_name"] if key + "_name" in chunk else ""
-            words.append(f"{key}={value:#010x}" if key == "tag" else f"{key}={value}{name}")
+            words.append(f"{key}={value:#010x}" if key == "initiate_tag" else f"{key}={value}{name}")
     return " ".join(word.replace(" ", "_") for word in words)
 
 

@@ -114,7 +114,14 @@ run() {
         words+=("$(printf %b "$word")")
     done
     printf %b "$2" | timeout 600 "$program" "${words[@]:1}" >"$work/printed" 2>"$work/errors"
-    judge "$1" "${PIPESTATUS[1]}" "$3"
+    local ended=${PIPESTATUS[1]}
+    if [ -n "$quick" ] && [ "$ended" -ne "$3" ] && [ ! -s "$work/printed" ] && [ ! -s "$work/errors" ]; then
+        # (what runs it may not have begun it, which only Wine was seen to do)
+        echo "dump: $1: status $ended, and nothing printed: once more"
+        printf %b "$2" | timeout 600 "$program" "${words[@]:1}" >"$work/printed" 2>"$work/errors"
+        ended=${PIPESTATUS[1]}
+    fi
+    judge "$1" "$ended" "$3"
 }
 
 row=

@@ -53,9 +53,9 @@ def of_dump(chunk):
     """A chunk of sctp_dump --json."""
     def parameter(it):
         match it:
-            case {"request": request, "response": response, "last_tsn": last, "streams": streams}:
+            case {"request_number": request, "response_number": response, "last_tsn": last, "streams": streams}:
                 value = bytes(sctp.StreamResetOutgoingParam(request, response, last, [it["stream"] for it in streams]))
-            case {"response": response, "result": result}:
+            case {"response_number": response, "result": result}:
                 value = bytes(sctp.StreamResetResponseParam(response, result))
             case {"chunk_types": types}:
                 value = bytes(it["type"] for it in types)
@@ -72,10 +72,10 @@ def of_dump(chunk):
         it |= {"flags": sum(bit << at for at, bit in enumerate(bits)), "tsn": c["tsn"], "stream_id": c["stream"],
                "stream_seq": c["ssn"], "protocol": c["ppid"], "user_data": bytes.fromhex(c["payload"])}
     elif kind in (INIT, INIT_ACK):
-        it |= {"initiate_tag": c["tag"], "advertised_rwnd": c["a_rwnd"], "outbound_streams": c["outbound_streams"],
+        it |= {"initiate_tag": c["initiate_tag"], "advertised_rwnd": c["a_rwnd"], "outbound_streams": c["outbound_streams"],
                "inbound_streams": c["inbound_streams"], "initial_tsn": c["initial_tsn"]}
     elif kind == SACK:
-        it |= {"cumulative_tsn": c["cumulative_tsn"], "advertised_rwnd": c["a_rwnd"],
+        it |= {"cumulative_tsn": c["cumulative_tsn_ack"], "advertised_rwnd": c["a_rwnd"],
                "gaps": tuple((it["start"], it["end"]) for it in c["blocks"]),
                "duplicates": tuple(it["tsn"] for it in c["duplicates"])}
     elif kind == FORWARD_TSN:

@@ -115,7 +115,13 @@ fn walk_init<F: Fields>(chunk: &Item<'_>, fields: &mut F) {
         InitNumbers::NBR_OUTBOUND_STREAMS,
         InitNumbers::NBR_INBOUND_STREAMS,
     );
-    let tag = Number::at(": tag ", "tag", chunk, InitNumbers::INITIATE_TAG, 4);
+    let tag = Number::at(
+        ": tag ",
+        "initiate_tag",
+        chunk,
+        InitNumbers::INITIATE_TAG,
+        4,
+    );
     fields.number(&tag.in_form(Form::Hexadecimal));
     fields.number(&Number::at(", a_rwnd ", "a_rwnd", chunk, InitNumbers::A_RWND, 4));
     fields.number(&Number::at(
