@@ -2,10 +2,7 @@
 # SPDX-License-Identifier: Apache-2.0
 """Reads and writes packets by the package davgyuti, and by aiortc; bench/packages.py says what such a program does.
 
-usage: beside_aiortc.py ROUNDS MILLIS FILE..
-
-Where the package lacks its module, its calls have a name of their own."""
-import importlib.util
+usage: beside_aiortc.py ROUNDS MILLIS FILE.."""
 import operator
 import struct
 import sys
@@ -122,11 +119,16 @@ def sum_of_its_data(it):
     return it.tsn + it.stream_id + it.stream_seq + it.protocol + bits + sum_of_value(it.user_data)
 
 
-def sum_of_its_init(it):
-    total = it.initiate_tag + it.advertised_rwnd + it.outbound_streams + it.inbound_streams + it.initial_tsn
+def sum_of_its_items(it):
+    total = 0
     for typ, value in it.params:
         total += typ + sum_of_value(value)
     return total
+
+
+def sum_of_its_init(it):
+    total = it.initiate_tag + it.advertised_rwnd + it.outbound_streams + it.inbound_streams + it.initial_tsn
+    return total + sum_of_its_items(it)
 
 
 def sum_of_its_sack(it):
@@ -139,6 +141,10 @@ ITS_SUMS = {
     aiortc.InitChunk: sum_of_its_init,
     aiortc.SackChunk: sum_of_its_sack,
     aiortc.CookieAckChunk: lambda it: 0,
+    aiortc.AbortChunk: sum_of_its_items,
+    aiortc.ErrorChunk: sum_of_its_items,
+    aiortc.ReconfigChunk: sum_of_its_items,
+    aiortc.ForwardTsnChunk: lambda it: it.cumulative_tsn + sum(map(sum, it.streams)),
 }
 
 
@@ -168,10 +174,9 @@ def written_by_aiortc(kept):
 
 # ---- the clock
 
-OURS = 'davgyuti' if importlib.util.find_spec('davgyuti._fast') else 'davgyuti, ctypes'
-READERS = ((OURS, read_by_davgyuti), ('aiortc', read_by_aiortc))
+READERS = (('davgyuti', read_by_davgyuti), ('aiortc', read_by_aiortc))
 WRITERS = (
-    (OURS + ' writes', kept_by_davgyuti, written_by_davgyuti),
+    ('davgyuti writes', kept_by_davgyuti, written_by_davgyuti),
     ('aiortc writes', kept_by_aiortc, written_by_aiortc),
 )
 

@@ -16,7 +16,8 @@ as a whole, its checksum too where the peer's parser compares that, and then add
 
 where of a list's parameters or error causes the type, the value's size and its first byte count. All programs have to get the same
 sums. To write is to make a packet's bytes, with their CRC32c, of the values that were read of it: the same bytes. A file has 100
-packets that traffic.py makes, or one where they are as large as can be. Packets of random chunks are read too, and not timed: the
+packets that traffic.py makes, or one where they are as large as can be. A peer that doesn't read a
+file's packets has no call for it. Packets of random chunks are read too, and not timed: the
 packages and the plain loops have to accept the same ones.
 
 A program is called with ROUNDS MILLIS FILE.. A file has packets, each after its size in four bytes, most significant first. In each
@@ -48,17 +49,18 @@ OUT = os.path.join(BENCH, 'out', 'packages')
 GO_PATH = os.path.realpath(os.environ.get('PION', '/usr/share/gocode'))
 # How many packets a file has, one of those that are as large as can be, and that of random ones.
 PACKETS, HOSTILE, RANDOM = 100, 1, 6000
-TIMED = ('data1200', 'data_small', 'data_bundle', 'sack20', 'init', 'hostile_acks', 'clean_falling')
+TIMED = ('data1200', 'data_small', 'data_bundle', 'sack20', 'init', 're_config', 'abort', 'error', 'forward_tsn', 'hostile_acks',
+         'clean_falling')
 # The rows of both tables: a language, the call that the others are compared with, and those.
 READ = (
     ('C', 'by hand', 'davgyuti', 'davgyuti, rows'),
     ('C with LTO', 'by hand', 'davgyuti'),
     ('Rust', 'plain loop', 'davgyuti'),
-    ('Python', 'aiortc', 'davgyuti', 'davgyuti, ctypes'),
+    ('Python', 'aiortc', 'davgyuti'),
     ('Go', 'pion', 'davgyuti'),
     ('JavaScript', 'DataView', 'davgyuti'),
 )
-WRITTEN = (('Python', 'aiortc writes', 'davgyuti writes', 'davgyuti, ctypes writes'), ('Go', 'pion writes', 'davgyuti writes'))
+WRITTEN = (('Python', 'aiortc writes', 'davgyuti writes'), ('Go', 'pion writes', 'davgyuti writes'))
 
 
 class Missing(Exception):
@@ -219,7 +221,7 @@ def rust_program():
     return [os.path.join(target, 'release', 'plain')], {}, 'rustc ' + run('rustc', '--version').split()[1]
 
 
-def python_program(folder='python', leaves_out=None):
+def python_program():
     versions = 'import platform, aiortc; print("Python %s with aiortc %s" % (platform.python_version(), aiortc.__version__))'
     needed('cc')
     # (Debian's aiortc is for Debian's Python)
@@ -231,16 +233,12 @@ def python_program(folder='python', leaves_out=None):
             pass
     else:
         raise Missing('aiortc is not there')
-    folder = os.path.join(OUT, folder)
+    folder = os.path.join(OUT, 'python')
     os.makedirs(folder)
     run(python, '-c', 'import backend, sys; backend.build_wheel(sys.argv[1])', folder, cwd=os.path.join(ROOT, 'bindings', 'python'))
     with zipfile.ZipFile(glob.glob(os.path.join(folder, '*.whl'))[0]) as wheel:
-        wheel.extractall(folder, [it for it in wheel.namelist() if it != leaves_out])
+        wheel.extractall(folder)
     return [python, os.path.join(BENCH, 'beside_aiortc.py')], {'PYTHONPATH': folder}, version
-
-
-def ctypes_program():
-    return python_program('ctypes', 'davgyuti/_fast.abi3.so')
 
 
 def go_program():
@@ -264,8 +262,7 @@ def javascript_program():
 
 
 BUILDERS = {
-    'C': c_program, 'C with LTO': lto_program, 'Rust': rust_program, 'Python': python_program, 'Python by ctypes': ctypes_program,
-    'Go': go_program, 'JavaScript': javascript_program,
+    'C': c_program, 'C with LTO': lto_program, 'Rust': rust_program, 'Python': python_program, 'Go': go_program, 'JavaScript': javascript_program,
 }
 
 
@@ -289,8 +286,8 @@ def compare(language, found, totals):
 
 def cells(best, language, call, first):
     for name in TIMED:
-        took, its = best[language, name, call], best[language, name, first]
-        yield duration(1e9 / took) + ('' if call == first else ' (%s)' % ratio(its / took))
+        took, its = best.get((language, name, call)), best.get((language, name, first))
+        yield '-' if took is None else duration(1e9 / took) + ('' if call == first or its is None else ' (%s)' % ratio(its / took))
 
 
 def printed(best, rows, head):
@@ -328,7 +325,7 @@ def main():
             compare(language, found, totals)
             sums += len(found)
             for (name, call), (_, took) in found.items():
-                key = language.removesuffix(' by ctypes'), name, call
+                key = language, name, call
                 best[key] = min(took, best.get(key, took))
     if not asked.rounds:
         for it in left_out:

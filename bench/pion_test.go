@@ -107,7 +107,8 @@ func readByDavgyuti(raw []byte) uint64 {
 	return sumOf(&parsed)
 }
 
-// What chunks are written from: a *davgyuti.Data, a *keptInit, a *keptSACK, or of a COOKIE ACK a cookieAck.
+// What chunks are written from: a *davgyuti.Data, a *keptInit, a *keptSACK, a *keptForwardTSN, a *keptReConfig, a *keptCauses, or of
+// a COOKIE ACK a cookieAck.
 type keptPacket struct {
 	header davgyuti.Header
 	chunks []any
@@ -122,6 +123,22 @@ type keptSACK struct {
 	sack       davgyuti.SACK
 	blocks     []davgyuti.GapAckBlock
 	duplicates []uint32
+}
+
+type keptForwardTSN struct {
+	forward davgyuti.ForwardTSN
+	streams []davgyuti.SkippedStream
+}
+
+type keptReConfig struct {
+	requests []davgyuti.ReConfig
+	streams  [][]uint16
+}
+
+type keptCauses struct {
+	chunkType davgyuti.ChunkType
+	flags     uint8
+	causes    []davgyuti.Cause
 }
 
 type cookieAck struct{}
@@ -146,6 +163,19 @@ func keepChunk(chunk davgyuti.Chunk) any {
 	case davgyuti.ChunkSACK:
 		sack, _ := chunk.SACK()
 		return &keptSACK{sack, chunk.GapAckBlocks().Slice(), chunk.DuplicateTSNs().Slice()}
+	case davgyuti.ChunkForwardTSN:
+		forward, _ := chunk.ForwardTSN()
+		return &keptForwardTSN{forward, chunk.SkippedStreams().Slice()}
+	case davgyuti.ChunkReConfig:
+		kept := &keptReConfig{}
+		for _, parameter := range chunk.Parameters().Slice() {
+			request, _ := parameter.ReConfig()
+			kept.requests = append(kept.requests, request)
+			kept.streams = append(kept.streams, parameter.ResetStreams().Slice())
+		}
+		return kept
+	case davgyuti.ChunkAbort, davgyuti.ChunkError:
+		return &keptCauses{chunk.Type, chunk.Flags, chunk.Causes().Slice()}
 	case davgyuti.ChunkCookieAck:
 		return cookieAck{}
 	default:
@@ -169,6 +199,20 @@ func add(builder *davgyuti.Builder, it any) error {
 			}
 		}
 		return nil
+	case *keptForwardTSN:
+		return builder.AddForwardTSN(it.forward.NewCumulativeTSN, it.streams)
+	case *keptReConfig:
+		err := builder.AddChunk(davgyuti.ChunkReConfig, 0, nil)
+		for i := 0; err == nil && i < len(it.requests); i++ {
+			err = builder.AddReConfig(it.requests[i], it.streams[i])
+		}
+		return err
+	case *keptCauses:
+		err := builder.AddChunk(it.chunkType, it.flags, nil)
+		for i := 0; err == nil && i < len(it.causes); i++ {
+			err = builder.AddCause(it.causes[i].Code, it.causes[i].Value)
+		}
+		return err
 	case cookieAck:
 		return builder.AddCookieAck()
 	default:
@@ -223,11 +267,37 @@ func sumOfItsChunk(it chunk) (sum uint64) {
 			sum += uint64(tsn)
 		}
 		return sum
+	case *chunkForwardTSN:
+		sum = uint64(it.typ) + uint64(it.newCumulativeTSN)
+		for _, stream := range it.streams {
+			sum += uint64(stream.identifier) + uint64(stream.sequence)
+		}
+		return sum
+	case *chunkReconfig:
+		sum = uint64(it.typ)
+		for _, parameter := range []param{it.paramA, it.paramB} {
+			if parameter != nil {
+				header := parameter.(interface{ itself() *paramHeader }).itself()
+				sum += uint64(header.typ) + sumOfValue(header.raw)
+			}
+		}
+		return sum
 	case *chunkCookieAck:
 		return uint64(it.typ)
 	default:
 		panic("no file has such a chunk")
 	}
+}
+
+// isSummed is false where there is a list of error causes, which pion keeps as what it means alone.
+func isSummed(chunks []chunk) bool {
+	for _, it := range chunks {
+		switch it.(type) {
+		case *chunkAbort, *chunkError:
+			return false
+		}
+	}
+	return true
 }
 
 func readByPion(raw []byte) uint64 {
@@ -305,15 +375,17 @@ func callsOver(packets [][]byte, isTimed bool) []call {
 	if !isTimed {
 		return calls
 	}
-	kept, its := make([]keptPacket, len(packets)), make([]packet, len(packets))
+	kept, its, isPeers := make([]keptPacket, len(packets)), make([]packet, len(packets)), true
 	for i, raw := range packets {
 		kept[i] = keep(raw)
-		check(its[i].unmarshal(raw))
+		isPeers = isPeers && its[i].unmarshal(raw) == nil && isSummed(its[i].chunks)
 	}
-	return append(calls,
-		reader("pion", packets, readByPion),
-		writer("davgyuti writes", packets, func(i int) ([]byte, error) { return kept[i].write() }),
-		writer("pion writes", packets, func(i int) ([]byte, error) { return its[i].marshal() }))
+	calls = append(calls, writer("davgyuti writes", packets, func(i int) ([]byte, error) { return kept[i].write() }))
+	if isPeers {
+		calls = append(calls, reader("pion", packets, readByPion),
+			writer("pion writes", packets, func(i int) ([]byte, error) { return its[i].marshal() }))
+	}
+	return calls
 }
 
 // clock returns the time of all processors: that of the collector of garbage too.
