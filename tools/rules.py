@@ -3,9 +3,8 @@
 """usage: tools/rules.py --compare | --try PROGRAM | --help
 
 Compares the table of rules in docs/DUMP.md with the code, crates/dcsctp_receive/src/rule.rt: the names in the
-order of `Rule::ALL`, the requirement, the section and the sentence of each; the names in examples/rules.txt; and the
-constants of include/dcsctp.h, bit i for the i-th rule, with their comments, and what dcsctp_rule_name and
-dcsctp_rule_text return.
+order of `Rule::ALL`, the requirement, the section and the sentence of each; the names in examples/rules.txt; and the rows of
+registry/sctp.txt, of which the constants and the texts of all languages are made, bit i for the i-th rule.
 
   --compare      prints a line for each difference, with status 1, or one line that there is none, with status 0
   --try PROGRAM  the same of what sctp_dump --check prints of each row of examples/rules.txt, in its three forms: the
@@ -13,7 +12,6 @@ dcsctp_rule_text return.
   --help         prints this
 """
 import collections
-import itertools
 import json
 import os
 import re
@@ -21,8 +19,12 @@ import subprocess
 import sys
 
 ROOT = os.path.dirname(os.path.dirname(os.path.abspath(__file__)))
+sys.path.insert(0, os.path.join(ROOT, 'registry'))
+sys.dont_write_bytecode = True
+import make
+from languages import words
+
 CODE = os.path.join(ROOT, 'crates', 'dcsctp_receive', 'src', 'rule.rt')
-HEADER = os.path.join(ROOT, 'include', 'dcsctp.h')
 PAGE = os.path.join(ROOT, 'docs', 'DUMP.md')
 ROWS = os.path.join(ROOT, 'examples', 'rules.txt')
 COLUMNS = ['name', 'requirement', 'section', 'sentence']
@@ -56,26 +58,14 @@ def rules_of_page():
     return [[cell.strip().strip('`') for cell in row[:len(COLUMNS)]] for row in rows]
 
 
-def rules_of_header():
-    """Of each constant its name, its value, the sentence and the section of its comment, and what two functions return."""
-    text = read(HEADER)
-    constants = text.split('enum dcsctp_rule {', 1)[1].split('};', 1)[0]
-    named, sentences = (dict(re.findall(r'case DCSCTP_(\w+): return "(.*)";', text.split(f'*{function}(', 1)[1].split('\n}\n', 1)[0]))
-                        for function in ('dcsctp_rule_name', 'dcsctp_rule_text'))
-    rules = [(name, int(value, 0), sentence, section, named.pop(name, None), sentences.pop(name, None)) for name, value, sentence, section
-             in re.findall(r'^ +DCSCTP_(\w+) = (\w+),? +/\* (.*) \((RFC .*)\) \*/$', constants, flags=re.M)]
-    return rules + [(name,) for name in [*named, *sentences]], constants.count(' = ')
-
-
-def differences_of_header(code):
-    header, count = rules_of_header()
-    wanted = [('RULE_' + name.upper().replace('-', '_'), 1 << bit, sentence, section, name, sentence)
-              for bit, (name, _, section, sentence) in enumerate(code)]
-    if count != len(code):
-        yield f'include/dcsctp.h has {count} rules, and the code {len(code)}'
-    for have, want in itertools.zip_longest(header, wanted):
-        if have != want:
-            yield f'include/dcsctp.h has {have}, and the code {want}'
+def differences_of_table(code):
+    table = make.table_of(make.rows_of(make.read(make.TABLE)))['rule']
+    have = [(row.number, words.rule_name(row), words.rule_standard(row), row.text) for row in table]
+    wanted = [(1 << bit, name, section, sentence) for bit, (name, _, section, sentence) in enumerate(code)]
+    for it in [it for it in have if it not in wanted]:
+        yield f'registry/sctp.txt has {it}, and the code not so'
+    for it in [it for it in wanted if it not in have]:
+        yield f'the code has {it}, and registry/sctp.txt not so'
 
 
 def rows():
@@ -102,7 +92,7 @@ def differences():
                 yield f'{rule[0]}: {column}: docs/DUMP.md has {cell!r}, and the code {text!r}'
     for name in sorted(set(names) ^ names_of_rows()):
         yield f'{name}: is in one alone of examples/rules.txt and the code'
-    yield from differences_of_header(code)
+    yield from differences_of_table(code)
 
 
 def run(program, packets, *words):
