@@ -1,0 +1,574 @@
+/* SPDX-License-Identifier: Apache-2.0 */
+/* Answers vectors.py by the proved calls: a line of words in, a line of JSON out. The first word is what is asked; the others are
+   its arguments, as `name=value`: numbers, bytes in hexadecimal, lists with commas. */
+#include <dcsctp.h>
+#include <stdint.h>
+#include <stdio.h>
+#include <stdlib.h>
+#include <string.h>
+
+enum { ROOM = 65536, MOST = ROOM / 4, TOO_MANY = ROOM };
+
+/* ---- the request */
+
+static char *words[TOO_MANY];
+static size_t first, last;      /* the words that arguments are looked for in */
+static void *blocks[TOO_MANY];  /* what is freed after the answer */
+static size_t block_count;
+
+/* Each list has a memory of its own, so that a sanitizer sees a read too far. */
+static void *block(size_t size)
+{
+    void *made = malloc(size);
+    if ((!made && size) || block_count == TOO_MANY)
+        abort();
+    return blocks[block_count++] = made;
+}
+
+static const char *argument(const char *name)
+{
+    size_t size = strlen(name);
+    for (size_t at = first; at < last; at++)
+        if (!strncmp(words[at], name, size) && words[at][size] == '=')
+            return words[at] + size + 1;
+    return NULL;
+}
+
+static uint32_t number(const char *name)
+{
+    const char *text = argument(name);
+    return text ? (uint32_t)strtoul(text, NULL, 10) : 0;
+}
+
+struct bytes {
+    uint8_t *at;
+    size_t size;
+};
+
+static struct bytes bytes(const char *name)
+{
+    const char *text = argument(name);
+    struct bytes made = {NULL, text ? strlen(text) / 2 : 0};
+    made.at = block(made.size);
+    for (size_t at = 0; at < made.size; at++) {
+        const char digits[] = {text[2 * at], text[2 * at + 1], 0};
+        made.at[at] = (uint8_t)strtoul(digits, NULL, 16);
+    }
+    return made;
+}
+
+struct numbers {
+    uint32_t *at;
+    uint16_t *shorts;
+    size_t count;
+};
+
+static struct numbers numbers(const char *name)
+{
+    const char *text = argument(name);
+    struct numbers made = {NULL, NULL, 0};
+    for (const char *at = text; at && *at; at++)
+        made.count += at == text || *at == ',';
+    made.at = block(made.count * sizeof *made.at);
+    made.shorts = block(made.count * sizeof *made.shorts);
+    for (size_t at = 0; at < made.count; at++, text = strchr(text, ',') + 1) {
+        made.at[at] = (uint32_t)strtoul(text, NULL, 10);
+        made.shorts[at] = (uint16_t)made.at[at];
+        if (at + 1 == made.count)
+            break;
+    }
+    return made;
+}
+
+/* ---- the answer */
+
+static const char *comma = "";
+
+static void key(const char *name)
+{
+    printf(*name ? "%s\"%s\":" : "%s", comma, name);
+    comma = ",";
+}
+
+static void begin(const char *name, char bracket)
+{
+    key(name);
+    putchar(bracket);
+    comma = "";
+}
+
+static void end(char bracket)
+{
+    putchar(bracket);
+    comma = ",";
+}
+
+static void put(const char *name, uint64_t it)
+{
+    key(name);
+    printf("%llu", (unsigned long long)it);
+}
+
+static void put_truth(const char *name, bool it)
+{
+    key(name);
+    printf(it ? "true" : "false");
+}
+
+static void put_bytes(const char *name, const uint8_t *at, size_t size)
+{
+    key(name);
+    putchar('"');
+    while (size--)
+        printf("%02x", *at++);
+    putchar('"');
+}
+
+#define PUT(it, field) put(#field, (it).field)
+#define PUT_TRUTH(it, field) put_truth(#field, (it).field)
+
+/* ---- what is read */
+
+static void read_item(struct bytes in, const struct dcsctp_parameter *item)
+{
+    static uint16_t shorts[MOST];
+    struct dcsctp_re_config it;
+    uint32_t number;
+    begin("", '{');
+    PUT(*item, type);
+    put_bytes("value", in.at + item->value_offset, item->value_size);
+    if (dcsctp_number(in.at, in.size, item, &number))
+        put("number", number);
+    if (dcsctp_re_config(in.at, in.size, item, &it)) {
+        PUT(it, request_number);
+        PUT(it, response_number);
+        PUT(it, last_tsn);
+        PUT(it, result);
+        PUT(it, new_streams);
+        if (it.has_next_tsns) {
+            begin("next_tsns", '{');
+            put("sender", it.sender_next_tsn);
+            put("receiver", it.receiver_next_tsn);
+            end('}');
+        }
+        begin("streams", '[');
+        size_t count = dcsctp_reset_streams(in.at, in.size, item, shorts, MOST);
+        for (size_t at = 0; at < count; at++)
+            put("", shorts[at]);
+        end(']');
+    }
+    begin("types", '[');
+    size_t count = dcsctp_missing_parameters(in.at, in.size, item, shorts, MOST);
+    for (size_t at = 0; at < count; at++)
+        put("", shorts[at]);
+    end(']');
+    end('}');
+}
+
+static void read_sack(struct bytes in, const struct dcsctp_chunk *chunk, const struct dcsctp_sack *it)
+{
+    static struct dcsctp_gap_ack_block blocks_of[MOST];
+    static uint32_t duplicates[MOST];
+    PUT(*it, cumulative_tsn_ack);
+    PUT(*it, a_rwnd);
+    begin("blocks", '[');
+    size_t count = dcsctp_gap_ack_blocks(in.at, in.size, chunk, blocks_of, MOST);
+    for (size_t at = 0; at < count; at++) {
+        begin("", '{');
+        PUT(blocks_of[at], start);
+        PUT(blocks_of[at], end);
+        end('}');
+    }
+    end(']');
+    begin("duplicates", '[');
+    count = dcsctp_duplicate_tsns(in.at, in.size, chunk, duplicates, MOST);
+    for (size_t at = 0; at < count; at++)
+        put("", duplicates[at]);
+    end(']');
+}
+
+static void read_streams(struct bytes in, const struct dcsctp_chunk *chunk)
+{
+    static struct dcsctp_skipped_stream streams[MOST];
+    begin("streams", '[');
+    size_t count = dcsctp_skipped_streams(in.at, in.size, chunk, streams, MOST);
+    for (size_t at = 0; at < count; at++) {
+        begin("", '{');
+        PUT(streams[at], stream);
+        PUT(streams[at], ssn);
+        PUT(streams[at], mid);
+        PUT_TRUTH(streams[at], is_unordered);
+        end('}');
+    }
+    end(']');
+}
+
+static void read_chunk(struct bytes in, const struct dcsctp_chunk *chunk)
+{
+    static struct dcsctp_parameter items[MOST];
+    struct dcsctp_data data;
+    struct dcsctp_sack sack;
+    struct dcsctp_init init;
+    struct dcsctp_forward_tsn forward_tsn;
+    uint32_t tsn;
+    begin("", '{');
+    PUT(*chunk, type);
+    PUT(*chunk, flags);
+    put_bytes("value", in.at + chunk->value_offset, chunk->value_size);
+    if (dcsctp_data(in.at, in.size, chunk, &data)) {
+        PUT(data, tsn);
+        PUT(data, mid);
+        PUT(data, fsn);
+        PUT(data, ppid);
+        PUT(data, stream);
+        PUT(data, ssn);
+        PUT_TRUTH(data, is_unordered);
+        PUT_TRUTH(data, is_beginning);
+        PUT_TRUTH(data, is_end);
+        PUT_TRUTH(data, immediate_ack);
+        put_bytes("payload", in.at + data.payload_offset, data.payload_size);
+    }
+    if (dcsctp_sack(in.at, in.size, chunk, &sack))
+        read_sack(in, chunk, &sack);
+    if (dcsctp_init(in.at, in.size, chunk, &init)) {
+        PUT(init, initiate_tag);
+        PUT(init, a_rwnd);
+        PUT(init, outbound_streams);
+        PUT(init, inbound_streams);
+        PUT(init, initial_tsn);
+    }
+    if (dcsctp_shutdown(in.at, in.size, chunk, &tsn))
+        put("cumulative_tsn_ack", tsn);
+    if (dcsctp_forward_tsn(in.at, in.size, chunk, &forward_tsn)) {
+        PUT(forward_tsn, new_cumulative_tsn);
+        read_streams(in, chunk);
+    }
+    put_truth("tag_reflected", (chunk->flags & DCSCTP_TAG_REFLECTED) != 0);
+    begin("items", '[');
+    size_t count = dcsctp_parameters(in.at, in.size, chunk, items, MOST);
+    for (size_t at = 0; at < count; at++)
+        read_item(in, &items[at]);
+    end(']');
+    end('}');
+}
+
+/* A packet: its fault, of either policy, and else its chunks. */
+static void read_packet(void)
+{
+    struct bytes in = bytes("packet");
+    struct dcsctp_packet packet;
+    struct dcsctp_chunk chunk;
+    for (int strict = 0; strict < 2; strict++) {
+        const struct dcsctp_policy policy = {.any_checksum = true, .strict_padding = strict};
+        if (dcsctp_read(in.at, in.size, 0, &policy, NULL, 0, &packet) != DCSCTP_OK) {
+            begin(strict ? "strict" : "fault", '[');
+            put("", packet.code);
+            put("", packet.fault_offset);
+            end(']');
+        }
+        if (!strict && packet.code != DCSCTP_OK)
+            return;
+    }
+    begin("chunks", '[');
+    for (size_t at = DCSCTP_FIRST_CHUNK; dcsctp_chunk_at(in.at, in.size, at, &chunk); at = chunk.next)
+        read_chunk(in, &chunk);
+    end(']');
+}
+
+/* ---- what is written */
+
+static uint8_t output[ROOM];
+static size_t written, start; /* how much of it is, and where its last chunk begins */
+
+static uint32_t add_data(bool is_i_data)
+{
+    const struct dcsctp_data data = {
+        .tsn = number("tsn"), .mid = number("mid"), .fsn = number("fsn"), .ppid = number("ppid"), .stream = (uint16_t)number("stream"),
+        .ssn = (uint16_t)number("ssn"), .is_unordered = number("is_unordered"), .is_beginning = number("is_beginning"),
+        .is_end = number("is_end"), .immediate_ack = number("immediate_ack")};
+    struct bytes payload = bytes("payload");
+    return (is_i_data ? dcsctp_add_i_data : dcsctp_add_data)(output, ROOM, &written, &data, payload.at, payload.size);
+}
+
+static uint32_t add_init(bool is_ack)
+{
+    const struct dcsctp_init init = {
+        .initiate_tag = number("initiate_tag"), .a_rwnd = number("a_rwnd"), .outbound_streams = (uint16_t)number("outbound_streams"),
+        .inbound_streams = (uint16_t)number("inbound_streams"), .initial_tsn = number("initial_tsn")};
+    return (is_ack ? dcsctp_add_init_ack : dcsctp_add_init)(output, ROOM, &written, &init);
+}
+
+static uint32_t add_sack(void)
+{
+    struct numbers gaps = numbers("blocks"), duplicates = numbers("duplicates");
+    struct dcsctp_gap_ack_block *made = block(gaps.count * 2 * sizeof(uint16_t));
+    memcpy(made, gaps.shorts, gaps.count * sizeof(uint16_t));
+    return dcsctp_add_sack(output, ROOM, &written, number("cumulative_tsn_ack"), number("a_rwnd"), made, gaps.count / 2, duplicates.at,
+                           duplicates.count);
+}
+
+/* A stream has two numbers, or three with the U bit. */
+static uint32_t add_forward_tsn(bool is_i_forward)
+{
+    struct numbers in = numbers("streams");
+    const size_t each = is_i_forward ? 3 : 2, count = in.count / each;
+    struct dcsctp_skipped_stream *made = block(count * sizeof *made);
+    for (size_t at = 0; at < count; at++) {
+        const uint32_t *it = in.at + each * at;
+        made[at] = is_i_forward ? (struct dcsctp_skipped_stream){.stream = (uint16_t)it[0], .is_unordered = it[1], .mid = it[2]}
+                                : (struct dcsctp_skipped_stream){.stream = (uint16_t)it[0], .ssn = (uint16_t)it[1]};
+    }
+    return (is_i_forward ? dcsctp_add_i_forward_tsn : dcsctp_add_forward_tsn)(output, ROOM, &written, number("new_cumulative_tsn"), made,
+                                                                              count);
+}
+
+static uint32_t add_re_config(void)
+{
+    struct numbers streams = numbers("streams"), next = numbers("next_tsns");
+    struct dcsctp_re_config it = {
+        .type = (uint16_t)number("type"), .request_number = number("request_number"), .response_number = number("response_number"),
+        .last_tsn = number("last_tsn"), .result = number("result"), .has_next_tsns = next.count == 2,
+        .new_streams = (uint16_t)number("new_streams")};
+    if (it.has_next_tsns)
+        it.sender_next_tsn = next.at[0], it.receiver_next_tsn = next.at[1];
+    return dcsctp_add_re_config(output, ROOM, &written, start, &it, streams.shorts, streams.count);
+}
+
+static bool is(const char *one, const char *other)
+{
+    return !strcmp(one, other);
+}
+
+/* A chunk, or what is in the list of the last one. */
+static uint32_t add_part(const char *what)
+{
+    struct bytes value = bytes("value"), cookie = bytes("cookie");
+    struct numbers types = numbers("types");
+    if (is(what, "re_config"))
+        return add_re_config();
+    if (is(what, "item"))
+        return dcsctp_add_parameter(output, ROOM, &written, start, (uint16_t)number("type"), value.at, value.size);
+    if (is(what, "number"))
+        return dcsctp_add_number(output, ROOM, &written, start, (uint16_t)number("type"), number("number"));
+    if (is(what, "missing"))
+        return dcsctp_add_missing_parameters(output, ROOM, &written, start, types.shorts, types.count);
+    start = written;
+    if (is(what, "data") || is(what, "i_data"))
+        return add_data(is(what, "i_data"));
+    if (is(what, "init") || is(what, "init_ack"))
+        return add_init(is(what, "init_ack"));
+    if (is(what, "sack"))
+        return add_sack();
+    if (is(what, "shutdown"))
+        return dcsctp_add_shutdown(output, ROOM, &written, number("cumulative_tsn_ack"));
+    if (is(what, "shutdown_ack"))
+        return dcsctp_add_shutdown_ack(output, ROOM, &written);
+    if (is(what, "shutdown_complete"))
+        return dcsctp_add_shutdown_complete(output, ROOM, &written, number("tag_reflected"));
+    if (is(what, "cookie_echo"))
+        return dcsctp_add_cookie_echo(output, ROOM, &written, cookie.at, cookie.size);
+    if (is(what, "cookie_ack"))
+        return dcsctp_add_cookie_ack(output, ROOM, &written);
+    if (is(what, "forward_tsn") || is(what, "i_forward_tsn"))
+        return add_forward_tsn(is(what, "i_forward_tsn"));
+    if (is(what, "chunk"))
+        return dcsctp_add_chunk(output, ROOM, &written, (uint8_t)number("type"), (uint8_t)number("flags"), value.at, value.size);
+    fprintf(stderr, "answers: nothing writes %s\n", what);
+    exit(1);
+}
+
+static void begin_packet(void)
+{
+    if (dcsctp_begin(output, ROOM, &written, 5000, 5001, 0x01020304) != DCSCTP_OK)
+        abort();
+}
+
+/* Parts, one after the other: a word without `=` begins one. */
+static void write_packet(void)
+{
+    size_t end_of_all = last;
+    uint32_t code = DCSCTP_OK;
+    begin_packet();
+    for (size_t at = first; at < end_of_all && code == DCSCTP_OK; at = last) {
+        for (last = first = at + 1; last < end_of_all && strchr(words[last], '='); last++)
+            ;
+        code = add_part(words[at]);
+    }
+    put("code", code);
+    put_bytes("bytes", output + DCSCTP_FIRST_CHUNK, written - DCSCTP_FIRST_CHUNK);
+}
+
+/* ---- what is kept as bytes */
+
+static void read_registered(void)
+{
+    static struct dcsctp_parameter items[MOST];
+    static uint16_t shorts[MOST];
+    struct bytes in = bytes("value");
+    struct dcsctp_registered it;
+    const struct dcsctp_chunk chunk = {(uint8_t)number("type"), 0, 0, in.size, in.size};
+    const struct dcsctp_parameter item = {(uint16_t)number("type"), 0, in.size, in.size};
+    const char *level = argument("level");
+    if (!(is(level, "chunk") ? dcsctp_registered_chunk(in.at, in.size, &chunk, &it)
+          : is(level, "parameter") ? dcsctp_registered_parameter(in.at, in.size, &item, &it)
+                                   : dcsctp_registered_cause(in.at, in.size, &item, &it)))
+        return;
+    begin("fields", '{');
+    PUT(it, number);
+    PUT(it, second_number);
+    PUT(it, short_number);
+    PUT(it, second_short_number);
+    begin("counts", '[');
+    put("", it.short_number);
+    put("", it.second_short_number);
+    put("", it.third_short_number);
+    end(']');
+    put_bytes("address", in.at + it.address_offset, it.address_size);
+    put_bytes("bytes", in.at + it.rest_offset, it.rest_size);
+    const size_t end_of_rest = it.rest_offset + it.rest_size;
+    const struct dcsctp_parameter rest = {0, it.rest_offset, it.rest_size, end_of_rest};
+    begin("short_numbers", '[');
+    size_t count = dcsctp_short_numbers(in.at, in.size, &rest, shorts, MOST);
+    for (size_t at = 0; at < count; at++)
+        put("", shorts[at]);
+    end(']');
+    begin("items", '[');
+    count = dcsctp_items(in.at, end_of_rest, it.rest_offset, items, MOST);
+    for (size_t at = 0; at < count; at++) {
+        begin("", '[');
+        put("", items[at].type);
+        put_bytes("", in.at + items[at].value_offset, items[at].value_size);
+        end(']');
+    }
+    end(']');
+    end('}');
+}
+
+static void write_registered(void)
+{
+    const char *level = argument("level");
+    struct bytes address = bytes("address"), rest = bytes("bytes");
+    struct numbers counts = numbers("counts");
+    uint8_t *in = block(address.size + rest.size);
+    const uint16_t type = (uint16_t)number("type");
+    struct dcsctp_registered it = {
+        .number = number("number"), .second_number = number("second_number"), .short_number = (uint16_t)number("short_number"),
+        .second_short_number = (uint16_t)number("second_short_number"), .address_size = address.size, .rest_offset = address.size,
+        .rest_size = rest.size};
+    if (counts.count == 3)
+        it.short_number = counts.shorts[0], it.second_short_number = counts.shorts[1], it.third_short_number = counts.shorts[2];
+    for (size_t at = 0; at < address.size + rest.size; at++)
+        in[at] = at < address.size ? address.at[at] : rest.at[at - address.size];
+    begin_packet();
+    start = written;
+    uint32_t code;
+    if (is(level, "chunk")) {
+        code = dcsctp_add_registered_chunk(output, ROOM, &written, (uint8_t)type, &it, in, address.size + rest.size);
+    } else {
+        if (dcsctp_add_chunk(output, ROOM, &written, DCSCTP_CHUNK_ERROR, 0, NULL, 0) != DCSCTP_OK)
+            abort();
+        code = (is(level, "parameter") ? dcsctp_add_registered_parameter : dcsctp_add_registered_cause)(
+            output, ROOM, &written, start, type, &it, in, address.size + rest.size);
+        start += 4;
+    }
+    if (code == DCSCTP_OK)
+        put_bytes("value", output + start + 4, output[start + 2] * 256u + output[start + 3] - 4);
+}
+
+/* ---- what is asked of whoever receives a packet */
+
+static void call(void)
+{
+    const char *name = argument("call");
+    struct bytes in = bytes("packet"), known = bytes("known");
+    struct numbers types = numbers("types");
+    const struct dcsctp_association association = {number("own_tag"), number("peer_tag"), argument("peer_tag") != NULL,
+                                                   number("awaits_cookie")};
+    const struct dcsctp_header header = {.source_port = (uint16_t)number("source_port"),
+                                         .destination_port = (uint16_t)number("destination_port"),
+                                         .verification_tag = number("verification_tag")};
+    const struct dcsctp_known of = {number("refuses_zero"), number("has_data"), number("has_i_data")};
+    struct dcsctp_chunk chunk = {0};
+    uint32_t code = DCSCTP_OK;
+    size_t stop = SIZE_MAX, length = in.size;
+    const uint8_t *list = in.at;
+    uint8_t *short_types = block(types.count);
+    for (size_t at = 0; at < types.count; at++)
+        short_types[at] = (uint8_t)types.at[at];
+    if (dcsctp_chunk_at(in.at, in.size, DCSCTP_FIRST_CHUNK, &chunk)) {
+        list += dcsctp_list_offset(&chunk);
+        length = chunk.value_offset + chunk.value_size - dcsctp_list_offset(&chunk);
+    }
+    begin_packet();
+    start = written;
+    if (is(name, "unrecognized_chunk"))
+        put("returns", dcsctp_unrecognized_chunk((uint8_t)number("type")));
+    else if (is(name, "unrecognized_parameter"))
+        put("returns", dcsctp_unrecognized_parameter((uint16_t)number("type")));
+    else if (is(name, "verify_tag"))
+        put("returns", dcsctp_verify_tag(in.at, in.size, &association));
+    else if (is(name, "out_of_the_blue"))
+        put("returns", dcsctp_out_of_the_blue(in.at, in.size, number("is_unicast")));
+    else if (is(name, "init_fault"))
+        put("returns", dcsctp_init_fault(in.at, in.size, number("is_ack")));
+    else if (is(name, "init_refusal"))
+        put("returns", dcsctp_init_refusal(number("fault"), number("is_ack"), number("in_cookie_wait")));
+    else if (is(name, "broken_rules"))
+        put("returns", dcsctp_broken_rules(in.at, in.size, &of));
+    else if (is(name, "adds_addresses"))
+        put_truth("returns", dcsctp_adds_addresses(list, length, known.at, known.size));
+    if (is(name, "reply") || is(name, "init_abort")) {
+        code = is(name, "reply") ? dcsctp_reply(output, ROOM, &written, &header, number("answer"))
+                                 : dcsctp_init_abort(output, ROOM, &written, &header, number("initiate_tag"), number("fault"));
+        if (code == DCSCTP_OK && dcsctp_seal(output, written) == DCSCTP_OK)
+            put_bytes("returns", output, written);
+    }
+    if (strncmp(name, "add_", 4))
+        return;
+    if (is(name, "add_new_addresses")) {
+        code = dcsctp_add_chunk(output, ROOM, &written, DCSCTP_CHUNK_ABORT, 0, NULL, 0);
+        code += dcsctp_add_new_addresses(output, ROOM, &written, start, list, length, known.at, known.size);
+    } else if (is(name, "add_unrecognized_parameters")) {
+        code = dcsctp_add_init_ack(output, ROOM, &written, &(struct dcsctp_init){0});
+        code += dcsctp_add_unrecognized_parameters(output, ROOM, &written, start, list, length, types.shorts, types.count, &stop);
+    } else if (is(name, "add_unrecognized_parameters_error")) {
+        code = dcsctp_add_unrecognized_parameters_error(output, ROOM, &written, list, length, types.shorts, types.count, &stop);
+    } else if (is(name, "add_unrecognized_chunks")) {
+        length = in.size;
+        code = dcsctp_add_unrecognized_chunks(output, ROOM, &written, in.at, in.size, short_types, types.count, &stop);
+    }
+    if (code != DCSCTP_OK)
+        return;
+    put_bytes("returns", output + start, written - start);
+    if (stop < length)
+        put("end", stop);
+}
+
+int main(void)
+{
+    static char line[8 * ROOM];
+    while (fgets(line, sizeof line, stdin)) {
+        for (last = 0, words[0] = strtok(line, " \n"); words[last]; words[last] = strtok(NULL, " \n"))
+            if (++last == TOO_MANY)
+                abort();
+        if (!last)
+            continue;
+        first = 1;
+        comma = "";
+        begin("", '{');
+        if (is(words[0], "read"))
+            read_packet();
+        else if (is(words[0], "write"))
+            write_packet();
+        else if (is(words[0], "read_registered"))
+            read_registered();
+        else if (is(words[0], "write_registered"))
+            write_registered();
+        else
+            call();
+        printf("}\n");
+        while (block_count)
+            free(blocks[--block_count]);
+    }
+    return 0;
+}
