@@ -1,28 +1,27 @@
 /* SPDX-License-Identifier: Apache-2.0 */
-/* Answers vectors.py by the proved calls: a line of words in, a line of JSON out. The first word is what is asked; the others are
-   its arguments, as `name=value`: numbers, bytes in hexadecimal, lists with commas. */
+/* Answers vectors.py by the proved calls: a line of words in, a line of JSON out. The first word is what is asked; the others
+   are its arguments, as `name=value`: numbers, bytes in hexadecimal, lists with commas. */
 #include <dcsctp.h>
 #include <stdint.h>
 #include <stdio.h>
 #include <stdlib.h>
 #include <string.h>
 
-enum { ROOM = 65536, MOST = ROOM / 4, TOO_MANY = ROOM };
+enum { ROOM = 65536, MOST = ROOM / 2, TOO_MANY = ROOM };
 
 /* ---- the request */
 
 static char *words[TOO_MANY];
 static size_t first, last;      /* the words that arguments are looked for in */
-static void *blocks[TOO_MANY];  /* what is freed after the answer */
-static size_t block_count;
+static void *made[TOO_MANY];    /* what is freed after the answer */
+static size_t made_count;
 
 /* Each list has a memory of its own, so that a sanitizer sees a read too far. */
 static void *block(size_t size)
 {
-    void *made = malloc(size);
-    if ((!made && size) || block_count == TOO_MANY)
+    if (made_count == TOO_MANY || (!(made[made_count] = malloc(size)) && size))
         abort();
-    return blocks[block_count++] = made;
+    return made[made_count++];
 }
 
 static const char *argument(const char *name)
@@ -48,36 +47,38 @@ struct bytes {
 static struct bytes bytes(const char *name)
 {
     const char *text = argument(name);
-    struct bytes made = {NULL, text ? strlen(text) / 2 : 0};
-    made.at = block(made.size);
-    for (size_t at = 0; at < made.size; at++) {
+    struct bytes it = {NULL, text ? strlen(text) / 2 : 0};
+    it.at = block(it.size);
+    for (size_t at = 0; at < it.size; at++) {
         const char digits[] = {text[2 * at], text[2 * at + 1], 0};
-        made.at[at] = (uint8_t)strtoul(digits, NULL, 16);
+        it.at[at] = (uint8_t)strtoul(digits, NULL, 16);
     }
-    return made;
+    return it;
 }
 
+/* A list of numbers, also as those of two bytes and of one. */
 struct numbers {
     uint32_t *at;
     uint16_t *shorts;
+    uint8_t *octets;
     size_t count;
 };
 
 static struct numbers numbers(const char *name)
 {
-    const char *text = argument(name);
-    struct numbers made = {NULL, NULL, 0};
+    const char *text = argument(name), *end_of_one = text;
+    struct numbers it = {NULL, NULL, NULL, 0};
     for (const char *at = text; at && *at; at++)
-        made.count += at == text || *at == ',';
-    made.at = block(made.count * sizeof *made.at);
-    made.shorts = block(made.count * sizeof *made.shorts);
-    for (size_t at = 0; at < made.count; at++, text = strchr(text, ',') + 1) {
-        made.at[at] = (uint32_t)strtoul(text, NULL, 10);
-        made.shorts[at] = (uint16_t)made.at[at];
-        if (at + 1 == made.count)
-            break;
+        it.count += at == text || *at == ',';
+    it.at = block(it.count * sizeof *it.at);
+    it.shorts = block(it.count * sizeof *it.shorts);
+    it.octets = block(it.count);
+    for (size_t at = 0; at < it.count; at++, text = end_of_one + 1) {
+        it.at[at] = (uint32_t)strtoul(text, (char **)&end_of_one, 10);
+        it.shorts[at] = (uint16_t)it.at[at];
+        it.octets[at] = (uint8_t)it.at[at];
     }
-    return made;
+    return it;
 }
 
 /* ---- the answer */
@@ -109,12 +110,6 @@ static void put(const char *name, uint64_t it)
     printf("%llu", (unsigned long long)it);
 }
 
-static void put_truth(const char *name, bool it)
-{
-    key(name);
-    printf(it ? "true" : "false");
-}
-
 static void put_bytes(const char *name, const uint8_t *at, size_t size)
 {
     key(name);
@@ -124,21 +119,30 @@ static void put_bytes(const char *name, const uint8_t *at, size_t size)
     putchar('"');
 }
 
+static void put_shorts(const char *name, const uint16_t *list, size_t count)
+{
+    begin(name, '[');
+    while (count--)
+        put("", *list++);
+    end(']');
+}
+
 #define PUT(it, field) put(#field, (it).field)
-#define PUT_TRUTH(it, field) put_truth(#field, (it).field)
+
+static uint16_t shorts[MOST];
+static struct dcsctp_parameter items[MOST];
 
 /* ---- what is read */
 
 static void read_item(struct bytes in, const struct dcsctp_parameter *item)
 {
-    static uint16_t shorts[MOST];
     struct dcsctp_re_config it;
-    uint32_t number;
+    uint32_t alone;
     begin("", '{');
     PUT(*item, type);
     put_bytes("value", in.at + item->value_offset, item->value_size);
-    if (dcsctp_number(in.at, in.size, item, &number))
-        put("number", number);
+    if (dcsctp_number(in.at, in.size, item, &alone))
+        put("number", alone);
     if (dcsctp_re_config(in.at, in.size, item, &it)) {
         PUT(it, request_number);
         PUT(it, response_number);
@@ -151,32 +155,24 @@ static void read_item(struct bytes in, const struct dcsctp_parameter *item)
             put("receiver", it.receiver_next_tsn);
             end('}');
         }
-        begin("streams", '[');
-        size_t count = dcsctp_reset_streams(in.at, in.size, item, shorts, MOST);
-        for (size_t at = 0; at < count; at++)
-            put("", shorts[at]);
-        end(']');
+        put_shorts("streams", shorts, dcsctp_reset_streams(in.at, in.size, item, shorts, MOST));
     }
-    begin("types", '[');
-    size_t count = dcsctp_missing_parameters(in.at, in.size, item, shorts, MOST);
-    for (size_t at = 0; at < count; at++)
-        put("", shorts[at]);
-    end(']');
+    put_shorts("types", shorts, dcsctp_missing_parameters(in.at, in.size, item, shorts, MOST));
     end('}');
 }
 
 static void read_sack(struct bytes in, const struct dcsctp_chunk *chunk, const struct dcsctp_sack *it)
 {
-    static struct dcsctp_gap_ack_block blocks_of[MOST];
+    static struct dcsctp_gap_ack_block blocks[MOST];
     static uint32_t duplicates[MOST];
     PUT(*it, cumulative_tsn_ack);
     PUT(*it, a_rwnd);
     begin("blocks", '[');
-    size_t count = dcsctp_gap_ack_blocks(in.at, in.size, chunk, blocks_of, MOST);
+    size_t count = dcsctp_gap_ack_blocks(in.at, in.size, chunk, blocks, MOST);
     for (size_t at = 0; at < count; at++) {
         begin("", '{');
-        PUT(blocks_of[at], start);
-        PUT(blocks_of[at], end);
+        PUT(blocks[at], start);
+        PUT(blocks[at], end);
         end('}');
     }
     end(']');
@@ -197,7 +193,7 @@ static void read_streams(struct bytes in, const struct dcsctp_chunk *chunk)
         PUT(streams[at], stream);
         PUT(streams[at], ssn);
         PUT(streams[at], mid);
-        PUT_TRUTH(streams[at], is_unordered);
+        PUT(streams[at], is_unordered);
         end('}');
     }
     end(']');
@@ -205,7 +201,6 @@ static void read_streams(struct bytes in, const struct dcsctp_chunk *chunk)
 
 static void read_chunk(struct bytes in, const struct dcsctp_chunk *chunk)
 {
-    static struct dcsctp_parameter items[MOST];
     struct dcsctp_data data;
     struct dcsctp_sack sack;
     struct dcsctp_init init;
@@ -222,10 +217,10 @@ static void read_chunk(struct bytes in, const struct dcsctp_chunk *chunk)
         PUT(data, ppid);
         PUT(data, stream);
         PUT(data, ssn);
-        PUT_TRUTH(data, is_unordered);
-        PUT_TRUTH(data, is_beginning);
-        PUT_TRUTH(data, is_end);
-        PUT_TRUTH(data, immediate_ack);
+        PUT(data, is_unordered);
+        PUT(data, is_beginning);
+        PUT(data, is_end);
+        PUT(data, immediate_ack);
         put_bytes("payload", in.at + data.payload_offset, data.payload_size);
     }
     if (dcsctp_sack(in.at, in.size, chunk, &sack))
@@ -243,7 +238,7 @@ static void read_chunk(struct bytes in, const struct dcsctp_chunk *chunk)
         PUT(forward_tsn, new_cumulative_tsn);
         read_streams(in, chunk);
     }
-    put_truth("tag_reflected", (chunk->flags & DCSCTP_TAG_REFLECTED) != 0);
+    put("tag_reflected", chunk->flags & DCSCTP_TAG_REFLECTED);
     begin("items", '[');
     size_t count = dcsctp_parameters(in.at, in.size, chunk, items, MOST);
     for (size_t at = 0; at < count; at++)
@@ -280,31 +275,32 @@ static void read_packet(void)
 static uint8_t output[ROOM];
 static size_t written, start; /* how much of it is, and where its last chunk begins */
 
+#define U16(field) .field = (uint16_t)number(#field)
+#define U32(field) .field = number(#field)
+
 static uint32_t add_data(bool is_i_data)
 {
-    const struct dcsctp_data data = {
-        .tsn = number("tsn"), .mid = number("mid"), .fsn = number("fsn"), .ppid = number("ppid"), .stream = (uint16_t)number("stream"),
-        .ssn = (uint16_t)number("ssn"), .is_unordered = number("is_unordered"), .is_beginning = number("is_beginning"),
-        .is_end = number("is_end"), .immediate_ack = number("immediate_ack")};
+    const struct dcsctp_data data = {U32(tsn), U32(mid), U32(fsn), U32(ppid), U16(stream), U16(ssn), U32(is_unordered),
+                                     U32(is_beginning), U32(is_end), U32(immediate_ack)};
     struct bytes payload = bytes("payload");
     return (is_i_data ? dcsctp_add_i_data : dcsctp_add_data)(output, ROOM, &written, &data, payload.at, payload.size);
 }
 
 static uint32_t add_init(bool is_ack)
 {
-    const struct dcsctp_init init = {
-        .initiate_tag = number("initiate_tag"), .a_rwnd = number("a_rwnd"), .outbound_streams = (uint16_t)number("outbound_streams"),
-        .inbound_streams = (uint16_t)number("inbound_streams"), .initial_tsn = number("initial_tsn")};
+    const struct dcsctp_init init = {U32(initiate_tag), U32(a_rwnd), U16(outbound_streams), U16(inbound_streams),
+                                     U32(initial_tsn)};
     return (is_ack ? dcsctp_add_init_ack : dcsctp_add_init)(output, ROOM, &written, &init);
 }
 
 static uint32_t add_sack(void)
 {
     struct numbers gaps = numbers("blocks"), duplicates = numbers("duplicates");
-    struct dcsctp_gap_ack_block *made = block(gaps.count * 2 * sizeof(uint16_t));
-    memcpy(made, gaps.shorts, gaps.count * sizeof(uint16_t));
-    return dcsctp_add_sack(output, ROOM, &written, number("cumulative_tsn_ack"), number("a_rwnd"), made, gaps.count / 2, duplicates.at,
-                           duplicates.count);
+    struct dcsctp_gap_ack_block *blocks = block(gaps.count / 2 * sizeof *blocks);
+    for (size_t at = 0; at < gaps.count / 2; at++)
+        blocks[at] = (struct dcsctp_gap_ack_block){gaps.shorts[2 * at], gaps.shorts[2 * at + 1]};
+    return dcsctp_add_sack(output, ROOM, &written, number("cumulative_tsn_ack"), number("a_rwnd"), blocks, gaps.count / 2,
+                           duplicates.at, duplicates.count);
 }
 
 /* A stream has two numbers, or three with the U bit. */
@@ -312,23 +308,20 @@ static uint32_t add_forward_tsn(bool is_i_forward)
 {
     struct numbers in = numbers("streams");
     const size_t each = is_i_forward ? 3 : 2, count = in.count / each;
-    struct dcsctp_skipped_stream *made = block(count * sizeof *made);
-    for (size_t at = 0; at < count; at++) {
-        const uint32_t *it = in.at + each * at;
-        made[at] = is_i_forward ? (struct dcsctp_skipped_stream){.stream = (uint16_t)it[0], .is_unordered = it[1], .mid = it[2]}
-                                : (struct dcsctp_skipped_stream){.stream = (uint16_t)it[0], .ssn = (uint16_t)it[1]};
-    }
-    return (is_i_forward ? dcsctp_add_i_forward_tsn : dcsctp_add_forward_tsn)(output, ROOM, &written, number("new_cumulative_tsn"), made,
-                                                                              count);
+    const uint32_t tsn = number("new_cumulative_tsn"), *it = in.at;
+    struct dcsctp_skipped_stream *streams = block(count * sizeof *streams);
+    for (size_t at = 0; at < count; at++, it += each)
+        streams[at] = is_i_forward ? (struct dcsctp_skipped_stream){(uint16_t)it[0], 0, it[2], it[1]}
+                                   : (struct dcsctp_skipped_stream){(uint16_t)it[0], (uint16_t)it[1], 0, false};
+    return is_i_forward ? dcsctp_add_i_forward_tsn(output, ROOM, &written, tsn, streams, count)
+                        : dcsctp_add_forward_tsn(output, ROOM, &written, tsn, streams, count);
 }
 
 static uint32_t add_re_config(void)
 {
     struct numbers streams = numbers("streams"), next = numbers("next_tsns");
-    struct dcsctp_re_config it = {
-        .type = (uint16_t)number("type"), .request_number = number("request_number"), .response_number = number("response_number"),
-        .last_tsn = number("last_tsn"), .result = number("result"), .has_next_tsns = next.count == 2,
-        .new_streams = (uint16_t)number("new_streams")};
+    struct dcsctp_re_config it = {U16(type), U32(request_number), U32(response_number), U32(last_tsn), U32(result),
+                                  .has_next_tsns = next.count == 2, U16(new_streams)};
     if (it.has_next_tsns)
         it.sender_next_tsn = next.at[0], it.receiver_next_tsn = next.at[1];
     return dcsctp_add_re_config(output, ROOM, &written, start, &it, streams.shorts, streams.count);
@@ -371,10 +364,7 @@ static uint32_t add_part(const char *what)
         return dcsctp_add_cookie_ack(output, ROOM, &written);
     if (is(what, "forward_tsn") || is(what, "i_forward_tsn"))
         return add_forward_tsn(is(what, "i_forward_tsn"));
-    if (is(what, "chunk"))
-        return dcsctp_add_chunk(output, ROOM, &written, (uint8_t)number("type"), (uint8_t)number("flags"), value.at, value.size);
-    fprintf(stderr, "answers: nothing writes %s\n", what);
-    exit(1);
+    return dcsctp_add_chunk(output, ROOM, &written, (uint8_t)number("type"), (uint8_t)number("flags"), value.at, value.size);
 }
 
 static void begin_packet(void)
@@ -402,8 +392,6 @@ static void write_packet(void)
 
 static void read_registered(void)
 {
-    static struct dcsctp_parameter items[MOST];
-    static uint16_t shorts[MOST];
     struct bytes in = bytes("value");
     struct dcsctp_registered it;
     const struct dcsctp_chunk chunk = {(uint8_t)number("type"), 0, 0, in.size, in.size};
@@ -418,22 +406,15 @@ static void read_registered(void)
     PUT(it, second_number);
     PUT(it, short_number);
     PUT(it, second_short_number);
-    begin("counts", '[');
-    put("", it.short_number);
-    put("", it.second_short_number);
-    put("", it.third_short_number);
-    end(']');
+    const uint16_t counts[] = {it.short_number, it.second_short_number, it.third_short_number};
+    put_shorts("counts", counts, 3);
     put_bytes("address", in.at + it.address_offset, it.address_size);
     put_bytes("bytes", in.at + it.rest_offset, it.rest_size);
     const size_t end_of_rest = it.rest_offset + it.rest_size;
     const struct dcsctp_parameter rest = {0, it.rest_offset, it.rest_size, end_of_rest};
-    begin("short_numbers", '[');
-    size_t count = dcsctp_short_numbers(in.at, in.size, &rest, shorts, MOST);
-    for (size_t at = 0; at < count; at++)
-        put("", shorts[at]);
-    end(']');
+    put_shorts("short_numbers", shorts, dcsctp_short_numbers(in.at, in.size, &rest, shorts, MOST));
     begin("items", '[');
-    count = dcsctp_items(in.at, end_of_rest, it.rest_offset, items, MOST);
+    size_t count = dcsctp_items(in.at, end_of_rest, it.rest_offset, items, MOST);
     for (size_t at = 0; at < count; at++) {
         begin("", '[');
         put("", items[at].type);
@@ -451,14 +432,12 @@ static void write_registered(void)
     struct numbers counts = numbers("counts");
     uint8_t *in = block(address.size + rest.size);
     const uint16_t type = (uint16_t)number("type");
-    struct dcsctp_registered it = {
-        .number = number("number"), .second_number = number("second_number"), .short_number = (uint16_t)number("short_number"),
-        .second_short_number = (uint16_t)number("second_short_number"), .address_size = address.size, .rest_offset = address.size,
-        .rest_size = rest.size};
+    struct dcsctp_registered it = {U32(number), U32(second_number), U16(short_number), U16(second_short_number),
+                                   .address_size = address.size, .rest_offset = address.size, .rest_size = rest.size};
     if (counts.count == 3)
         it.short_number = counts.shorts[0], it.second_short_number = counts.shorts[1], it.third_short_number = counts.shorts[2];
-    for (size_t at = 0; at < address.size + rest.size; at++)
-        in[at] = at < address.size ? address.at[at] : rest.at[at - address.size];
+    memcpy(in, address.at, address.size);
+    memcpy(in + address.size, rest.at, rest.size);
     begin_packet();
     start = written;
     uint32_t code;
@@ -471,6 +450,7 @@ static void write_registered(void)
             output, ROOM, &written, start, type, &it, in, address.size + rest.size);
         start += 4;
     }
+    put("code", code);
     if (code == DCSCTP_OK)
         put_bytes("value", output + start + 4, output[start + 2] * 256u + output[start + 3] - 4);
 }
@@ -482,19 +462,14 @@ static void call(void)
     const char *name = argument("call");
     struct bytes in = bytes("packet"), known = bytes("known");
     struct numbers types = numbers("types");
-    const struct dcsctp_association association = {number("own_tag"), number("peer_tag"), argument("peer_tag") != NULL,
-                                                   number("awaits_cookie")};
-    const struct dcsctp_header header = {.source_port = (uint16_t)number("source_port"),
-                                         .destination_port = (uint16_t)number("destination_port"),
-                                         .verification_tag = number("verification_tag")};
-    const struct dcsctp_known of = {number("refuses_zero"), number("has_data"), number("has_i_data")};
+    const struct dcsctp_association association = {U32(own_tag), U32(peer_tag), .has_peer_tag = argument("peer_tag") != NULL,
+                                                   U32(awaits_cookie)};
+    const struct dcsctp_header header = {U16(source_port), U16(destination_port), U32(verification_tag)};
+    const struct dcsctp_known of = {U32(refuses_zero), U32(has_data), U32(has_i_data)};
     struct dcsctp_chunk chunk = {0};
     uint32_t code = DCSCTP_OK;
     size_t stop = SIZE_MAX, length = in.size;
     const uint8_t *list = in.at;
-    uint8_t *short_types = block(types.count);
-    for (size_t at = 0; at < types.count; at++)
-        short_types[at] = (uint8_t)types.at[at];
     if (dcsctp_chunk_at(in.at, in.size, DCSCTP_FIRST_CHUNK, &chunk)) {
         list += dcsctp_list_offset(&chunk);
         length = chunk.value_offset + chunk.value_size - dcsctp_list_offset(&chunk);
@@ -516,7 +491,7 @@ static void call(void)
     else if (is(name, "broken_rules"))
         put("returns", dcsctp_broken_rules(in.at, in.size, &of));
     else if (is(name, "adds_addresses"))
-        put_truth("returns", dcsctp_adds_addresses(list, length, known.at, known.size));
+        put("returns", dcsctp_adds_addresses(list, length, known.at, known.size));
     if (is(name, "reply") || is(name, "init_abort")) {
         code = is(name, "reply") ? dcsctp_reply(output, ROOM, &written, &header, number("answer"))
                                  : dcsctp_init_abort(output, ROOM, &written, &header, number("initiate_tag"), number("fault"));
@@ -530,12 +505,13 @@ static void call(void)
         code += dcsctp_add_new_addresses(output, ROOM, &written, start, list, length, known.at, known.size);
     } else if (is(name, "add_unrecognized_parameters")) {
         code = dcsctp_add_init_ack(output, ROOM, &written, &(struct dcsctp_init){0});
-        code += dcsctp_add_unrecognized_parameters(output, ROOM, &written, start, list, length, types.shorts, types.count, &stop);
+        code += dcsctp_add_unrecognized_parameters(output, ROOM, &written, start, list, length, types.shorts, types.count,
+                                                   &stop);
     } else if (is(name, "add_unrecognized_parameters_error")) {
         code = dcsctp_add_unrecognized_parameters_error(output, ROOM, &written, list, length, types.shorts, types.count, &stop);
     } else if (is(name, "add_unrecognized_chunks")) {
         length = in.size;
-        code = dcsctp_add_unrecognized_chunks(output, ROOM, &written, in.at, in.size, short_types, types.count, &stop);
+        code = dcsctp_add_unrecognized_chunks(output, ROOM, &written, in.at, in.size, types.octets, types.count, &stop);
     }
     if (code != DCSCTP_OK)
         return;
@@ -564,11 +540,11 @@ int main(void)
             read_registered();
         else if (is(words[0], "write_registered"))
             write_registered();
-        else
+        else if (is(words[0], "call"))
             call();
         printf("}\n");
-        while (block_count)
-            free(blocks[--block_count]);
+        while (made_count)
+            free(made[--made_count]);
     }
     return 0;
 }

@@ -4,10 +4,10 @@
 
 Asks the proved calls, by answers.c, which $CC builds, or else cc.
 
-  --compare  asks for each line of kinds.jsonl, registered.jsonl and calls.jsonl of the folder, or else of this one: names each line
-             that says something else, and fails if there is one
-  --random   prints N lines as of kinds.jsonl: random fields by registry/sctp.txt, some of whose bytes are changed, as the calls
-             answer. The same for the same seed, a number
+  --compare  asks for each line of kinds.jsonl, registered.jsonl and calls.jsonl of the folder, or else of this one: names each
+             line that says something else, and fails if there is one
+  --random   prints N lines as of kinds.jsonl: random fields by registry/sctp.txt, some of whose bytes are changed, as the
+             calls answer. The same for the same seed, a number
   --help     prints this
 """
 import json
@@ -27,37 +27,41 @@ import make
 from languages import words
 
 TABLE = make.table_of(make.rows_of(make.read(make.TABLE)))
-RECORDS = TABLE['records']
 LEVELS = ('chunk', 'parameter', 'cause')
 ROWS = {level: {row.number: row for row in layouts.kinds_of(TABLE, level)} for level in LEVELS}
 KINDS = {level: {row.identifier: row for row in rows.values()} for level, rows in ROWS.items()}
 REGISTERED = {(level, row.number): fields for level in LEVELS for row, fields in words.kinds(TABLE, level)}
-CONSTANTS = {enum.name: {row.number: row.identifier for row in TABLE['constant'] if row.of == enum.name} for enum in TABLE['enum']}
-RULES = {row.number: row.identifier for row in TABLE['rule']}
-OK = 0
-HEADER = bytes.fromhex('138813890102030400000000')
+CONSTANTS = {it.name: {row.number: row.identifier for row in TABLE['constant'] if row.of == it.name} for it in TABLE['enum']}
+FAULTS = {number: name.removeprefix('FAULT_').lower() for number, name in CONSTANTS['result'].items()}
+HEADER = '138813890102030400000000'
 ITEMS = {'parameters': 'parameter', 'causes': 'cause'}
-"""The level of what is in a list."""
+"""The level of what is in a list, by the list's form."""
+NUMBERED = {'chunk': 'type', 'parameter': 'type', 'cause': 'code'}
+"""The key of the number of what is no kind."""
+BROKEN = AttributeError, KeyError, StopIteration, TypeError, ValueError
+"""What is raised for a line that nothing can be asked of."""
 
-
-# ---- the program
 
 class Answers:
-    """The program: what it answers to a list of requests."""
+    """The program, and what it answers."""
 
     def __init__(self, folder):
         machine = {'AMD64': 'x86_64', 'arm64': 'aarch64'}.get(platform.machine(), platform.machine())
-        form = {'Darwin': 'macho', 'Windows': 'coff'}.get(platform.system(), 'elf')
+        library = f'dist/dcsctp-{machine}-{"macho" if sys.platform == "darwin" else "elf"}.s'
         self.path = os.path.join(folder, 'answers')
-        library = os.path.join(ROOT, 'dist', f'dcsctp-{machine}-{form}.s')
-        subprocess.run([*os.environ.get('CC', 'cc').split(), '-O1', '-o', self.path, os.path.join(HERE, 'answers.c'), library,
-                        f'-I{os.path.join(ROOT, "dist")}'], check=True)
+        subprocess.run([*os.environ.get('CC', 'cc').split(), '-O1', '-o', self.path, os.path.join(HERE, 'answers.c'),
+                        os.path.join(ROOT, library), f'-I{os.path.join(ROOT, "dist")}'], check=True)
 
-    def ask(self, requests):
+    def ask(self, request_of, lines):
+        """The answers to the requests that are made of these lines; {} for one of which none can be made."""
+        requests = []
+        for line in lines:
+            try:
+                requests.append(' '.join(request_of(line)))
+            except BROKEN:
+                requests.append('nothing')
         found = subprocess.run([self.path], input='\n'.join(requests), capture_output=True, text=True, check=True)
-        answers = [json.loads(line) for line in found.stdout.splitlines()]
-        assert len(answers) == len(requests), found.stderr
-        return answers
+        return [json.loads(line) for line in found.stdout.splitlines()]
 
 
 def said(name, value):
@@ -73,197 +77,172 @@ def named(name):
     return name.lower().replace(' ', '_')
 
 
-def in_record(form, it):
-    """One of a list as a vector has it: a number, or the fields of a record."""
-    return it if form in layouts.WIDTHS else {named(field.name): it[named(field.name)] for field in RECORDS[form].layout.fields if field.name}
+def fields_of(record):
+    return [(named(it.name), it.what == 'bit') for it in TABLE['records'][record].layout.fields if it.name]
 
 
-def read_fields(row, it):
-    """The fields of a kind, of what the program says of a chunk or an item: what it doesn't name is the value itself, or its number."""
-    fields = {named(flag.name): it[named(flag.name)] for flag in row.flags}
-    for field in row.layout.fields:
-        name = named(field.name)
-        if field.what == 'either':
-            fields |= {name: it[name], named(field.other): it[named(field.other)]}
-        elif field.what == 'list':
-            fields[name] = [in_record(field.form, one) for one in it[name]]
-        elif field.what == 'optional':
-            fields[name] = it.get(name) and in_record(field.form, it[name])
-        elif field.what == 'rest' and field.form in ITEMS:
-            fields[name] = [read_part(ITEMS[field.form], one) for one in it['items']]
-        elif field.what == 'rest':
-            fields[name] = it.get(name, it['value'])
-        elif field.what == 'number':
-            fields[name] = it[name] if name in it else it['number']
-    return fields
+def in_list(form, it):
+    """One of a list, of what the program says: a number, or a record."""
+    return it if form in layouts.WIDTHS else {name: bool(it[name]) if is_bit else it[name] for name, is_bit in fields_of(form)}
+
+
+def numbers_of(form, it):
+    return [it] if form in layouts.WIDTHS else [it[name] for name, _ in fields_of(form)]
 
 
 def read_part(level, it):
-    """A chunk or an item as a vector has it."""
+    """A chunk or an item as a vector has it, of what the program says: a field that it doesn't name is the value itself."""
     row = ROWS[level].get(it['type'])
-    if row:
-        return {'kind': row.identifier, **read_fields(row, it)}
-    flags = {'flags': it['flags']} if level == 'chunk' else {}
-    return {'code' if level == 'cause' else 'type': it['type'], **flags, 'value': it['value']}
-
-
-def flat(form, it):
-    """The numbers of one of a list, in the order of its record."""
-    return [it] if form in layouts.WIDTHS else [it[named(field.name)] for field in RECORDS[form].layout.fields if field.name]
+    if not row:
+        return {NUMBERED[level]: it['type'], **({'flags': it['flags']} if level == 'chunk' else {}), 'value': it['value']}
+    part = {'kind': row.identifier} | {named(flag.name): bool(it[named(flag.name)]) for flag in row.flags}
+    for field in row.layout.fields:
+        name = named(field.name)
+        if field.what == 'either':
+            part |= {name: it[name], named(field.other): it[named(field.other)]}
+        elif field.what == 'list':
+            part[name] = [in_list(field.form, one) for one in it[name]]
+        elif field.what == 'optional':
+            part[name] = it.get(name) and in_list(field.form, it[name])
+        elif field.what == 'rest':
+            is_list = field.form in ITEMS
+            part[name] = [read_part(ITEMS[field.form], one) for one in it['items']] if is_list else it.get(name, it['value'])
+        elif field.what == 'number':
+            part[name] = it[name] if name in it else it['number']
+    return part
 
 
 def written_fields(row, it):
     """The program's arguments for the fields of a kind, and the parts that its list has."""
     arguments, parts = [said(named(flag.name), it[named(flag.name)]) for flag in row.flags], []
     for field in row.layout.fields:
-        name = named(field.name)
+        value = it[named(field.name)] if field.what not in ('count', 'reserved') else None
         if field.what == 'either':
-            arguments += [said(name, it[name]), said(named(field.other), it[named(field.other)])]
+            arguments += [said(named(name), it[named(name)]) for name in (field.name, field.other)]
         elif field.what == 'list':
-            arguments.append(said(name, [number for one in it[name] for number in flat(field.form, one)]))
-        elif field.what == 'optional' and it[name]:
-            arguments.append(said(name, flat(field.form, it[name])))
+            arguments.append(said(named(field.name), [number for one in value for number in numbers_of(field.form, one)]))
+        elif field.what == 'optional' and value:
+            arguments.append(said(named(field.name), numbers_of(field.form, value)))
         elif field.what == 'rest' and field.form in ITEMS:
-            parts = [word for one in it[name] for word in written_part(ITEMS[field.form], one)]
+            parts = [word for one in value for word in written_part(ITEMS[field.form], one)]
         elif field.what in ('rest', 'number'):
-            arguments.append(said(name, it[name]))
+            arguments.append(said(named(field.name), value))
     return arguments, parts
 
 
 def written_part(level, it):
-    """The words by which the program writes a chunk or an item, by the call of its kind where there is one."""
+    """The words by which the program writes a chunk or an item: by the call of its kind, if it has one."""
     if 'kind' not in it:
-        flags = [said('flags', it['flags'])] if level == 'chunk' else []
-        return ['chunk' if level == 'chunk' else 'item', said('type', it.get('type', it.get('code'))), *flags, said('value', it['value'])]
+        part = 'chunk' if level == 'chunk' else 'item'
+        return [part, said('type', it[NUMBERED[level]]), said('flags', it.get('flags', 0)), said('value', it['value'])]
     row = KINDS[level][it['kind']]
-    arguments, parts = written_fields(row, it)
-    if level == 'chunk' and (row.layout.numbers or not row.layout.items):
+    (arguments, parts), layout, kind = written_fields(row, it), row.layout, said('type', row.number)
+    if level == 'chunk' and (layout.numbers or not layout.items):
         return [named(row.identifier), *arguments, *parts]
-    kind, numbers = [said('type', row.number)], row.layout.numbers
     if level == 'chunk':
-        return ['chunk', *kind, said('flags', sum(it[named(flag.name)] * flag.flag.number for flag in row.flags)), *parts]
-    if getattr(row, 'struct', '-') != '-':
-        return ['re_config', *kind, *arguments]
-    if row.layout.lists:
-        return ['missing', *kind, *arguments]
-    if numbers:
-        return ['number', *kind, said('number', it[named(numbers[0].name)])]
-    return ['item', *kind, said('value', it[named(row.layout.rest.name)] if row.layout.rest else '')]
+        return ['chunk', kind, said('flags', sum(it[named(flag.name)] * flag.flag.number for flag in row.flags)), *parts]
+    if level == 'parameter' and row.struct != '-':
+        return [row.struct, kind, *arguments]
+    if layout.lists:
+        return ['missing', kind, *arguments]
+    if layout.numbers:
+        return ['number', kind, said('number', it[named(layout.numbers[0].name)])]
+    return ['item', kind, said('value', it[named(layout.rest.name)] if layout.rest else '')]
 
 
-def fault(found):
-    return [CONSTANTS['result'][found[0]].removeprefix('FAULT_').lower(), found[1]]
-
-
-def kinds_answered(answers, packets):
-    """The lines of kinds.jsonl that these chunks' bytes have."""
-    lines = [{'bytes': it.hex()} for it in packets]
-    for line, found in zip(lines, answers.ask([f'read packet={(HEADER + it).hex()}' for it in packets])):
-        if 'fault' in found:
-            line['fault'] = fault(found['fault'])
-        else:
-            line['chunks'] = [read_part('chunk', it) for it in found['chunks']]
-            if 'strict' in found:
-                line['strict'] = fault(found['strict'])
+def kinds_answered(answers, all_bytes):
+    """The lines of kinds.jsonl that chunks have, without how they are written."""
+    lines = [{'bytes': it} for it in all_bytes]
+    for line, found in zip(lines, answers.ask(lambda it: ['read', f'packet={HEADER}{bytes.fromhex(it).hex()}'], all_bytes)):
+        for key, it in found.items():
+            line[key] = [read_part('chunk', chunk) for chunk in it] if key == 'chunks' else [FAULTS[it[0]], it[1]]
     return lines
 
 
-def kinds_written(answers, lists):
-    """How lists of chunks are written, each by its fields: hexadecimal, or why not."""
-    requests = [' '.join(['write', *(word for it in chunks for word in written_part('chunk', it))]) for chunks in lists]
-    return [it['bytes'] if it['code'] == OK else CONSTANTS['result'][it['code']] for it in answers.ask(requests)]
-
-
-def with_written(line, written):
-    """A line with how it is written, if that isn't what was read, in the order of the keys."""
-    return {**{key: line[key] for key in ('bytes', 'fault', 'chunks') if key in line},
-            **({'written': written} if written != line['bytes'] else {}), **({'strict': line['strict']} if 'strict' in line else {})}
+def kinds_written(answers, lines):
+    """How each line's chunks are written by their fields: bytes, or why they aren't."""
+    found = answers.ask(lambda it: ['write', *(word for chunk in it['chunks'] for word in written_part('chunk', chunk))], lines)
+    return [it.get('code') or it['bytes'] if it else 'no fields' for it in found]
 
 
 def compare_kinds(answers, lines):
-    found = kinds_answered(answers, [bytes.fromhex(line['bytes']) for line in lines])
+    found = kinds_answered(answers, [line['bytes'] for line in lines])
     accepted = [at for at, line in enumerate(lines) if 'chunks' in line]
-    for at, written in zip(accepted, kinds_written(answers, [lines[at]['chunks'] for at in accepted])):
-        found[at] = with_written(found[at], written)
+    for at, written in zip(accepted, kinds_written(answers, [lines[at] for at in accepted])):
+        if written != lines[at]['bytes']:
+            found[at]['written'] = written
     return found
 
 
 # ---- what is kept as bytes
 
-def registered_fields(level, number, it):
-    """The fields of a value, of what the program says of it."""
-    code = {'parameters': 'type', 'causes': 'code'}
-    return {name: [{code[form]: number, 'value': value} for number, value in it['items']] if form in code else it[form]
-            for name, form in REGISTERED.get((level, number), ())}
-
-
-def items_bytes(items):
+def items_bytes(key, items):
     """A list of parameters or causes: each with its padding, but the last."""
     data = bytearray()
     for it in items:
         value = bytes.fromhex(it['value'])
-        data += bytes(-len(data) % 4) + it.get('type', it.get('code')).to_bytes(2, 'big') + (4 + len(value)).to_bytes(2, 'big') + value
+        data += bytes(-len(data) % 4) + it[key].to_bytes(2, 'big') + (4 + len(value)).to_bytes(2, 'big') + value
     return data.hex()
 
 
-def registered_request(line):
-    """How the program writes fields."""
-    request = ['write_registered', said('level', line['level']), said('type', line['type'])]
-    for name, form in REGISTERED.get((line['level'], line['type']), ()):
+def written_registered(line):
+    yield from ('write_registered', said('level', line['level']), said('type', line['type']))
+    for name, form in REGISTERED[line['level'], line['type']]:
         value = line['fields'][name]
         if form in ITEMS:
-            request.append(said('bytes', items_bytes(value)))
+            yield said('bytes', items_bytes(NUMBERED[ITEMS[form]], value))
         elif form == 'short_numbers':
-            request.append(said('bytes', ''.join(f'{number:04x}' for number in value)))
+            yield said('bytes', ''.join(f'{number:04x}' for number in value))
         else:
-            request.append(said(form, value))
-    return ' '.join(request)
+            yield said(form, value)
 
 
 def compare_registered(answers, lines):
-    found = [{key: line[key] for key in ('level', 'type', 'value') if key in line} for line in lines]
-    read = [at for at, line in enumerate(lines) if 'value' in line]
-    for at, it in zip(read, answers.ask([' '.join(['read_registered', *(said(*pair) for pair in found[at].items())]) for at in read])):
-        found[at]['fields'] = registered_fields(found[at]['level'], found[at]['type'], it['fields']) if it else None
-    some = [at for at, line in enumerate(lines) if line['fields'] is not None]
-    for at, it in zip(some, answers.ask([registered_request(lines[at]) for at in some])):
-        if 'value' not in lines[at]:
-            found[at] |= {'fields': lines[at]['fields']} | ({} if it else {'refused': True})
-        elif it.get('value', 'refused') != lines[at]['value']:
-            found[at]['written'] = it.get('value', 'refused')
+    keys = 'level', 'type', 'value'
+    found = [{key: line[key] for key in keys if key in line} for line in lines]
+    read = answers.ask(lambda it: ['read_registered', *(said(key, it[key]) for key in keys)], found)
+    for line, it, own, written in zip(lines, found, read, answers.ask(written_registered, lines)):
+        if 'value' not in line:
+            it |= {'fields': line['fields']} | ({'refused': True} if written.get('code') else {})
+            continue
+        it['fields'] = own.get('fields') and {
+            name: [{NUMBERED[ITEMS[form]]: number, 'value': value} for number, value in own['fields']['items']]
+            if form in ITEMS else own['fields'][form] for name, form in REGISTERED[line['level'], line['type']]}
+        if line['fields'] is not None and written.get('value') != line['value']:
+            it['written'] = written.get('value', 'refused')
     return found
 
 
 # ---- what is asked of whoever receives a packet
 
-RETURNS = {'unrecognized_chunk': 'action', 'unrecognized_parameter': 'action', 'verify_tag': 'tag_verdict', 'out_of_the_blue': 'answer',
-           'init_fault': 'init_fault', 'init_refusal': 'refusal'}
+RETURNS = {'unrecognized_chunk': 'action', 'unrecognized_parameter': 'action', 'verify_tag': 'tag_verdict',
+           'out_of_the_blue': 'answer', 'init_fault': 'init_fault', 'init_refusal': 'refusal'}
 """The enum of what a call returns."""
 GIVEN = {'answer': 'answer', 'fault': 'init_fault'}
 """The enums of arguments."""
 
 
-def call_request(line):
-    request = ['call']
+def asked(line):
+    yield 'call'
     for name, value in {**line, **line.get('header', {})}.items():
         if name in GIVEN:
             value = next(number for number, identifier in CONSTANTS[GIVEN[name]].items() if identifier == value)
         if name not in ('header', 'returns', 'end') and value is not None:
-            request.append(said('types' if isinstance(value, list) else name, value))
-    return ' '.join(request)
+            yield said('types' if isinstance(value, list) else name, value)
 
 
 def compare_calls(answers, lines):
     found = []
-    for line, it in zip(lines, answers.ask([call_request(line) for line in lines])):
-        returns = it.get('returns')
-        if line['call'] in RETURNS:
-            returns = CONSTANTS[RETURNS[line['call']]].get(returns, returns)
-        elif line['call'] == 'broken_rules':
-            returns = [name for bit, name in RULES.items() if returns & bit]
-        given = {name: value for name, value in line.items() if name not in ('returns', 'end')}
-        stops = {'end': it.get('end')} if line['call'].startswith('add_unrecognized') else {}
-        found.append({**given, 'returns': returns, **stops})
+    for line, it in zip(lines, answers.ask(asked, lines)):
+        returns, call = it.get('returns'), line['call']
+        if call in RETURNS:
+            returns = CONSTANTS[RETURNS[call]].get(returns)
+        elif call == 'broken_rules':
+            returns = [row.identifier for row in TABLE['rule'] if returns & row.number]
+        elif call == 'adds_addresses':
+            returns = returns == 1
+        stops = {'end': it.get('end')} if call.startswith('add_unrecognized') else {}
+        found.append({**{key: it for key, it in line.items() if key not in ('returns', 'end')}, 'returns': returns, **stops})
     return found
 
 
@@ -277,9 +256,9 @@ def compare(answers, folder):
         with open(os.path.join(folder, name), encoding='ascii') as file:
             lines = [json.loads(line) for line in file]
         for at, (line, found) in enumerate(zip(lines, answered(answers, lines)), 1):
-            if line != found or list(line) != list(found):
+            if line != found:
                 wrong += 1
-                keys = [key for key in {**line, **found} if line.get(key, 'none') != found.get(key, 'none')] or ['the order of its keys']
+                keys = [key for key in {**line, **found} if line.get(key, ...) != found.get(key, ...)]
                 print(f'{name}:{at}: {", ".join(keys)}: the calls say {json.dumps(found, separators=(",", ":"))}')
     return wrong
 
@@ -289,88 +268,83 @@ def compare(answers, folder):
 class Random(random.Random):
     """What is random: values, and the changes of bytes."""
 
-    def number(self, bits):
-        return self.choice((self.getrandbits(bits), self.getrandbits(bits), self.getrandbits(3), (1 << bits) - 1 - self.getrandbits(2)))
+    def number(self, form):
+        most = (1 << 8 * layouts.WIDTHS[form]) - 1
+        return self.choice((self.randint(0, most), self.randint(0, most), self.getrandbits(3), most - self.getrandbits(2)))
 
-    def some(self, most=12):
-        return self.randbytes(self.choice((self.randrange(5), self.randrange(most), self.randrange(most), 257 if self.random() < 0.02 else 1)))
+    def some(self, least=0):
+        return self.randbytes(max(least, self.choice((self.randrange(5), self.randrange(12), self.randrange(12), 1)))).hex()
 
     def one_of(self, form):
         if form in layouts.WIDTHS:
-            return self.number(8 * layouts.WIDTHS[form])
-        fields = RECORDS[form].layout.fields
-        return {named(it.name): self.random() < 0.5 if it.what == 'bit' else self.one_of(it.form) for it in fields}
+            return self.number(form)
+        fields = TABLE['records'][form].layout.fields
+        return {named(it.name): self.random() < 0.5 if it.what == 'bit' else self.number(it.form) for it in fields}
 
-    def fields(self, row):
-        fields = {named(flag.name): self.random() < 0.5 for flag in row.flags}
+    def kind(self, row):
+        part = {'kind': row.identifier} | {named(flag.name): self.random() < 0.5 for flag in row.flags}
         for field in row.layout.fields:
             name = named(field.name)
             if field.what == 'either':
-                is_set = fields[named(next(flag.name for flag in row.flags if flag.flag is field.flag))]
-                fields |= {name: self.number(32) if is_set else 0, named(field.other): 0 if is_set else self.number(32)}
+                part |= {name: self.number(field.form), named(field.other): self.number(field.form)}
             elif field.what == 'list':
-                fields[name] = [self.one_of(field.form) for _ in range(self.choice((0, 1, 2, self.randrange(9))))]
+                part[name] = [self.one_of(field.form) for _ in range(self.choice((0, 1, 2, self.randrange(9))))]
             elif field.what == 'optional':
-                fields[name] = self.choice((None, self.one_of(field.form)))
+                part[name] = self.choice((None, self.one_of(field.form)))
             elif field.what == 'rest' and field.form in ITEMS:
-                count = self.choice((1, self.randrange(5))) or (1 if field.least else 0)
-                fields[name] = [self.part(ITEMS[field.form]) for _ in range(count)]
+                count = max(field.least // 4, self.choice((1, self.randrange(5))))
+                part[name] = [self.part(ITEMS[field.form]) for _ in range(count)]
             elif field.what == 'rest':
-                fields[name] = (self.some() or self.randbytes(1 if field.least else 0)).hex()
+                part[name] = self.some(field.least)
             elif field.what == 'number':
-                fields[name] = self.randrange(len(TABLE[field.of.removesuffix('s')])) if field.of else self.one_of(field.form)
-        return fields
+                part[name] = self.choice(TABLE['result']).number if field.of else self.number(field.form)
+        return part
 
     def part(self, level):
         """A chunk or an item: of a kind, or of a type that is none."""
         if self.random() < 0.85:
-            row = self.choice(layouts.kinds_of(TABLE, level))
-            return {'kind': row.identifier, **self.fields(row)}
-        bits = 8 if level == 'chunk' else 16
-        number = next(it for it in iter(lambda: self.choice((self.getrandbits(bits), self.choice(TABLE[level]).number)), None)
-                      if it not in ROWS[level])
-        flags = {'flags': self.getrandbits(8)} if level == 'chunk' else {}
-        return {'code' if level == 'cause' else 'type': number, **flags, 'value': self.some().hex()}
-
-    def chunks(self):
-        return [self.part('chunk') for _ in range(self.choice((1, 1, 1, self.randrange(1, 5))))]
+            return self.kind(self.choice(layouts.kinds_of(TABLE, level)))
+        number = self.choice([self.number('u8' if level == 'chunk' else 'u16'), self.choice(TABLE[level]).number])
+        if number in ROWS[level]:
+            return self.part(level)
+        return {NUMBERED[level]: number, 'flags': self.getrandbits(8), 'value': self.some()}
 
     def changed(self, data):
-        """Bytes that were changed, mostly: bits, bytes, lengths; words more or less; chunks in another order; an end that isn't there."""
+        """Bytes of which some may be changed: bits, bytes, lengths and counts; words more or less; the end; the order."""
         data = bytearray(data)
-        for _ in range(self.choice((0, 0, 1, 1, 2))):
-            if not data:
-                break
-            at, word = self.randrange(len(data)), self.randrange(len(data)) // 4 * 4
-            match self.randrange(9):
+        for _ in range(self.choice((0, 0, 1, 1, 2)) if data else 0):
+            at = self.randrange(len(data) or 1)
+            word = at // 4 * 4
+            match self.randrange(9) if data else 4:
                 case 0:
                     data[at] ^= 1 << self.randrange(8)
                 case 1:
                     data[at] = self.choice((0, 1, 4, 255, self.getrandbits(8)))
-                case 2 | 3:  # the low byte of what may be a length, or a count
-                    if word + 3 < len(data):
-                        data[word + 3] = (data[word + 3] + self.choice((-4, -2, -1, 1, 2, 4))) & 255
+                case 2 | 3:
+                    place = min(word + 3, len(data) - 1)
+                    data[place] = (data[place] + self.choice((-4, -2, -1, 1, 2, 4))) & 255
                 case 4:
-                    del data[at:]
-                case 5:
                     data += self.randbytes(self.randrange(1, 6))
+                case 5:
+                    del data[at:]
                 case 6:
                     data[word:word] = data[word:word + 4] if self.random() < 0.5 else self.randbytes(4)
                 case 7:
                     del data[word:word + 4]
                 case 8:
                     data[:] = data[word:] + data[:word]
-        return bytes(data)
+        return data.hex()
 
 
 def print_random(answers, count, seed):
     it = Random(seed)
-    written = kinds_written(answers, [it.chunks() for _ in range(count)])
-    lines = kinds_answered(answers, [it.changed(bytes.fromhex(one)) for one in written])
+    made = [{'chunks': [it.part('chunk') for _ in range(it.choice((1, 1, 1, it.randrange(1, 5))))]} for _ in range(count)]
+    lines = kinds_answered(answers, [it.changed(bytes.fromhex(one)) for one in kinds_written(answers, made)])
     accepted = [line for line in lines if 'chunks' in line]
-    again = dict(zip(map(id, accepted), kinds_written(answers, [line['chunks'] for line in accepted])))
+    for line, written in zip(accepted, kinds_written(answers, accepted)):
+        if written != line['bytes']:
+            line['written'] = written
     for line in lines:
-        line = with_written(line, again[id(line)]) if id(line) in again else line
         print(json.dumps(line, separators=(',', ':')))
 
 
