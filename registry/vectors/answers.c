@@ -144,11 +144,7 @@ static void read_item(struct bytes in, const struct dcsctp_parameter *item)
     if (dcsctp_number(in.at, in.size, item, &alone))
         put("number", alone);
     if (dcsctp_re_config(in.at, in.size, item, &it)) {
-        PUT(it, request_number);
-        PUT(it, response_number);
-        PUT(it, last_tsn);
-        PUT(it, result);
-        PUT(it, new_streams);
+        PUT(it, request_number), PUT(it, response_number), PUT(it, last_tsn), PUT(it, result), PUT(it, new_streams);
         if (it.has_next_tsns) {
             begin("next_tsns", '{');
             put("sender", it.sender_next_tsn);
@@ -165,14 +161,12 @@ static void read_sack(struct bytes in, const struct dcsctp_chunk *chunk, const s
 {
     static struct dcsctp_gap_ack_block blocks[MOST];
     static uint32_t duplicates[MOST];
-    PUT(*it, cumulative_tsn_ack);
-    PUT(*it, a_rwnd);
+    PUT(*it, cumulative_tsn_ack), PUT(*it, a_rwnd);
     begin("blocks", '[');
     size_t count = dcsctp_gap_ack_blocks(in.at, in.size, chunk, blocks, MOST);
     for (size_t at = 0; at < count; at++) {
         begin("", '{');
-        PUT(blocks[at], start);
-        PUT(blocks[at], end);
+        PUT(blocks[at], start), PUT(blocks[at], end);
         end('}');
     }
     end(']');
@@ -190,10 +184,7 @@ static void read_streams(struct bytes in, const struct dcsctp_chunk *chunk)
     size_t count = dcsctp_skipped_streams(in.at, in.size, chunk, streams, MOST);
     for (size_t at = 0; at < count; at++) {
         begin("", '{');
-        PUT(streams[at], stream);
-        PUT(streams[at], ssn);
-        PUT(streams[at], mid);
-        PUT(streams[at], is_unordered);
+        PUT(streams[at], stream), PUT(streams[at], ssn), PUT(streams[at], mid), PUT(streams[at], is_unordered);
         end('}');
     }
     end(']');
@@ -207,29 +198,17 @@ static void read_chunk(struct bytes in, const struct dcsctp_chunk *chunk)
     struct dcsctp_forward_tsn forward_tsn;
     uint32_t tsn;
     begin("", '{');
-    PUT(*chunk, type);
-    PUT(*chunk, flags);
+    PUT(*chunk, type), PUT(*chunk, flags);
     put_bytes("value", in.at + chunk->value_offset, chunk->value_size);
     if (dcsctp_data(in.at, in.size, chunk, &data)) {
-        PUT(data, tsn);
-        PUT(data, mid);
-        PUT(data, fsn);
-        PUT(data, ppid);
-        PUT(data, stream);
-        PUT(data, ssn);
-        PUT(data, is_unordered);
-        PUT(data, is_beginning);
-        PUT(data, is_end);
-        PUT(data, immediate_ack);
+        PUT(data, tsn), PUT(data, mid), PUT(data, fsn), PUT(data, ppid), PUT(data, stream), PUT(data, ssn);
+        PUT(data, is_unordered), PUT(data, is_beginning), PUT(data, is_end), PUT(data, immediate_ack);
         put_bytes("payload", in.at + data.payload_offset, data.payload_size);
     }
     if (dcsctp_sack(in.at, in.size, chunk, &sack))
         read_sack(in, chunk, &sack);
     if (dcsctp_init(in.at, in.size, chunk, &init)) {
-        PUT(init, initiate_tag);
-        PUT(init, a_rwnd);
-        PUT(init, outbound_streams);
-        PUT(init, inbound_streams);
+        PUT(init, initiate_tag), PUT(init, a_rwnd), PUT(init, outbound_streams), PUT(init, inbound_streams);
         PUT(init, initial_tsn);
     }
     if (dcsctp_shutdown(in.at, in.size, chunk, &tsn))
@@ -402,10 +381,7 @@ static void read_registered(void)
                                    : dcsctp_registered_cause(in.at, in.size, &item, &it)))
         return;
     begin("fields", '{');
-    PUT(it, number);
-    PUT(it, second_number);
-    PUT(it, short_number);
-    PUT(it, second_short_number);
+    PUT(it, number), PUT(it, second_number), PUT(it, short_number), PUT(it, second_short_number);
     const uint16_t counts[] = {it.short_number, it.second_short_number, it.third_short_number};
     put_shorts("counts", counts, 3);
     put_bytes("address", in.at + it.address_offset, it.address_size);
