@@ -33,24 +33,24 @@ KINDS = {level: {row.identifier: row for row in rows.values()} for level, rows i
 REGISTERED = {(level, row.number): fields for level in LEVELS for row, fields in words.kinds(TABLE, level)}
 CONSTANTS = {it.name: {row.number: row.identifier for row in TABLE['constant'] if row.of == it.name} for it in TABLE['enum']}
 FAULTS = {number: name.removeprefix('FAULT_').lower() for number, name in CONSTANTS['result'].items()}
-HEADER = '138813890102030400000000'
+HEADER = '138813890102030401010101'
 ITEMS = {'parameters': 'parameter', 'causes': 'cause'}
 """The level of what is in a list, by the list's form."""
 NUMBERED = {'chunk': 'type', 'parameter': 'type', 'cause': 'code'}
 """The key of the number of what is no kind."""
-BROKEN = AttributeError, KeyError, StopIteration, TypeError, ValueError
+BROKEN = AttributeError, KeyError, OverflowError, TypeError, ValueError
 """What is raised for a line that nothing can be asked of."""
 
 
 class Answers:
     """The program, and what it answers."""
 
-    def __init__(self, folder):
+    def __init__(self, folder, source=os.path.join(HERE, 'answers.c')):
         machine = {'AMD64': 'x86_64', 'arm64': 'aarch64'}.get(platform.machine(), platform.machine())
         library = f'dist/dcsctp-{machine}-{"macho" if sys.platform == "darwin" else "elf"}.s'
         self.path = os.path.join(folder, 'answers')
-        subprocess.run([*os.environ.get('CC', 'cc').split(), '-O1', '-o', self.path, os.path.join(HERE, 'answers.c'),
-                        os.path.join(ROOT, library), f'-I{os.path.join(ROOT, "dist")}'], check=True)
+        subprocess.run([*os.environ.get('CC', 'cc').split(), '-O1', '-o', self.path, source, os.path.join(ROOT, library),
+                        f'-I{os.path.join(ROOT, "dist")}'], check=True)
 
     def ask(self, request_of, lines):
         """The answers to the requests that are made of these lines; {} for one of which none can be made."""
@@ -226,7 +226,7 @@ def asked(line):
     yield 'call'
     for name, value in {**line, **line.get('header', {})}.items():
         if name in GIVEN:
-            value = next(number for number, identifier in CONSTANTS[GIVEN[name]].items() if identifier == value)
+            value = {identifier: number for number, identifier in CONSTANTS[GIVEN[name]].items()}[value]
         if name not in ('header', 'returns', 'end') and value is not None:
             yield said('types' if isinstance(value, list) else name, value)
 
