@@ -272,8 +272,12 @@ class Random(random.Random):
         most = (1 << 8 * layouts.WIDTHS[form]) - 1
         return self.choice((self.randint(0, most), self.randint(0, most), self.getrandbits(3), most - self.getrandbits(2)))
 
+    def count(self, most):
+        """How many of a list: mostly few, sometimes more than a byte says."""
+        return self.choice((0, 1, 2, self.randrange(most))) if self.random() < 0.99 else self.randrange(256, 300)
+
     def some(self, least=0):
-        return self.randbytes(max(least, self.choice((self.randrange(5), self.randrange(12), self.randrange(12), 1)))).hex()
+        return self.randbytes(max(least, self.count(12))).hex()
 
     def one_of(self, form):
         if form in layouts.WIDTHS:
@@ -288,7 +292,7 @@ class Random(random.Random):
             if field.what == 'either':
                 part |= {name: self.number(field.form), named(field.other): self.number(field.form)}
             elif field.what == 'list':
-                part[name] = [self.one_of(field.form) for _ in range(self.choice((0, 1, 2, self.randrange(9))))]
+                part[name] = [self.one_of(field.form) for _ in range(self.count(9))]
             elif field.what == 'optional':
                 part[name] = self.choice((None, self.one_of(field.form)))
             elif field.what == 'rest' and field.form in ITEMS:
@@ -315,7 +319,7 @@ class Random(random.Random):
         for _ in range(self.choice((0, 0, 1, 1, 2)) if data else 0):
             at = self.randrange(len(data) or 1)
             word = at // 4 * 4
-            match self.randrange(9) if data else 4:
+            match self.randrange(10) if data else 4:
                 case 0:
                     data[at] ^= 1 << self.randrange(8)
                 case 1:
@@ -333,6 +337,8 @@ class Random(random.Random):
                     del data[word:word + 4]
                 case 8:
                     data[:] = data[word:] + data[:word]
+                case 9:  # (the last padding, if there is one)
+                    data[-self.randrange(1, 4):] = self.randbytes(self.randrange(4))
         return data.hex()
 
 
