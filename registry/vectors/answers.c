@@ -2,7 +2,6 @@
 /* Answers vectors.py by the proved calls: a line of words in, a line of JSON out. The first word is what is asked; the others
    are its arguments, as `name=value`: numbers, bytes in hexadecimal, lists with commas. */
 #include <dcsctp.h>
-#include <stdint.h>
 #include <stdio.h>
 #include <stdlib.h>
 #include <string.h>

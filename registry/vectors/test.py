@@ -87,7 +87,7 @@ def main():
             wanted = []
             for name in vectors.FILES:
                 with open(os.path.join(vectors.HERE, name), encoding='ascii') as file:
-                    lines = [json.dumps(with_plant(json.loads(line), chance)) + '\n' for line in file]
+                    lines = [vectors.text_of(with_plant(json.loads(line), chance)) + '\n' for line in file]
                 wanted += [(f'{name}:{at}', line) for at, line in enumerate(lines, 1)]
                 with open(os.path.join(folder, name), 'w', encoding='ascii') as file:
                     file.writelines(lines)

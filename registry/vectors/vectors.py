@@ -165,13 +165,17 @@ def kinds_written(answers, lines):
     return [it.get('code') or it['bytes'] if it else 'no fields' for it in found]
 
 
+def whole(answers, found, lines):
+    """What is found, and how the chunks of the lines are written, in the order of the keys."""
+    accepted = [(it, line) for it, line in zip(found, lines) if 'chunks' in line]
+    for (it, _), written in zip(accepted, kinds_written(answers, [line for _, line in accepted])):
+        if written != it['bytes']:
+            it['written'] = written
+    return [{key: it[key] for key in ('bytes', 'fault', 'chunks', 'written', 'strict') if key in it} for it in found]
+
+
 def compare_kinds(answers, lines):
-    found = kinds_answered(answers, [line['bytes'] for line in lines])
-    accepted = [at for at, line in enumerate(lines) if 'chunks' in line]
-    for at, written in zip(accepted, kinds_written(answers, [lines[at] for at in accepted])):
-        if written != lines[at]['bytes']:
-            found[at]['written'] = written
-    return found
+    return whole(answers, kinds_answered(answers, [line['bytes'] for line in lines]), lines)
 
 
 # ---- what is kept as bytes
@@ -217,9 +221,8 @@ def compare_registered(answers, lines):
 
 RETURNS = {'unrecognized_chunk': 'action', 'unrecognized_parameter': 'action', 'verify_tag': 'tag_verdict',
            'out_of_the_blue': 'answer', 'init_fault': 'init_fault', 'init_refusal': 'refusal'}
-"""The enum of what a call returns."""
 GIVEN = {'answer': 'answer', 'fault': 'init_fault'}
-"""The enums of arguments."""
+"""The enums of what calls return, and of arguments."""
 
 
 def asked(line):
@@ -246,20 +249,24 @@ def compare_calls(answers, lines):
     return found
 
 
+def text_of(line):
+    return json.dumps(line, separators=(',', ':'))
+
+
 FILES = {'kinds.jsonl': compare_kinds, 'registered.jsonl': compare_registered, 'calls.jsonl': compare_calls}
 
 
 def compare(answers, folder):
-    """How many lines say something else than the calls."""
-    wrong = 0
+    """Whether a line says something else than the calls."""
+    wrong = False
     for name, answered in FILES.items():
         with open(os.path.join(folder, name), encoding='ascii') as file:
-            lines = [json.loads(line) for line in file]
-        for at, (line, found) in enumerate(zip(lines, answered(answers, lines)), 1):
-            if line != found:
-                wrong += 1
-                keys = [key for key in {**line, **found} if line.get(key, ...) != found.get(key, ...)]
-                print(f'{name}:{at}: {", ".join(keys)}: the calls say {json.dumps(found, separators=(",", ":"))}')
+            texts = file.read().splitlines()
+        for at, (text, it) in enumerate(zip(texts, answered(answers, [json.loads(text) for text in texts])), 1):
+            if text != text_of(it):
+                wrong, line = True, json.loads(text)
+                keys = [key for key in {**line, **it} if line.get(key, ...) != it.get(key, ...)] or ['blanks or the order']
+                print(f'{name}:{at}: {", ".join(keys)}: the calls say {text_of(it)}')
     return wrong
 
 
@@ -346,12 +353,7 @@ def print_random(answers, count, seed):
     it = Random(seed)
     made = [{'chunks': [it.part('chunk') for _ in range(it.choice((1, 1, 1, it.randrange(1, 5))))]} for _ in range(count)]
     lines = kinds_answered(answers, [it.changed(bytes.fromhex(one)) for one in kinds_written(answers, made)])
-    accepted = [line for line in lines if 'chunks' in line]
-    for line, written in zip(accepted, kinds_written(answers, accepted)):
-        if written != line['bytes']:
-            line['written'] = written
-    for line in lines:
-        print(json.dumps(line, separators=(',', ':')))
+    print(*map(text_of, whole(answers, lines, lines)), sep='\n')
 
 
 def main(given):
