@@ -54,7 +54,8 @@ compare() {
     # The rows and their stored output are one text.
     cmp crates/test_rows/stdin crates/test_rows/stdout && tools/captures.py --compare && tools/examples.py --compare &&
         tools/api.py --compare && tools/rules.py --compare && tools/links.py . && registry/make.py --compare && registry/test.py &&
-        registry/places.py --compare && registry/test_places.py && have_licenses && plants_fit && tools/lint.sh
+        registry/vectors/vectors.py --compare && registry/vectors/test.py && registry/places.py --compare &&
+        registry/test_places.py && have_licenses && plants_fit && tools/lint.sh
 }
 
 # Whether the library and the program as WebAssembly are those of the modules.
