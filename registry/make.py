@@ -17,7 +17,7 @@ import types
 sys.dont_write_bytecode = True
 import layouts
 import proved
-from languages import c, cpp, go, javascript, page, pages, python, rattle, rust
+from languages import c, cpp, go, javascript, page, pages, python, rattle, rust, typescript
 
 ROOT = os.path.dirname(os.path.dirname(os.path.abspath(__file__)))
 TABLE = 'registry/sctp.txt'
@@ -158,7 +158,7 @@ def between_marks(path, texts):
 
 
 # Of each language the files that are written whole, by their paths, and those that are written between marks.
-LANGUAGES = (rattle, c, python, rust, go, javascript, cpp, page, pages)
+LANGUAGES = (rattle, c, python, rust, go, javascript, typescript, cpp, page, pages)
 MARKED = {path for language in LANGUAGES for path in language.MARKED}
 
 

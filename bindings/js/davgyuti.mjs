@@ -1,7 +1,8 @@
 // SPDX-License-Identifier: Apache-2.0
-// The package for `import`. Its code is davgyuti.js and library.js: in node CommonJS modules, so that `require` has the same. A
+// The package for `import`. Its code is davgyuti.js, kinds.js and library.js: in node CommonJS modules, so that `require` has the same. A
 // browser takes them for modules that export nothing: they leave what they have in globalThis, and dcsctp.wasm is fetched.
 import './library.js';
+import './kinds.js';
 import * as commonJs from './davgyuti.js';
 
 async function fetched() {

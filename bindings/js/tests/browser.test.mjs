@@ -10,7 +10,7 @@ import { test } from 'node:test';
 import { lines } from './answers.mjs';
 
 const FILES = {
-  '/davgyuti.mjs': 'text/javascript', '/davgyuti.js': 'text/javascript', '/library.js': 'text/javascript',
+  '/davgyuti.mjs': 'text/javascript', '/davgyuti.js': 'text/javascript', '/kinds.js': 'text/javascript', '/library.js': 'text/javascript',
   '/tests/answers.mjs': 'text/javascript', '/dcsctp.wasm': 'application/wasm',
 };
 const POLICY = "default-src 'none'; script-src 'self' 'wasm-unsafe-eval' 'unsafe-inline'; connect-src 'self'";

@@ -103,7 +103,7 @@ test('what lies beside the bytes in the memory stays', () => {
     }
     for (const chunk of davgyuti.chunks(packet)) {
       // A chunk that was changed is read as what it says.
-      const other = { ...chunk, type: types[random(types.length)], valueOffset: random(1 << 30) };
+      const other = { flags: chunk.flags, value: chunk.value, type: types[random(types.length)], valueOffset: random(1 << 30) };
       for (const it of [...davgyuti.parameters(chunk), ...davgyuti.causes(chunk), ...davgyuti.parameters(other), ...davgyuti.causes(other)])
         assert.ok(it.value.byteOffset >= 0 && it.value.byteOffset + it.value.length <= packet.length);
     }
@@ -178,7 +178,7 @@ test('a builder that cannot add says why, and stays', () => {
   assert.throws(() => builder.removeLast(), is(Result.BAD_PLACE, undefined, 'no chunk to remove'));
   const noChunk = is(Result.BAD_PLACE, undefined, 'no chunk to add to');
   assert.throws(() => builder.addParameter(1), noChunk);
-  assert.throws(() => builder.addMissingParameters([]), noChunk);
+  assert.throws(() => builder.addCause(2, { types: [] }), noChunk);
   const list = new Builder(PORTS).addChunk(ChunkType.RE_CONFIG);
   assert.throws(() => list.addReConfig({ type: 12 }), is(Result.BAD_VALUE));
   assert.throws(() => list.addReConfig({ type: 16, result: 7 }), is(Result.BAD_VALUE));
@@ -189,7 +189,7 @@ test('a builder that cannot add says why, and stays', () => {
 });
 
 test('two builders, and other calls between', () => {
-  const alone = [1, 2].map(tsn => new Builder(PORTS).addData({ ...DATA, tsn }).addInit(INIT).addNumber(0x8001, tsn).finish());
+  const alone = [1, 2].map(tsn => new Builder(PORTS).addData({ ...DATA, tsn }).addInit(INIT).addParameter(0x8001, { method: tsn }).finish());
   const [first, second] = [new Builder(PORTS), new Builder({ ...PORTS, room: 50_000 })];
   first.addData({ ...DATA, tsn: 1 });
   second.addData({ ...DATA, tsn: 2 });
@@ -197,8 +197,8 @@ test('two builders, and other calls between', () => {
   first.addInit(INIT);
   for (const chunk of davgyuti.chunks(alone[0]))
     [...davgyuti.parameters(chunk)];
-  second.addInit(INIT).addNumber(0x8001, 2);
-  first.addNumber(0x8001, 1);
+  second.addInit(INIT).addParameter(0x8001, { method: 2 });
+  first.addParameter(0x8001, { method: 1 });
   assert.deepEqual([first.finish(), second.finish()], alone);
 });
 
@@ -221,7 +221,7 @@ test('values of another type or size are refused', () => {
     assert.throws(() => new Builder(PORTS).addData({ ...DATA, stream: it }), error);
     assert.throws(() => new Builder(PORTS).addInit({ ...INIT, inboundStreams: it }), error);
     assert.throws(() => new Builder(PORTS).addSack({ cumulativeTsnAck: 1, aRwnd: 1, blocks: [{ start: 2, end: it }] }), error);
-    assert.throws(() => new Builder(PORTS).addInit(INIT).addMissingParameters([it]), error);
+    assert.throws(() => new Builder(PORTS).addInit(INIT).addCause(2, { types: [it] }), error);
     assert.throws(() => davgyuti.cleanBlocks([{ start: it, end: 1 }]), error);
   }
   for (const it of [-1, 2 ** 32, 1.5, NaN])
@@ -243,7 +243,7 @@ test('what is no list is no empty one', () => {
     assert.throws(() => builder.addSack({ cumulativeTsnAck: 1, aRwnd: 2, duplicates: it }), TypeError);
     for (const name of ['addForwardTsn', 'addIForwardTsn'])
       assert.throws(() => builder[name]({ newCumulativeTsn: 1, streams: it }), TypeError);
-    assert.throws(() => builder.addMissingParameters(it), TypeError);
+    assert.throws(() => builder.addCause(2, { types: it }), TypeError);
     assert.throws(() => davgyuti.cleanBlocks(it), TypeError);
   }
   assert.equal(builder.size, size);
@@ -282,7 +282,7 @@ test('a TypeError names what it refuses', () => {
     'an item of streams is 5, and not an object': () => builder.addForwardTsn({ newCumulativeTsn: 1, streams: [5] }),
     'an item of streams is "5", and not a number': () => builder.addReConfig({ type: 13, streams: ['5'] }),
     'an item of blocks is null, and not an object': () => davgyuti.cleanBlocks([null]),
-    'types is 5, and not a list': () => builder.addMissingParameters(5),
+    'types is 5, and not a list': () => builder.addCause(2, { types: 5 }),
     'chunk is undefined, and not an object': () => davgyuti.parameters(),
     'sourcePort is "5000", and not a number': () => new Builder({ ...PORTS, sourcePort: '5000' }),
     'verificationTag is 1n, and not a number': () => new Builder({ ...PORTS, verificationTag: 1n }),

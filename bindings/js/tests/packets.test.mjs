@@ -9,7 +9,6 @@ import { test } from 'node:test';
 import { fileURLToPath } from 'node:url';
 import * as davgyuti from '../davgyuti.mjs';
 import { lines } from './answers.mjs';
-import { rebuilt } from './rebuilt.mjs';
 
 const path = name => fileURLToPath(new URL(name, import.meta.url));
 const ROOT = '../../../', COUNT = 4000;
@@ -27,20 +26,6 @@ function packets() {
   const examples = readFileSync(path(`${ROOT}examples/packets.txt`), 'utf8');
   return execFileSync('python3', [path(`${ROOT}dist/packets.py`), String(COUNT), '1'], { ...options, input: examples });
 }
-
-test('packets that are built anew of what is read of them mean the same', { skip: noPython }, () => {
-  let count = 0;
-  for (const hex of packets().trimEnd().split('\n')) {
-    const packet = bytes(hex);
-    if (davgyuti.firstFault(packet) === null) {
-      const own = rebuilt(packet);
-      davgyuti.check(own, { strictPadding: true });
-      assert.deepEqual(davgyuti.canonical(own), davgyuti.canonical(packet), hex);
-      count++;
-    }
-  }
-  assert.ok(count > COUNT / 4, `${count} packets`);
-});
 
 // The library for this machine: a file that DCSCTP_LIBRARY names, or the text in dist/.
 const texts = { 'linux x64': 'dcsctp-x86_64-elf.s', 'linux arm64': 'dcsctp-aarch64-elf.s' };

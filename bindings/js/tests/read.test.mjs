@@ -8,7 +8,7 @@ import * as davgyuti from '../davgyuti.mjs';
 const { Builder, ChunkType, Fault, causes, chunks, parameters, read } = davgyuti;
 const POLICIES = [{}, { zeroChecksum: true, strictPadding: true }, { anyChecksum: true }, { allowedZeroChecksum: true }];
 const FIELDS = ['type', 'name', 'flags', 'offset', 'valueOffset', 'next', 'value', 'bytes', 'data', 'sack', 'init', 'shutdown', 'forwardTsn'];
-const ITEM_FIELDS = ['type', 'code', 'name', 'offset', 'next', 'value', 'bytes', 'number', 'reConfig', 'missing'];
+const ITEM_FIELDS = ['type', 'code', 'name', 'offset', 'next', 'value', 'bytes', 'method', 'tsn', 'types', 'reConfig'];
 const fieldsOf = (it, names = FIELDS) => Object.fromEntries(names.map(name => [name, it[name]]));
 const itemsOf = items => Array.from(items, it => fieldsOf(it, ITEM_FIELDS));
 
@@ -91,8 +91,8 @@ test('lists are those of their packet, whatever is called in between', () => {
     .addSack({ cumulativeTsnAck: n, aRwnd: 2, blocks: [{ start: n, end: n + 1 }], duplicates: [n, n + 1] })
     .addForwardTsn({ newCumulativeTsn: n, streams: [{ stream: n, ssn: n + 1 }] })
     .addHeartbeat(new Uint8Array(n).fill(n))
-    .addChunk(ChunkType.RE_CONFIG).addReConfig({ type: 14, requestNumber: n, streams: [n, n + 2] }).addNumber(0x8001, n)
-    .addChunk(ChunkType.ERROR).addMissingParameters([n, n + 3]).addNumber(9, n).finish();
+    .addChunk(ChunkType.RE_CONFIG).addReConfig({ type: 14, requestNumber: n, streams: [n, n + 2] }).addParameter(0x8001, { method: n })
+    .addChunk(ChunkType.ERROR).addCause(2, { types: [n, n + 3] }).addCause(9, { tsn: n }).finish();
   const between = [() => {}, () => read(of(9)), () => davgyuti.report(of(9)), () => davgyuti.cleanBlocks([{ start: 1, end: 2 }]), () => of(60_000 % 251)];
   for (const call of between) {
     for (const bytes of [of(7), Buffer.from(of(7)), new Uint8Array([...of(7), 0, 0]).subarray(0, of(7).length)]) {
@@ -121,23 +121,6 @@ test('blocks are in order where each begins two past the end before it', () => {
   }
 });
 
-test('each parameter of RE-CONFIG, and streams of both kinds', () => {
-  const builder = new Builder({ sourcePort: 1, destinationPort: 2, verificationTag: 3 });
-  const numbers = { requestNumber: 0x80000001, responseNumber: 0xfffffffe, lastTsn: 0x87654321, result: 6, newStreams: 0xfedc };
-  const next = { hasNextTsns: true, senderNextTsn: 0x90000000, receiverNextTsn: 0xffffffff };
-  builder.addChunk(ChunkType.RE_CONFIG);
-  for (let type = 13; type <= 18; type++)
-    builder.addReConfig({ ...numbers, type, streams: type < 15 ? [0, 7, 0xffff] : [] });
-  for (const it of [{ type: 13 }, { type: 14 }, { type: 16, ...next }])
-    builder.addReConfig(it);
-  builder.addForwardTsn({ newCumulativeTsn: 1, streams: [] }).addIForwardTsn({ newCumulativeTsn: 2, streams: [] })
-    .addForwardTsn({ newCumulativeTsn: 3, streams: [{ stream: 0xffff, ssn: 0xfffe }, { stream: 1, ssn: 2 }] })
-    .addIForwardTsn({ newCumulativeTsn: 4, streams: [{ stream: 0xffff, mid: 0xfffffffe, isUnordered: true }, { stream: 1, mid: 2 }] });
-  const packet = builder.finish();
-  assert.ok(compare(packet, { strictPadding: true }));
-  assert.deepEqual(Array.from(parameters(read(packet).chunks[0]), it => it.reConfig.type), [13, 14, 15, 16, 17, 18, 13, 14, 16]);
-});
-
 test('the longest lists', () => {
   const shorts = all => all.flatMap(it => [it >> 8, it & 255]);
   for (const [type, numbers, item] of [
@@ -158,10 +141,10 @@ test('the longest lists', () => {
 
 test('whatever becomes of the bytes that were read, nothing is thrown, and numbers stay', () => {
   const packet = new Builder({ sourcePort: 1, destinationPort: 2, verificationTag: 3 }).addInit({ initiateTag: 1, aRwnd: 2,
-    outboundStreams: 3, inboundStreams: 4, initialTsn: 5 }).addParameter(7, new Uint8Array(5)).addNumber(0x8001, 6)
+    outboundStreams: 3, inboundStreams: 4, initialTsn: 5 }).addParameter(7, new Uint8Array(5)).addParameter(0x8001, { method: 6 })
     .addSack({ cumulativeTsnAck: 7, aRwnd: 8, blocks: [{ start: 9, end: 10 }, { start: 12, end: 13 }], duplicates: [11] })
     .addForwardTsn({ newCumulativeTsn: 12, streams: [{ stream: 13, ssn: 14 }] })
-    .addChunk(ChunkType.ERROR).addMissingParameters([15, 16]).addNumber(9, 17).finish();
+    .addChunk(ChunkType.ERROR).addCause(2, { types: [15, 16] }).addCause(9, { tsn: 17 }).finish();
   for (let i = 0; i < 2000; i++) {
     const bytes = packet.slice(), { chunks: all } = read(bytes);
     for (let k = 0; k < 30; k++)

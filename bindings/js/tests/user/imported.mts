@@ -68,17 +68,17 @@ function itemsOf(chunk: Chunk): void {
     if (it.reConfig) {
       const type: ReConfigType = it.type, same: 13 | 14 | 15 | 16 | 17 | 18 = type;
       numbers.push(same, ...it.reConfig.streams);
-    } else if (it.number !== undefined) {
+    } else if (it.method !== undefined) {
       const type: typeof ParameterType.ZERO_CHECKSUM_ACCEPTABLE = it.type;
-      numbers.push(type, it.number, ...it.bytes);
+      numbers.push(type, it.method, ...it.bytes);
     }
-    // @ts-expect-error not every parameter has a number
-    numbers.push(it.number);
+    // @ts-expect-error not every parameter has a method
+    numbers.push(it.method);
   }
   for (const it of causes(chunk)) {
-    if (it.missing) {
+    if (it.types) {
       const code: typeof CauseCode.MISSING_MANDATORY_PARAMETER = it.code;
-      numbers.push(code, ...it.missing);
+      numbers.push(code, ...it.types);
     }
   }
 }
@@ -129,7 +129,7 @@ const bare: Chunk = readChunk(bytes);
 if (bare.type === ChunkType.INIT)
   numbers.push(bare.init.initiateTag);
 const made: Parameter = parameter(ParameterType.STATE_COOKIE, bytes);
-numbers.push(made.type, causeOf(CauseCode.NO_USER_DATA, bytes).number ?? 0, dataFlags({ isEnd: true }));
+numbers.push(made.type, causeOf(CauseCode.NO_USER_DATA, { tsn: 1 }).tsn ?? 0, dataFlags({ isEnd: true }));
 const data = withFlags({ tsn: 1, stream: 2, payload: bytes }, 3);
 new Builder({ sourcePort: 1, destinationPort: 2, verificationTag: 3 }).addData(data).lastChunk()?.bytes;
 if (!needsChecksum(bytes))
@@ -169,7 +169,7 @@ for (const chunk of chunks(packet)) {
     builder.addRegisteredChunk(ChunkType.ASCONF, asconf);
 }
 builder.addRegisteredChunk(ChunkType.ASCONF, { sequenceNumber: 1, address: bytes, parameters: [
-  parameter(ParameterType.ADD_IP_ADDRESS, { request: 1, address: '192.0.2.1' }),
+  parameter(ParameterType.ADD_IP_ADDRESS, { correlationId: 1, address: '192.0.2.1' }),
 ] }).addRegisteredParameter(ParameterType.SUPPORTED_ADDRESS_TYPES, { types: new Set([5, 6]) }).addRegisteredCause(CauseCode.OUT_OF_RESOURCE, {});
 builder.addRegisteredChunk(ChunkType.AUTH, { key: 1, hmacIdentifier: 3 });
 // @ts-expect-error an address is missing
