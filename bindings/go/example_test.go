@@ -184,34 +184,6 @@ func ExampleBuilder_AddRegisteredChunk() {
 	// ASCONF sequence number=1726187435 address=192.0.2.1 parameters=28 bytes [2001:db8::2]
 }
 
-// An INIT with the addresses of its sender (RFC 9260 section 3.3.2.1).
-func ExampleBuilder_AddRegisteredParameter() {
-	packet, err := davgyuti.Begin(make([]byte, 1200), 5000, 5000, 0)
-	if err == nil {
-		err = packet.AddInit(davgyuti.Init{InitiateTag: 0x0da73798, ARwnd: 1 << 17, OutboundStreams: 4, InboundStreams: 4,
-			InitialTSN: 0x66e387ab})
-	}
-	for _, text := range []string{"192.0.2.1", "198.51.100.1", "2001:db8::1", "2001:db8::2"} {
-		it := davgyuti.Registered{Address: netip.MustParseAddr(text)}
-		parameterType := davgyuti.ParameterIPv6Address
-		if it.Address.Is4() {
-			parameterType = davgyuti.ParameterIPv4Address
-		}
-		if err == nil {
-			err = packet.AddRegisteredParameter(parameterType, it)
-		}
-	}
-	if err == nil {
-		err = packet.Seal()
-	}
-	init, _ := packet.LastChunk()
-	fmt.Printf("%x\n%x %v\n%v\n", packet.Bytes()[:48], packet.Bytes()[48:], err, addresses(init))
-	// Output:
-	// 13881388000000001284eab20100004c0da73798000200000004000466e387ab00050008c000020100050008c6336401
-	// 0006001420010db80000000000000000000000010006001420010db8000000000000000000000002 <nil>
-	// [192.0.2.1 198.51.100.1 2001:db8::1 2001:db8::2]
-}
-
 func ExamplePacket_Check() {
 	packet, _ := hex.DecodeString("13881388010203040000000a0b000004")
 	err := davgyuti.Packet(packet).Check(davgyuti.Policy{})
@@ -220,44 +192,4 @@ func ExamplePacket_Check() {
 		fmt.Println(fault.Offset, errors.Is(err, davgyuti.ErrChecksum), err)
 	}
 	// Output: 8 true davgyuti: wrong checksum at byte 8
-}
-
-// What an INIT ACK sends back of the INIT: the parameters that aren't known, and whose type asks for it, up to one whose type
-// asks to ignore the rest (section 3.2.1).
-func ExampleParameter_Bytes() {
-	packet, _ := hex.DecodeString("138813880000000000000000" + "0100002400000001000100000001000100000001" +
-		"c004000801020304" + "40010004" + "c0060004")
-	chunk, _ := davgyuti.Packet(packet).ChunkAt(davgyuti.FirstChunk)
-	reply, err := davgyuti.Begin(make([]byte, 1200), 5000, 5000, 1)
-	if err == nil {
-		err = reply.AddInitAck(davgyuti.Init{InitiateTag: 2, ARwnd: 1 << 17, OutboundStreams: 1, InboundStreams: 1, InitialTSN: 3})
-	}
-	known := map[davgyuti.ParameterType]bool{davgyuti.ParameterForwardTSNSupported: true} // to this side
-	for parameters := chunk.Parameters(); err == nil && parameters.Next(); {
-		parameter := parameters.Value()
-		if known[parameter.Type] {
-			continue
-		}
-		action := parameter.Type.UnrecognizedAction()
-		if action.Reports() {
-			fmt.Println(parameter.Type, "at byte", parameter.Offset)
-			err = reply.AddParameter(davgyuti.ParameterUnrecognizedParameter, parameter.Bytes())
-		}
-		if !action.Skips() {
-			break
-		}
-	}
-	fmt.Printf("%x %v\n", reply.Bytes()[32:], err)
-	// Output:
-	// Set Primary Address at byte 32
-	// parameter type 16385 (0x4001) at byte 40
-	// 0008000cc0040008010203040008000840010004 <nil>
-}
-
-func ExamplePacket_Print() {
-	packet, _ := hex.DecodeString("138813884d2df52d67db78b50b000004")
-	fmt.Println(davgyuti.Packet(packet).Print(davgyuti.Policy{}))
-	// Output:
-	// source=5000 destination=5000 tag=1294857517 checksum=1742436533
-	// COOKIE-ACK <nil>
 }

@@ -8,6 +8,7 @@ import "C"
 import (
 	"errors"
 	"fmt"
+	"unsafe"
 )
 
 // Chunks after AUTH (RFC 4895) and State Cookies (section 5.1.3), by HMACs with SHA-1 or SHA-256 under keys of any length.
@@ -25,9 +26,10 @@ func (t ChunkType) IsListed(list []byte) bool {
 // without padding: their Bytes.
 func SharedKey(pairKey, one, other []byte) []byte {
 	output := make([]byte, len(pairKey)+len(one)+len(other))
-	result := C.go_shared_key(bytesOf(output), C.size_t(len(output)), bytesOf(pairKey), C.size_t(len(pairKey)),
+	var size C.size_t
+	C.dcsctp_shared_key(bytesOf(output), C.size_t(len(output)), &size, bytesOf(pairKey), C.size_t(len(pairKey)),
 		bytesOf(one), C.size_t(len(one)), bytesOf(other), C.size_t(len(other)))
-	return output[:result.size]
+	return output[:size]
 }
 
 // VerifyAuth returns whether the chunk is an AUTH whose HMAC, of the packet from the chunk on, is right under an
@@ -52,7 +54,7 @@ func (chunk Chunk) SignAuth(key []byte) error {
 // toEnd returns the packet from the chunk on.
 func (chunk Chunk) toEnd() []byte {
 	packet := chunk.packet()
-	return packet.part(C.size_t(chunk.Offset), C.size_t(len(packet)-chunk.Offset))
+	return packet.part(chunk.Offset, len(packet)-chunk.Offset)
 }
 
 // A Cookie is what a State Cookie says: what its sender needs to set up the association, and for how long (section 5.1.3).
@@ -74,23 +76,20 @@ type Cookie struct {
 // cookieSize is the size of a State Cookie without addresses.
 const cookieSize = 72
 
+// numbersOf returns the numbers of a Cookie, or of C's, which has the same before the addresses.
+func numbersOf(cookie unsafe.Pointer) *[unsafe.Offsetof(Cookie{}.Addresses)]byte {
+	return (*[unsafe.Offsetof(C.struct_dcsctp_cookie{}.addresses_offset)]byte)(cookie)
+}
+
 // Seal returns the State Cookie, with an HMAC under a key that nobody else knows.
 func (cookie Cookie) Seal(key []byte) []byte {
 	output := make([]byte, cookieSize+len(cookie.Addresses))
-	result := C.go_seal_cookie(bytesOf(output), C.size_t(len(output)), bytesOf(key), C.size_t(len(key)),
-		C.struct_dcsctp_cookie{
-			created:           C.uint64_t(cookie.Created),
-			lifespan:          C.uint64_t(cookie.Lifespan),
-			local_tag:         C.uint32_t(cookie.LocalTag),
-			peer_tag:          C.uint32_t(cookie.PeerTag),
-			local_initial_tsn: C.uint32_t(cookie.LocalInitialTSN),
-			peer_initial_tsn:  C.uint32_t(cookie.PeerInitialTSN),
-			local_port:        C.uint16_t(cookie.LocalPort),
-			peer_port:         C.uint16_t(cookie.PeerPort),
-			outbound_streams:  C.uint16_t(cookie.OutboundStreams),
-			inbound_streams:   C.uint16_t(cookie.InboundStreams),
-		}, bytesOf(cookie.Addresses), C.size_t(len(cookie.Addresses)))
-	return output[:result.size]
+	var size C.size_t
+	var it C.struct_dcsctp_cookie
+	*numbersOf(unsafe.Pointer(&it)) = *numbersOf(unsafe.Pointer(&cookie))
+	C.dcsctp_seal_cookie(bytesOf(output), C.size_t(len(output)), &size, bytesOf(key), C.size_t(len(key)), &it,
+		bytesOf(cookie.Addresses), C.size_t(len(cookie.Addresses)))
+	return output[:size]
 }
 
 // ErrInvalidCookie says that bytes aren't a State Cookie that was sealed under the key: the packet is discarded, without an
@@ -112,26 +111,17 @@ func (e *StaleCookieError) Error() string {
 // OpenCookie opens a State Cookie at a time in microseconds, on the clock by which it was sealed. It is good from before it
 // was created, on a clock that was set back, to the end of its life. The error is ErrInvalidCookie or a *StaleCookieError.
 func OpenCookie(key, bytes []byte, now uint64) (Cookie, error) {
-	opened := C.go_open_cookie(bytesOf(key), C.size_t(len(key)), bytesOf(bytes), C.size_t(len(bytes)), C.uint64_t(now))
-	if opened.state == C.DCSCTP_COOKIE_INVALID {
+	var it C.struct_dcsctp_cookie
+	var staleness C.uint64_t
+	state := C.dcsctp_open_cookie(bytesOf(key), C.size_t(len(key)), bytesOf(bytes), C.size_t(len(bytes)), C.uint64_t(now), &it,
+		&staleness)
+	if state == C.DCSCTP_COOKIE_INVALID {
 		return Cookie{}, ErrInvalidCookie
 	}
-	it := opened.it
-	cookie := Cookie{
-		Created:         uint64(it.created),
-		Lifespan:        uint64(it.lifespan),
-		LocalTag:        uint32(it.local_tag),
-		PeerTag:         uint32(it.peer_tag),
-		LocalInitialTSN: uint32(it.local_initial_tsn),
-		PeerInitialTSN:  uint32(it.peer_initial_tsn),
-		LocalPort:       uint16(it.local_port),
-		PeerPort:        uint16(it.peer_port),
-		OutboundStreams: uint16(it.outbound_streams),
-		InboundStreams:  uint16(it.inbound_streams),
-		Addresses:       Packet(bytes).part(it.addresses_offset, it.addresses_size),
-	}
-	if opened.state == C.DCSCTP_COOKIE_STALE {
-		return Cookie{}, &StaleCookieError{cookie, uint64(opened.staleness)}
+	cookie := Cookie{Addresses: Packet(bytes).part(int(it.addresses_offset), int(it.addresses_size))}
+	*numbersOf(unsafe.Pointer(&cookie)) = *numbersOf(unsafe.Pointer(&it))
+	if state == C.DCSCTP_COOKIE_STALE {
+		return Cookie{}, &StaleCookieError{cookie, uint64(staleness)}
 	}
 	return cookie, nil
 }

@@ -5,7 +5,12 @@ package davgyuti
 // #include "calls.h"
 import "C"
 
-import "encoding/binary"
+import (
+	"encoding/binary"
+	"unsafe"
+
+	"davgyuti.example/davgyuti/internal/direct"
+)
 
 // A Parsed is a packet that Read has checked in one call of C, and read with all its chunks and their lists. Keep one, and read packet
 // after packet into it: of a packet nothing is allocated, once it has the memory that the largest one took (a packet can have 16,380
@@ -29,26 +34,20 @@ import "encoding/binary"
 // What its methods return holds until the next Read, and as long as the packet's bytes aren't changed. One goroutine at a time
 // may read into it; then any number may look at it.
 type Parsed struct {
-	Header     Header
-	packet     Packet
-	rows       []row
-	blocks     []GapAckBlock
-	duplicates []uint32
-	streams    []SkippedStream
-	items      []place // the parameters and error causes
+	Header Header
+	packet Packet
+	rows   []row
+	lists
+	items []place // the parameters and error causes
 }
 
-// A row is where a chunk is, and which of the lists are its own.
+// A row is where a chunk is, and which of the lists are its own: up to two of numbers, or one of parameters or error causes.
 type row struct {
 	place
-	chunkType                      ChunkType
-	flags                          uint8
-	first, count                   uint16
-	firstDuplicate, duplicateCount uint16
+	chunkType ChunkType
+	flags     uint8
+	lists     [2]struct{ first, end uint16 }
 }
-
-// list returns the bounds of the chunk's list, among those of all chunks.
-func (row *row) list() (from, to int) { return int(row.first), int(row.first) + int(row.count) }
 
 // Read reads a packet, and returns nil; or an *Error, as Check returns it, and then there are no chunks, and Header is zero.
 func (parsed *Parsed) Read(packet Packet, policy Policy) error {
@@ -96,8 +95,8 @@ func (parsed *Parsed) read(packet Packet, isAccepted bool) {
 	}
 	header := (*[FirstChunk]byte)(packet)
 	parsed.Header = Header{shortAt(header[:], 0), shortAt(header[:], 2), numberAt(header[:], 4), numberAt(header[:], 8)}
-	parsed.blocks, parsed.duplicates = parsed.blocks[:0], parsed.duplicates[:0]
-	parsed.streams, parsed.items = parsed.streams[:0], parsed.items[:0]
+	parsed.lists.clear()
+	parsed.items = parsed.items[:0]
 	for it, isThere := placeAt(packet, FirstChunk); isThere; it, isThere = placeAt(packet, it.next()) {
 		parsed.rows = append(parsed.rows, row{})
 		row := &parsed.rows[len(parsed.rows)-1]
@@ -111,168 +110,120 @@ func (parsed *Parsed) read(packet Packet, isAccepted bool) {
 // readLists reads the lists of a chunk.
 func (parsed *Parsed) readLists(row *row) {
 	value := row.value(parsed.packet)
-	switch row.chunkType {
-	case ChunkSACK:
-		blocks, duplicates := listsOfSACK(row.chunkType, value)
-		row.first, row.count = uint16(len(parsed.blocks)), uint16(len(blocks)/4)
-		row.firstDuplicate, row.duplicateCount = uint16(len(parsed.duplicates)), uint16(len(duplicates)/4)
-		parsed.readBlocks(blocks)
-		for ; len(duplicates) >= 4; duplicates = duplicates[4:] {
-			parsed.duplicates = append(parsed.duplicates, numberAt(duplicates, 0))
-		}
-	case ChunkForwardTSN, ChunkIForwardTSN:
-		row.first = uint16(len(parsed.streams))
-		list, size, of := listOfStreams(row.chunkType, value)
-		for ; len(list) >= size; list = list[size:] {
-			parsed.streams = append(parsed.streams, of(list))
-		}
-		row.count = uint16(len(parsed.streams)) - row.first
-	default:
-		row.first = uint16(len(parsed.items))
-		list := listOfItems(row.chunkType, value)
-		from := int(row.offset) + 4 + len(value) - len(list)
-		for it, isThere := placeAt(list, 0); isThere; it, isThere = placeAt(list, it.next()) {
-			parsed.items = append(parsed.items, place{uint16(from) + it.offset, it.size})
-		}
-		row.count = uint16(len(parsed.items)) - row.first
+	if parsed.lists.read(row, value) {
+		return
 	}
-}
-
-// readBlocks reads the gap ack blocks of a SACK. Of many the library's loop takes less time, with the call.
-func (parsed *Parsed) readBlocks(blocks []byte) {
-	to := parsed.blocks
-	if len(blocks) >= 400 {
-		before, count := len(to), len(to)+len(blocks)/4
-		if count > cap(to) {
-			room := 2 * cap(to) // (a packet can have more than a hundred such lists)
-			if room < count {
-				room = count
-			}
-			to = append(make([]GapAckBlock, 0, room), to...)
-		}
-		to = to[:count]
-		parsed.Chunk(len(parsed.rows) - 1).fillBlocks(to[before:])
-	} else {
-		for ; len(blocks) >= 4; blocks = blocks[4:] {
-			to = append(to, blockOf(blocks))
-		}
+	list := itemsOf(row.chunkType, value)
+	if len(list) == 0 {
+		return
 	}
-	parsed.blocks = to
+	row.lists[0].first = uint16(len(parsed.items))
+	from := row.offset + 4 + uint16(len(value)-len(list))
+	for it, isThere := placeAt(list, 0); isThere; it, isThere = placeAt(list, it.next()) {
+		parsed.items = append(parsed.items, place{from + it.offset, it.size})
+	}
+	row.lists[0].end = uint16(len(parsed.items))
 }
 
 // Len returns how many chunks there are.
 func (parsed *Parsed) Len() int { return len(parsed.rows) }
 
-// Chunk returns a chunk, by its index; it panics as a slice does where there is none. Of its methods Data, SACK, Init, Shutdown and
-// ForwardTSN call no C, and allocate nothing, nor do those of the Parsed.
+// Chunk returns a chunk, by its index; it panics as a slice does where there is none.
 func (parsed *Parsed) Chunk(i int) Chunk {
 	row, next := &parsed.rows[i], len(parsed.packet)
 	if it := row.next(); it < next {
 		next = it
 	}
-	return Chunk{row.chunkType, row.flags, row.value(parsed.packet), int(row.offset), next, &parsed.packet[0], ^len(parsed.packet)}
+	return Chunk{row.chunkType, row.flags, row.value(parsed.packet), int(row.offset), next, &parsed.packet[0], len(parsed.packet)}
 }
 
-// Type returns the type of a chunk, by its index. It and the next five take less time than Chunk, which copies more; they panic as
-// it does.
+// Type returns the type of a chunk, by its index. It, and what reads a chunk of a type by its index, take less time than Chunk, which
+// copies more; they panic as it does.
 func (parsed *Parsed) Type(i int) ChunkType { return parsed.rows[i].chunkType }
 
-// Data reads DATA or I-DATA; false for another type.
-func (parsed *Parsed) Data(i int) (data Data, ok bool) {
-	row := &parsed.rows[i]
-	ok = data.read(row.chunkType, row.flags, row.value(parsed.packet))
-	return data, ok
-}
-
-// SACK reads the numbers of a SACK; false for another type.
-func (parsed *Parsed) SACK(i int) (SACK, bool) {
-	row := &parsed.rows[i]
-	return sackOf(row.chunkType, row.value(parsed.packet))
-}
-
-// Init reads the numbers of INIT or INIT ACK; false for another type.
-func (parsed *Parsed) Init(i int) (Init, bool) {
-	row := &parsed.rows[i]
-	return initOf(row.chunkType, row.value(parsed.packet))
-}
-
-// Shutdown reads the cumulative TSN ack of SHUTDOWN; false for another type.
-func (parsed *Parsed) Shutdown(i int) (cumulativeTSNAck uint32, ok bool) {
-	row := &parsed.rows[i]
-	return shutdownOf(row.chunkType, row.value(parsed.packet))
-}
-
-// ForwardTSN reads the numbers of FORWARD-TSN or I-FORWARD-TSN; false for another type.
-func (parsed *Parsed) ForwardTSN(i int) (ForwardTSN, bool) {
-	row := &parsed.rows[i]
-	return forwardTSNOf(row.chunkType, row.value(parsed.packet))
-}
-
-// GapAckBlocks returns those of a chunk that is a SACK, and none of another.
-func (parsed *Parsed) GapAckBlocks(i int) []GapAckBlock {
-	row := &parsed.rows[i]
-	if row.chunkType != ChunkSACK {
-		return nil
-	}
-	from, to := row.list()
-	return parsed.blocks[from:to:to]
-}
-
-// DuplicateTSNs returns those of a chunk that is a SACK, and none of another.
-func (parsed *Parsed) DuplicateTSNs(i int) []uint32 {
-	row := &parsed.rows[i]
-	from, to := int(row.firstDuplicate), int(row.firstDuplicate)+int(row.duplicateCount)
-	return parsed.duplicates[from:to:to]
-}
-
-// SkippedStreams returns those of a chunk that is FORWARD-TSN or I-FORWARD-TSN, and none of another.
-func (parsed *Parsed) SkippedStreams(i int) []SkippedStream {
-	row := &parsed.rows[i]
-	if row.chunkType != ChunkForwardTSN && row.chunkType != ChunkIForwardTSN {
-		return nil
-	}
-	from, to := row.list()
-	return parsed.streams[from:to:to]
-}
-
-// itemsOf returns the places of a chunk's error causes, or of its parameters.
-func (parsed *Parsed) itemsOf(i int, areCauses bool) []place {
-	row := &parsed.rows[i]
-	switch row.chunkType {
-	case ChunkSACK, ChunkForwardTSN, ChunkIForwardTSN:
-		return nil
-	}
-	if row.chunkType.hasCauses() != areCauses {
-		return nil
-	}
-	from, to := row.list()
-	return parsed.items[from:to:to]
-}
-
-// ParameterCount returns how many parameters a chunk has: none for ABORT and ERROR, and types that have no list.
-func (parsed *Parsed) ParameterCount(i int) int { return len(parsed.itemsOf(i, false)) }
-
-// Parameter returns a parameter of a chunk, by both indices; it panics where there is none.
-func (parsed *Parsed) Parameter(i, index int) Parameter {
-	it := parsed.itemsOf(i, false)[index]
-	return parameterOf(parsed.packet, shortAt(parsed.packet, int(it.offset)), int(it.offset), it.value(parsed.packet))
-}
-
-// CauseCount returns how many error causes a chunk has: none, unless it is ABORT or ERROR.
-func (parsed *Parsed) CauseCount(i int) int { return len(parsed.itemsOf(i, true)) }
-
-// Cause returns an error cause of a chunk, by both indices; it panics where there is none.
-func (parsed *Parsed) Cause(i, index int) Cause {
-	it := parsed.itemsOf(i, true)[index]
-	return causeOf(parsed.packet, shortAt(parsed.packet, int(it.offset)), int(it.offset), it.value(parsed.packet))
-}
-
-// What a Parsed has is read at its place in the packet, which C has accepted. Whatever the bytes become after that, each read stays
-// within them.
+// ---- numbers in bytes, the most significant byte first
 
 func shortAt(bytes []byte, at int) uint16 { return binary.BigEndian.Uint16(bytes[at:]) }
 
 func numberAt(bytes []byte, at int) uint32 { return binary.BigEndian.Uint32(bytes[at:]) }
+
+func putShort(bytes []byte, at int, number uint16) { binary.BigEndian.PutUint16(bytes[at:], number) }
+
+func putNumber(bytes []byte, at int, number uint32) { binary.BigEndian.PutUint32(bytes[at:], number) }
+
+func bitOf(is bool) uint8 {
+	if is {
+		return 1
+	}
+	return 0
+}
+
+// Lists of numbers lie in Go's memory as they do in a packet, but for the order of each number's bytes: every processor that there is
+// a text for has the least significant one first.
+
+// bytesIn returns the bytes of a slice of numbers, or of structs of them.
+func bytesIn[T any](items []T) []byte {
+	return unsafe.Slice((*byte)(first(items)), len(items)*int(unsafe.Sizeof(*new(T))))
+}
+
+// grown returns a slice with room for the items that a list has, and the bytes of these.
+func grown[T any](to []T, list []byte) ([]T, []byte) {
+	before, size := len(to), int(unsafe.Sizeof(*new(T)))
+	if end := before + len(list)/size; end <= cap(to) {
+		to = to[:end]
+	} else {
+		to = append(to, make([]T, end-before)...)
+	}
+	return to, bytesIn(to[before:])
+}
+
+// appendShorts adds what is made of numbers of two bytes.
+func appendShorts[T any](to []T, list []byte) []T {
+	if len(list) == 0 {
+		return to
+	}
+	to, added := grown(to, list)
+	swapShorts(added, list)
+	return to
+}
+
+func appendNumbers[T any](to []T, list []byte) []T {
+	if len(list) == 0 {
+		return to
+	}
+	to, added := grown(to, list)
+	swapNumbers(added, list)
+	return to
+}
+
+func putShorts[T any](to []byte, items []T) { swapShorts(to, bytesIn(items)) }
+
+func putNumbers[T any](to []byte, items []T) { swapNumbers(to, bytesIn(items)) }
+
+// swapShorts copies numbers of two bytes, each with its bytes in the other order. Of many the library's loop takes less time.
+func swapShorts(to, from []byte) {
+	at := 0
+	if size := C.size_t(len(from)); (size >= 400 || isDirect && size >= 64) && len(to) >= len(from) {
+		if at = len(from); isDirect {
+			direct.Call(functions.short_numbers, unsafe.Pointer(&to[0]), unsafe.Pointer(&from[0]), unsafe.Pointer(&size))
+		} else {
+			C.go_swap(bytesOf(to), bytesOf(from), size)
+		}
+	}
+	for ; at+8 <= len(to) && at+8 <= len(from); at += 8 {
+		four := binary.LittleEndian.Uint64(from[at : at+8])
+		binary.LittleEndian.PutUint64(to[at:at+8], four>>8&0x00ff00ff00ff00ff|four&0x00ff00ff00ff00ff<<8)
+	}
+	for ; at+2 <= len(to) && at+2 <= len(from); at += 2 {
+		binary.LittleEndian.PutUint16(to[at:], binary.BigEndian.Uint16(from[at:]))
+	}
+}
+
+func swapNumbers(to, from []byte) {
+	for at := 0; at+4 <= len(to) && at+4 <= len(from); at += 4 {
+		binary.LittleEndian.PutUint32(to[at:at+4], binary.BigEndian.Uint32(from[at:at+4]))
+	}
+}
 
 // A place is where a chunk, a parameter or an error cause begins, and the size of its value. (No packet needs more than 16 bits.)
 type place struct{ offset, size uint16 }
@@ -292,112 +243,4 @@ func (it place) next() int { return (int(it.offset) + 4 + int(it.size) + 3) &^ 3
 func (it place) value(bytes []byte) []byte {
 	from, to := int(it.offset)+4, int(it.offset)+4+int(it.size)
 	return bytes[from:to:to]
-}
-
-// read reads the value of a chunk that is DATA or I-DATA.
-func (data *Data) read(chunkType ChunkType, flags uint8, value []byte) bool {
-	switch {
-	case chunkType == ChunkData && len(value) >= 12:
-		it := (*[12]byte)(value)
-		data.TSN, data.Stream, data.SSN = numberAt(it[:], 0), shortAt(it[:], 4), shortAt(it[:], 6)
-		data.PPID, data.Payload = numberAt(it[:], 8), value[12:]
-	case chunkType == ChunkIData && len(value) >= 16:
-		it := (*[16]byte)(value)
-		data.TSN, data.Stream, data.MID = numberAt(it[:], 0), shortAt(it[:], 4), numberAt(it[:], 8)
-		if data.Payload = value[16:]; flags&2 != 0 {
-			data.PPID = numberAt(it[:], 12)
-		} else {
-			data.FSN = numberAt(it[:], 12)
-		}
-	default:
-		return false
-	}
-	data.IsEnd, data.IsBeginning = flags&1 != 0, flags&2 != 0
-	data.IsUnordered, data.ImmediateAck = flags&4 != 0, flags&8 != 0
-	return true
-}
-
-// sackOf reads the numbers in the value of a chunk that is a SACK.
-func sackOf(chunkType ChunkType, value []byte) (SACK, bool) {
-	if chunkType != ChunkSACK || len(value) < 12 {
-		return SACK{}, false
-	}
-	it := (*[12]byte)(value)
-	return SACK{numberAt(it[:], 0), numberAt(it[:], 4), int(shortAt(it[:], 8)), int(shortAt(it[:], 10))}, true
-}
-
-// initOf reads the numbers in the value of a chunk that is INIT or INIT ACK.
-func initOf(chunkType ChunkType, value []byte) (Init, bool) {
-	if (chunkType != ChunkInit && chunkType != ChunkInitAck) || len(value) < 16 {
-		return Init{}, false
-	}
-	it := (*[16]byte)(value)
-	return Init{numberAt(it[:], 0), numberAt(it[:], 4), shortAt(it[:], 8), shortAt(it[:], 10), numberAt(it[:], 12)}, true
-}
-
-// shutdownOf reads the value of a chunk that is SHUTDOWN.
-func shutdownOf(chunkType ChunkType, value []byte) (uint32, bool) {
-	if chunkType != ChunkShutdown || len(value) < 4 {
-		return 0, false
-	}
-	return numberAt(value, 0), true
-}
-
-// forwardTSNOf reads the numbers in the value of a chunk that is FORWARD-TSN or I-FORWARD-TSN.
-func forwardTSNOf(chunkType ChunkType, value []byte) (ForwardTSN, bool) {
-	if (chunkType != ChunkForwardTSN && chunkType != ChunkIForwardTSN) || len(value) < 4 {
-		return ForwardTSN{}, false
-	}
-	list, size, _ := listOfStreams(chunkType, value)
-	return ForwardTSN{numberAt(value, 0), len(list) / size}, true
-}
-
-// listsOfSACK returns the gap ack blocks and the duplicate TSNs in the value of a chunk that is a SACK.
-func listsOfSACK(chunkType ChunkType, value []byte) (blocks, duplicates []byte) {
-	if chunkType != ChunkSACK || len(value) < 12 {
-		return nil, nil
-	}
-	list, size := value[12:], 4*int(shortAt(value, 8))
-	if size > len(list) {
-		return nil, nil
-	}
-	return list[:size], list[size:]
-}
-
-func blockOf(bytes []byte) GapAckBlock {
-	both := numberAt(bytes, 0) // (so the bounds are looked at once)
-	return GapAckBlock{uint16(both >> 16), uint16(both)}
-}
-
-// listOfStreams returns the streams in the value of a chunk that is FORWARD-TSN or I-FORWARD-TSN, the size of one, and what reads one.
-func listOfStreams(chunkType ChunkType, value []byte) (list []byte, size int, of func([]byte) SkippedStream) {
-	switch {
-	case len(value) < 4:
-	case chunkType == ChunkForwardTSN:
-		return value[4:], 4, streamOf
-	case chunkType == ChunkIForwardTSN:
-		return value[4:], 8, iStreamOf
-	}
-	return nil, 8, iStreamOf
-}
-
-func streamOf(bytes []byte) SkippedStream {
-	return SkippedStream{Stream: shortAt(bytes, 0), SSN: shortAt(bytes, 2)}
-}
-
-func iStreamOf(bytes []byte) SkippedStream {
-	return SkippedStream{Stream: shortAt(bytes, 0), IsUnordered: bytes[3]&1 != 0, MID: numberAt(bytes, 4)}
-}
-
-// listOfItems returns the parameters or error causes in the value of a chunk of a type.
-func listOfItems(chunkType ChunkType, value []byte) []byte {
-	switch chunkType {
-	case ChunkInit, ChunkInitAck:
-		if len(value) >= 16 {
-			return value[16:]
-		}
-	case ChunkHeartbeat, ChunkHeartbeatAck, ChunkAbort, ChunkError, ChunkReConfig:
-		return value
-	}
-	return nil
 }

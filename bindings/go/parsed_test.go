@@ -5,54 +5,14 @@ package davgyuti_test
 import (
 	"fmt"
 	"math/rand"
-	"os"
-	"regexp"
+	"net"
+	"os/exec"
+	"runtime"
 	"strings"
 	"testing"
 
 	"davgyuti.example/davgyuti"
 )
-
-// isRead tests that Read reads what the single calls do, or has the error of Check.
-func isRead(t *testing.T, parsed *davgyuti.Parsed, packet davgyuti.Packet, policy davgyuti.Policy) bool {
-	t.Helper()
-	what := fmt.Sprintf("%x %v", []byte(packet[:len(packet)%1000]), policy)
-	err := parsed.Read(packet, policy)
-	equal(t, what, err, packet.Check(policy))
-	if err != nil {
-		equal(t, what, []interface{}{parsed.Len(), parsed.Header}, []interface{}{0, davgyuti.Header{}})
-		return false
-	}
-	header, _ := packet.Header()
-	equal(t, what, parsed.Header, header)
-	chunks := packet.Chunks().Slice()
-	if parsed.Len() != len(chunks) {
-		t.Fatalf("%s: there are %d chunks, not %d", what, parsed.Len(), len(chunks))
-	}
-	for i, wanted := range chunks {
-		chunk := parsed.Chunk(i)
-		equal(t, what, []interface{}{chunk.Type, chunk.Flags, chunk.Value, chunk.Offset, chunk.NextOffset, chunk.Bytes()},
-			[]interface{}{wanted.Type, wanted.Flags, wanted.Value, wanted.Offset, wanted.NextOffset, wanted.Bytes()})
-		equal(t, what, numbersOf(chunk), numbersOf(wanted))
-		equal(t, what, append([]interface{}{parsed.Type(i)}, numbersAt(parsed, i)...),
-			append([]interface{}{wanted.Type}, numbersOf(wanted)...))
-		equal(t, what, listsOf(chunk), listsOf(wanted))
-		equal(t, what, append([]davgyuti.GapAckBlock(nil), parsed.GapAckBlocks(i)...), wanted.GapAckBlocks().Slice())
-		equal(t, what, append([]uint32(nil), parsed.DuplicateTSNs(i)...), wanted.DuplicateTSNs().Slice())
-		equal(t, what, append([]davgyuti.SkippedStream(nil), parsed.SkippedStreams(i)...), wanted.SkippedStreams().Slice())
-		var parameters []davgyuti.Parameter
-		for k := 0; k < parsed.ParameterCount(i); k++ {
-			parameters = append(parameters, parsed.Parameter(i, k))
-		}
-		equal(t, what, parameters, wanted.Parameters().Slice())
-		var causes []davgyuti.Cause
-		for k := 0; k < parsed.CauseCount(i); k++ {
-			causes = append(causes, parsed.Cause(i, k))
-		}
-		equal(t, what, causes, wanted.Causes().Slice())
-	}
-	return true
-}
 
 func numbersOf(chunk davgyuti.Chunk) (all []interface{}) {
 	data, isData := chunk.Data()
@@ -77,64 +37,48 @@ func listsOf(chunk davgyuti.Chunk) (all []interface{}) {
 		chunk.Parameters().Slice(), chunk.Causes().Slice())
 }
 
+func listsAt(parsed *davgyuti.Parsed, i int) (all []interface{}) {
+	var parameters []davgyuti.Parameter
+	for k := 0; k < parsed.ParameterCount(i); k++ {
+		parameters = append(parameters, parsed.Parameter(i, k))
+	}
+	var causes []davgyuti.Cause
+	for k := 0; k < parsed.CauseCount(i); k++ {
+		causes = append(causes, parsed.Cause(i, k))
+	}
+	return append(all, append([]davgyuti.GapAckBlock(nil), parsed.GapAckBlocks(i)...), append([]uint32(nil), parsed.DuplicateTSNs(i)...),
+		append([]davgyuti.SkippedStream(nil), parsed.SkippedStreams(i)...), parameters, causes)
+}
+
 var policies = []davgyuti.Policy{{}, {AnyChecksum: true}, {ZeroChecksum: true}, {AllowedZeroChecksum: true}, {StrictPadding: true}}
 
-func TestParsed(t *testing.T) {
-	var parsed davgyuti.Parsed
-	equal(t, "zero value", parsed.Len(), 0)
+// A batch is what its packets are one by one: the vectors, which have the rest of what a Parsed reads.
+func TestReadBatch(t *testing.T) {
 	packets := []davgyuti.Packet{nil, make([]byte, 15), make([]byte, 65536)}
-	texts, err := os.ReadFile("../../examples/packets.txt")
-	if err != nil && !os.IsNotExist(err) {
-		t.Fatal(err)
-	}
-	for _, line := range strings.Fields(regexp.MustCompile("(?m)^#.*").ReplaceAllString(string(texts), "")) {
-		packets = append(packets, ofHex(line))
-	}
-	more := []string{"0900002b 0002 000a 00000001 0007 0000  0009 0008 00000005  0006 0008 7f000004 000a 0004  000d 0007 626164 00",
-		"c0000010 0000000a 0001 0002 0003 0004", "c2000018 0000000a 0001 0001 00000002 0003 0000 00000004", "0e010004", "08000004",
-		"82000018 000d 0014 00000001 00000002 00000003 0004 0005", "8200000c 000f 0008 00000008"}
-	for _, text := range append(more, bare...) {
-		packets = append(packets, sealed(text))
-	}
-	for _, it := range []string{strings.Join(append(more, bare...), ""), strings.Repeat(strings.Join(more, ""), 50)} {
-		packets = append(packets, sealed(it))
-	}
-	for _, packet := range packets {
-		for _, policy := range policies {
-			isRead(t, &parsed, packet, policy)
-			isRead(t, new(davgyuti.Parsed), packet, policy) // with too few rows, and places in lists, at first
-		}
+	for i, text := range append(bare, strings.Join(bare, ""), "0b000003") {
+		packets = append(packets, sealed(text), sealed(strings.Repeat("0b000004", 1+i)))
+		packets[len(packets)-1][8+i%4] ^= byte(i & 1)
 	}
 	for _, policy := range policies {
 		batch := make([]davgyuti.Parsed, len(packets)+1)
-		equal(t, "read before", batch[0].Read(packets[len(packets)-1], davgyuti.Policy{}), nil)
+		equal(t, "read before", batch[0].Read(packets[3], davgyuti.Policy{}), nil)
 		davgyuti.ReadBatch(batch, packets, policy)
 		for i, packet := range packets {
 			what, one := fmt.Sprintf("packet %d of a batch", i), davgyuti.Parsed{}
-			_ = one.Read(packet, policy)
+			equal(t, what, one.Read(packet, policy), packet.Check(policy))
 			equal(t, what, []interface{}{batch[i].Len(), batch[i].Header}, []interface{}{one.Len(), one.Header})
 			for k := 0; k < one.Len(); k++ {
-				equal(t, what, append(numbersAt(&batch[i], k), batch[i].Chunk(k)), append(numbersAt(&one, k), one.Chunk(k)))
+				equal(t, what, append(append(numbersAt(&batch[i], k), batch[i].Chunk(k), batch[i].Type(k)), listsAt(&batch[i], k)...),
+					append(append(numbersAt(&one, k), one.Chunk(k), one.Chunk(k).Type), listsAt(&one, k)...))
 			}
 		}
 	}
-	random, accepted := rand.New(rand.NewSource(2)), 0
-	for round := 0; round < 3000; round++ {
-		packet := append(davgyuti.Packet(nil), packets[3+random.Intn(len(packets)-4)]...)
-		for changes := random.Intn(4); changes > 0 && len(packet) > 0; changes-- {
-			packet[random.Intn(len(packet))] = byte(random.Intn(256))
-		}
-		packet = packet[:len(packet)-random.Intn(2)*random.Intn(len(packet))]
-		if random.Intn(2) == 0 {
-			_ = packet.Seal()
-		}
-		if isRead(t, &parsed, packet, policies[random.Intn(len(policies))]) {
-			accepted++
-		}
-	}
-	if accepted < 300 || accepted > 2700 {
-		t.Errorf("%d of 3000 are accepted", accepted)
-	}
+	parsed := make([]davgyuti.Parsed, len(packets))
+	davgyuti.ReadBatch(parsed, packets, davgyuti.Policy{})
+	equal(t, "allocations", testing.AllocsPerRun(5, func() { davgyuti.ReadBatch(parsed, packets, davgyuti.Policy{}) }), 0.0)
+	davgyuti.ReadBatch(nil, nil, davgyuti.Policy{})
+	defer func() { equal(t, "fewer Parsed than packets panic", recover() != nil, true) }()
+	davgyuti.ReadBatch(parsed[1:], packets, davgyuti.Policy{})
 }
 
 // Whatever becomes of a packet that was read, and of its chunks: nothing panics.
@@ -182,27 +126,6 @@ func TestParsedLarge(t *testing.T) {
 	equal(t, "last", parsed.Parameter(0, 16369).Offset, 16+4*16369)
 }
 
-func TestReadBatch(t *testing.T) {
-	packets := make([]davgyuti.Packet, 40)
-	for i := range packets {
-		packets[i] = sealed(strings.Repeat("0b000004", 1+i))
-	}
-	packets[17] = nil
-	parsed := make([]davgyuti.Parsed, 40)
-	davgyuti.ReadBatch(parsed, packets, davgyuti.Policy{})
-	for i, wanted := range map[int]int{0: 1, 15: 16, 16: 17, 17: 0, 39: 40} {
-		equal(t, "chunks", parsed[i].Len(), wanted)
-	}
-	equal(t, "allocations", testing.AllocsPerRun(5, func() { davgyuti.ReadBatch(parsed, packets, davgyuti.Policy{}) }), 0.0)
-	davgyuti.ReadBatch(nil, nil, davgyuti.Policy{})
-	defer func() {
-		if recover() == nil {
-			t.Error("fewer Parsed than packets: no panic")
-		}
-	}()
-	davgyuti.ReadBatch(parsed[:39], packets, davgyuti.Policy{})
-}
-
 func TestParsedAllocates(t *testing.T) {
 	var parsed davgyuti.Parsed
 	packet := sealed(strings.Join(bare, ""))
@@ -223,21 +146,12 @@ func TestParsedAllocates(t *testing.T) {
 			}
 		}
 	}), 0.0)
-	for _, out := range []func(){func() { parsed.Chunk(len(bare)) }, func() { parsed.Parameter(0, 0) }, func() { parsed.Cause(1, 0) },
-		func() { parsed.GapAckBlocks(-1) }, func() { new(davgyuti.Parsed).Chunk(0) }} {
+	for _, out := range []func(){func() { parsed.Chunk(len(bare)) }, func() { parsed.Parameter(0, 0) }, func() { parsed.Cause(1, 0) }} {
 		func() {
 			defer func() { equal(t, "panics", recover() != nil, true) }()
 			out()
 		}()
 	}
-}
-
-// An Error isn't the next one's.
-func TestParsedError(t *testing.T) {
-	var parsed davgyuti.Parsed
-	err := parsed.Read(sealed("0b000003"), davgyuti.Policy{})
-	equal(t, "other", parsed.Read(nil, davgyuti.Policy{}), &davgyuti.Error{Code: davgyuti.ErrSize})
-	equal(t, "first", err, &davgyuti.Error{Code: davgyuti.ErrLength, Offset: 12})
 }
 
 // What the package's comment says of allocations.
@@ -269,20 +183,61 @@ func TestAllocations(t *testing.T) {
 		{"Chunks", func() { packet.Chunks() }, true},
 		{"Next of Chunks", func() { chunks.Next() }, false},
 		{"GapAckBlocks", func() { sack.GapAckBlocks() }, true},
-		{"the first Next of GapAckBlocks", func() { blocks[next].Next(); next++ }, true},
+		{"the first Next of GapAckBlocks", func() { blocks[next].Next(); next++ }, false},
 	} {
 		equal(t, c.what, testing.AllocsPerRun(10, c.call) > 0, c.isThere)
 	}
 }
 
-func BenchmarkParsed(b *testing.B) {
-	var parsed davgyuti.Parsed
-	packet := sealed("0b000004 000b0013 01020304 0005 0006 00000033 616263 00")
-	b.ReportAllocs()
-	for i := 0; i < b.N; i++ {
-		_ = parsed.Read(packet, davgyuti.Policy{})
-		for k := 0; k < parsed.Len(); k++ {
-			parsed.Chunk(k).Data()
+// What is a packet comes through a checkedConn, both ways, and nothing else.
+func TestConn(t *testing.T) {
+	var good []davgyuti.Packet
+	for _, text := range bare {
+		good = append(good, sealed(text))
+	}
+	for _, wanted := range []string{"read", "written"} {
+		dropped := 0
+		sender, receiver := net.Pipe()
+		report := func(direction string, _ error) {
+			dropped++
+			equal(t, "direction", direction, wanted)
 		}
+		if wanted == "read" {
+			receiver = &checkedConn{Conn: receiver, report: report}
+		} else {
+			sender = &checkedConn{Conn: sender, report: report}
+		}
+		go func() {
+			for _, packet := range good {
+				bad := append(davgyuti.Packet(nil), packet...)
+				bad[9]++
+				for _, it := range []davgyuti.Packet{bad, packet} {
+					size, err := sender.Write(it)
+					equal(t, "written", []interface{}{size, err}, []interface{}{len(it), nil})
+				}
+			}
+			sender.Close()
+		}()
+		var came []davgyuti.Packet
+		buffer := make([]byte, 65536)
+		for size, err := receiver.Read(buffer); err == nil; size, err = receiver.Read(buffer) {
+			came = append(came, append(davgyuti.Packet(nil), buffer[:size]...))
+		}
+		equal(t, wanted, []interface{}{came, dropped}, []interface{}{good, len(good)})
+	}
+}
+
+// Each request of the library for memory is refused in turn, in a copy of the package: its text calls what
+// testdata/refusing has.
+func TestNoMemory(t *testing.T) {
+	if runtime.GOOS != "linux" || runtime.GOARCH != "amd64" {
+		t.Skip("the text that is changed is that of Linux on x86-64")
+	}
+	command := exec.Command("sh", "-c", `mkdir -p "$0/internal/direct" && cp *.h go.mod *_linux_amd64.s testdata/refusing/* "$0" &&
+		cp internal/direct/*.* "$0/internal/direct" && rm -f "$0"/internal/direct/*_test.go && for file in *.go; do
+			case $file in *_test.go) ;; *) cp "$file" "$0" ;; esac; done &&
+		sed -i 's/\t\(malloc@PLT\|realloc@PLT\)/\trefusing_\1/' "$0"/dcsctp_linux_amd64.s && cd "$0" && go test .`, t.TempDir())
+	if output, err := command.CombinedOutput(); err != nil {
+		t.Errorf("%v: %s", err, output)
 	}
 }

@@ -6,7 +6,6 @@ package davgyuti
 import "C"
 
 import (
-	"encoding/binary"
 	"fmt"
 	"hash/crc32"
 	"math/bits"
@@ -34,15 +33,6 @@ type Policy struct {
 	AllowedZeroChecksum bool
 	// StrictPadding wants padding to be complete and zero.
 	StrictPadding bool
-}
-
-func (policy Policy) c() C.struct_go_policy {
-	return C.struct_go_policy{
-		any_checksum:          C.bool(policy.AnyChecksum),
-		zero_checksum:         C.bool(policy.ZeroChecksum),
-		allowed_zero_checksum: C.bool(policy.AllowedZeroChecksum),
-		strict_padding:        C.bool(policy.StrictPadding),
-	}
 }
 
 // word returns the word that the policy wants of a packet; it wants none where it accepts any checksum, or where the size is
@@ -78,7 +68,7 @@ func (p Packet) firstFault(policy Policy) *Error {
 // Whether C is called directly, and the functions that are.
 const isDirect = direct.IsThere && C.GO_DIRECT != 0
 
-var at = C.go_functions()
+var functions = C.go_functions()
 
 // verdict returns the code of the first fault, and its offset.
 func (p Packet) verdict(policy Policy) (code C.uint32_t, offset C.size_t) {
@@ -88,7 +78,7 @@ func (p Packet) verdict(policy Policy) (code C.uint32_t, offset C.size_t) {
 		result := C.go_first_fault(packet)
 		return result.code, result.size
 	}
-	code = C.uint32_t(direct.Call(at.first_fault, unsafe.Pointer(&packet), unsafe.Pointer(&offset), nil))
+	code = C.uint32_t(direct.Call(functions.first_fault, unsafe.Pointer(&packet), unsafe.Pointer(&offset), nil))
 	return code, offset
 }
 
@@ -99,12 +89,19 @@ var hasWord = isDirect && bool(C.go_has_word())
 // fill writes a packet as C takes it, in its place: a struct that was returned would be copied in pieces of 16 bytes, right after it
 // was written in smaller ones, which the processor has to wait for.
 func (p Packet) fill(to *C.struct_go_packet, policy Policy) {
-	to.bytes, to.length, to.policy = bytesOf(p), C.size_t(len(p)), policy.c()
+	to.bytes, to.length = bytesOf(p), C.size_t(len(p))
+	to.policy.any_checksum, to.policy.strict_padding = C.bool(policy.AnyChecksum), C.bool(policy.StrictPadding)
+	to.policy.zero_checksum = C.bool(policy.ZeroChecksum || policy.AllowedZeroChecksum && p.allowsZero())
 	if !hasWord {
 		to.word = policy.word(p)
 	} else {
 		to.lacks_word = C.bool(!policy.AnyChecksum && len(p) >= FirstChunk && len(p) <= largest)
 	}
+}
+
+// allowsZero returns whether the checksum field is zero, in a packet that may have it so.
+func (p Packet) allowsZero() bool {
+	return len(p) >= FirstChunk && len(p) <= largest && numberAt(p, 8) == 0 && !p.NeedsChecksum()
 }
 
 // IsValid returns whether Check returns nil.
@@ -145,14 +142,23 @@ func (p Packet) Word() uint32 {
 // NeedsChecksum returns whether the packet has to have its CRC32c also where a checksum of zero was negotiated (RFC 9653
 // section 5.2): it has INIT, COOKIE ECHO or ASCONF; or it answers a packet out of the blue, by a chunk that IsTagReflected.
 func (p Packet) NeedsChecksum() bool {
-	return bool(C.go_needs_checksum(bytesOf(p), C.size_t(len(p))))
+	for at := FirstChunk; ; {
+		chunk, isThere := p.ChunkAt(at)
+		if !isThere {
+			return false
+		}
+		if chunk.Type == ChunkInit || chunk.Type == ChunkCookieEcho || chunk.Type == ChunkASCONF || chunk.IsTagReflected() {
+			return true
+		}
+		at = chunk.NextOffset
+	}
 }
 
 // Print returns the packet's text: a line for the header and one for each chunk, with no line feed at the end. The error is
 // that of Check, or ErrNoMemory.
 func (p Packet) Print(policy Policy) (string, error) {
-	text, err := p.write(policy, func(word C.uint32_t, output []byte) C.struct_go_result {
-		return C.go_print(bytesOf(p), C.size_t(len(p)), word, policy.c(), bytesOf(output), C.size_t(len(output)))
+	text, err := p.write(policy, func(word C.uint32_t, it *C.struct_dcsctp_policy, to *C.uint8_t, size *C.size_t) C.uint32_t {
+		return C.dcsctp_print(bytesOf(p), C.size_t(len(p)), word, it, to, *size, size)
 	})
 	return string(text), err
 }
@@ -160,8 +166,8 @@ func (p Packet) Print(policy Policy) (string, error) {
 // Report returns all that the packet holds, as `sctp_dump --payload` prints it: each line ends in a line feed, and what is
 // inside of something is two blanks deeper. The error is that of Check.
 func (p Packet) Report(policy Policy) (string, error) {
-	text, err := p.write(policy, func(word C.uint32_t, output []byte) C.struct_go_result {
-		return C.go_report(bytesOf(p), C.size_t(len(p)), word, policy.c(), bytesOf(output), C.size_t(len(output)))
+	text, err := p.write(policy, func(word C.uint32_t, it *C.struct_dcsctp_policy, to *C.uint8_t, size *C.size_t) C.uint32_t {
+		return C.dcsctp_report(bytesOf(p), C.size_t(len(p)), word, it, to, *size, size)
 	})
 	return string(text), err
 }
@@ -180,37 +186,36 @@ func (p Packet) String() string {
 // Canonical returns the canonical packet, in memory of its own: two packets have the same one if and only if they mean the
 // same. Its checksum is 0. The error is that of Check, or ErrTooLong.
 func (p Packet) Canonical(policy Policy) ([]byte, error) {
-	return p.write(policy, func(word C.uint32_t, output []byte) C.struct_go_result {
-		return C.go_canonical(bytesOf(p), C.size_t(len(p)), word, policy.c(), bytesOf(output), C.size_t(len(output)))
+	return p.write(policy, func(word C.uint32_t, it *C.struct_dcsctp_policy, to *C.uint8_t, size *C.size_t) C.uint32_t {
+		return C.dcsctp_canonical(bytesOf(p), C.size_t(len(p)), word, it, to, *size, size)
 	})
 }
 
 // write calls a function for the size that it needs, and then for what it writes.
-func (p Packet) write(policy Policy, call func(C.uint32_t, []byte) C.struct_go_result) ([]byte, error) {
-	word := policy.word(p)
-	result := call(word, nil)
-	if result.code == C.DCSCTP_NO_ROOM {
-		output := make([]byte, result.size)
-		if result = call(word, output); result.code == C.DCSCTP_OK {
-			return output[:result.size], nil
+func (p Packet) write(policy Policy,
+	call func(C.uint32_t, *C.struct_dcsctp_policy, *C.uint8_t, *C.size_t) C.uint32_t) ([]byte, error) {
+	var packet C.struct_go_packet
+	p.fill(&packet, policy)
+	word, size := policy.word(p), C.size_t(0)
+	code := call(word, &packet.policy, nil, &size)
+	if code == C.DCSCTP_NO_ROOM {
+		output := make([]byte, size)
+		if code = call(word, &packet.policy, bytesOf(output), &size); code == C.DCSCTP_OK {
+			return output[:size], nil
 		}
 	}
 	if err := p.Check(policy); err != nil {
 		return nil, err
 	}
-	return nil, errorOf(result.code)
+	return nil, errorOf(code)
 }
 
 // Header reads the common header; false for fewer than 12 bytes.
 func (p Packet) Header() (Header, bool) {
-	read := C.go_header(bytesOf(p), C.size_t(len(p)))
-	it := read.it
-	return Header{
-		SourcePort:      uint16(it.source_port),
-		DestinationPort: uint16(it.destination_port),
-		VerificationTag: uint32(it.verification_tag),
-		Checksum:        uint32(it.checksum),
-	}, bool(read.is_there)
+	if len(p) < FirstChunk {
+		return Header{}, false
+	}
+	return Header{shortAt(p, 0), shortAt(p, 2), numberAt(p, 4), numberAt(p, 8)}, true
 }
 
 // Seal writes the CRC32c into the checksum field; ErrBadPlace for fewer than 12 bytes. Whether there is a chunk isn't looked
@@ -219,11 +224,15 @@ func (p Packet) Seal() error { return errorOf(C.dcsctp_seal(bytesOf(p), C.size_t
 
 // SetTag writes the verification tag; seal the packet after it. ErrBadPlace for fewer than 12 bytes.
 func (p Packet) SetTag(verificationTag uint32) error {
-	return errorOf(C.dcsctp_set_tag(bytesOf(p), C.size_t(len(p)), C.uint32_t(verificationTag)))
+	if len(p) < FirstChunk {
+		return ErrBadPlace
+	}
+	putNumber(p, 4, verificationTag)
+	return nil
 }
 
-// An Iterator goes over what a packet, a chunk or a parameter lists. Chunks are read one after the other, and all other lists in
-// one call, by the first Next:
+// An Iterator goes over what a packet, a chunk, a parameter or an error cause lists. Chunks, parameters and causes are read one after
+// the other; lists of numbers are read, to memory of their own, when the Iterator is made:
 //
 //	for chunks := packet.Chunks(); chunks.Next(); {
 //		use(chunks.Value())
@@ -231,12 +240,17 @@ func (p Packet) SetTag(verificationTag uint32) error {
 //
 // or, from Go 1.23 on, `for chunk := range packet.Chunks().All`. The zero value has nothing to read.
 type Iterator[T any] struct {
+	items []T
 	read  func() (T, bool)
 	value T
 }
 
 // Next reads the next one, and returns whether there is one.
 func (it *Iterator[T]) Next() bool {
+	if len(it.items) > 0 {
+		it.value, it.items = it.items[0], it.items[1:]
+		return true
+	}
 	if it.read == nil {
 		return false
 	}
@@ -258,56 +272,52 @@ func (it *Iterator[T]) All(yield func(T) bool) {
 
 // Slice returns those that are left. Of chunks prefer Next, which keeps one: a packet can have 16,000.
 func (it *Iterator[T]) Slice() []T {
-	var all []T
+	all := it.items
+	it.items = nil
 	for it.Next() {
 		all = append(all, it.value)
 	}
 	return all
 }
 
-// listed goes over a list that C writes in one call, and whose length it returns; both calls are of what the first Next finds.
-func listed[T any](fill func(to unsafe.Pointer, room C.size_t) C.size_t) *Iterator[T] {
-	var items []T
-	isRead := false
-	return &Iterator[T]{read: func() (value T, isThere bool) {
-		if !isRead {
-			items, isRead = make([]T, fill(nil, 0)), true
-			if count := int(fill(first(items), C.size_t(len(items)))); count < len(items) {
-				items = items[:count] // (the bytes were changed in between)
-			}
-		}
-		if len(items) == 0 {
-			return value, false
-		}
-		value, items = items[0], items[1:]
-		return value, true
-	}}
-}
-
-// inPlace goes over a list whose items have a size.
-func inPlace[T any](list []byte, size int, of func([]byte) T) *Iterator[T] {
+// walk goes over what begins, one after the other, with a type and a length: `of` has its offset in the bytes, and its value.
+func walk[T any](bytes []byte, of func(offset int, value []byte) T) *Iterator[T] {
+	next := 0
 	return &Iterator[T]{read: func() (none T, isThere bool) {
-		if len(list) < size {
+		at := next
+		value, isThere := valueAt(bytes, at)
+		if !isThere {
 			return none, false
 		}
-		it := list
-		list = list[size:]
-		return of(it), true
+		next = after(at, value)
+		return of(at, value), true
 	}}
 }
 
+// valueAt returns what follows the header of four bytes at an offset, and ends by its length; false where no whole one is.
+func valueAt(bytes []byte, offset int) ([]byte, bool) {
+	if offset < 0 || offset > len(bytes)-4 {
+		return nil, false
+	}
+	end := offset + int(shortAt(bytes, offset+2))
+	if end < offset+4 || end > len(bytes) {
+		return nil, false
+	}
+	return bytes[offset+4 : end : end], true
+}
+
+// after returns where the next one begins, past the padding.
+func after(offset int, value []byte) int { return (offset + 4 + len(value) + 3) &^ 3 }
+
 // part returns bytes of a packet; nil where they aren't there.
-func (p Packet) part(offset, size C.size_t) []byte {
-	if length := C.size_t(len(p)); offset > length || size > length-offset {
+func (p Packet) part(offset, size int) []byte {
+	if offset < 0 || offset > len(p) || size > len(p)-offset {
 		return nil
 	}
 	return p[offset : offset+size : offset+size]
 }
 
-// withHeader returns a value, and the four bytes of its header before it; nil where they aren't there.
-func (p Packet) withHeader(offset, size C.size_t) []byte { return p.part(offset-4, size+4) }
-
-// A Chunk is a chunk of a packet (section 3.2), where it lies. Of one of a Parsed its numbers and lists are read without calling C.
+// A Chunk is a chunk of a packet (section 3.2), where it lies.
 type Chunk struct {
 	Type       ChunkType
 	Flags      uint8
@@ -315,23 +325,12 @@ type Chunk struct {
 	Offset     int    // where it begins in the packet
 	NextOffset int    // where the next one begins
 	bytes      *byte  // of the packet
-	size       int    // how many they are; of a chunk of a Parsed the complement of that
+	size       int    // how many they are
 }
 
 // (Without a slice for its packet, and one more field, a chunk has the nine words that Go passes in registers.)
 
-func (chunk Chunk) packet() Packet {
-	if chunk.size < 0 {
-		return unsafe.Slice(chunk.bytes, ^chunk.size)
-	}
-	return unsafe.Slice(chunk.bytes, chunk.size)
-}
-
-// in returns the same chunk in another packet.
-func (chunk Chunk) in(p Packet) Chunk {
-	chunk.bytes, chunk.size = (*byte)(first(p)), len(p)
-	return chunk
-}
+func (chunk Chunk) packet() Packet { return unsafe.Slice(chunk.bytes, chunk.size) }
 
 // Chunks goes over the chunks. If the bytes are a packet, these are all; else they end where there is no whole chunk.
 func (p Packet) Chunks() *Iterator[Chunk] {
@@ -347,34 +346,15 @@ func (p Packet) Chunks() *Iterator[Chunk] {
 
 // ChunkAt reads the chunk at an offset; false where no whole chunk is.
 func (p Packet) ChunkAt(offset int) (Chunk, bool) {
-	read := C.go_chunk_at(bytesOf(p), C.size_t(len(p)), C.size_t(offset))
-	if !read.is_there {
+	value, isThere := valueAt(p, offset)
+	if !isThere {
 		return Chunk{}, false
 	}
-	return p.chunk(&read.it), true
-}
-
-// chunk returns the chunk that C has read.
-func (p Packet) chunk(c *C.struct_dcsctp_chunk) Chunk {
-	return Chunk{
-		Type:       ChunkType(c._type),
-		Flags:      uint8(c.flags),
-		Value:      p.part(c.value_offset, c.value_size),
-		Offset:     int(c.value_offset) - 4,
-		NextOffset: int(c.next),
-	}.in(p)
-}
-
-// inC returns the packet's bytes and the chunk as C takes them.
-func (chunk Chunk) inC() (*C.uint8_t, C.size_t, C.struct_dcsctp_chunk) {
-	packet := chunk.packet()
-	return bytesOf(packet), C.size_t(len(packet)), C.struct_dcsctp_chunk{
-		_type:        C.uint8_t(chunk.Type),
-		flags:        C.uint8_t(chunk.Flags),
-		value_offset: C.size_t(chunk.Offset) + 4,
-		value_size:   C.size_t(len(chunk.Value)),
-		next:         C.size_t(chunk.NextOffset),
+	next := after(offset, value)
+	if next > len(p) {
+		next = len(p)
 	}
+	return Chunk{ChunkType(p[offset]), p[offset+1], value, offset, next, &p[0], len(p)}, true
 }
 
 // ReadChunk reads the chunk that the bytes are, without a packet around it, and with or without its padding: as SDP has an
@@ -400,181 +380,22 @@ func ReadChunk(bytes []byte) (Chunk, error) {
 
 // Bytes returns the whole chunk, its header and its value, without padding, where it lies in the packet: what the cause
 // Unrecognized Chunk Type holds (section 3.3.10.6).
-func (chunk Chunk) Bytes() []byte {
-	return chunk.packet().part(C.size_t(chunk.Offset), C.size_t(len(chunk.Value))+4)
-}
+func (chunk Chunk) Bytes() []byte { return chunk.packet().part(chunk.Offset, len(chunk.Value)+4) }
 
 // String returns its type, its flags and the size of its value, as in "DATA flags=0x03 size=20".
 func (chunk Chunk) String() string {
 	return fmt.Sprintf("%v flags=%#02x size=%d", chunk.Type, chunk.Flags, len(chunk.Value))
 }
 
-// IsTagReflected returns whether it is an ABORT or a SHUTDOWN COMPLETE with the flag TagReflected.
-func (chunk Chunk) IsTagReflected() bool {
-	return (chunk.Type == ChunkAbort || chunk.Type == ChunkShutdownComplete) && chunk.Flags&TagReflected != 0
-}
-
-// Data reads DATA or I-DATA; false for another type.
-func (chunk Chunk) Data() (data Data, ok bool) {
-	if chunk.size < 0 {
-		ok = data.read(chunk.Type, chunk.Flags, chunk.Value)
-		return data, ok
-	}
-	bytes, length, c := chunk.inC()
-	read := C.go_data(bytes, length, c)
-	if !read.is_there {
-		return Data{}, false
-	}
-	it := read.it
-	return Data{
-		TSN:          uint32(it.tsn),
-		MID:          uint32(it.mid),
-		FSN:          uint32(it.fsn),
-		PPID:         uint32(it.ppid),
-		Stream:       uint16(it.stream),
-		SSN:          uint16(it.ssn),
-		IsUnordered:  bool(it.is_unordered),
-		IsBeginning:  bool(it.is_beginning),
-		IsEnd:        bool(it.is_end),
-		ImmediateAck: bool(it.immediate_ack),
-		Payload:      chunk.packet().part(it.payload_offset, it.payload_size),
-	}, true
-}
-
-// SACK reads the numbers of a SACK; false for another type.
-func (chunk Chunk) SACK() (SACK, bool) {
-	if chunk.size < 0 {
-		return sackOf(chunk.Type, chunk.Value)
-	}
-	bytes, length, c := chunk.inC()
-	read := C.go_sack(bytes, length, c)
-	return SACK{
-		CumulativeTSNAck: uint32(read.it.cumulative_tsn_ack),
-		ARwnd:            uint32(read.it.a_rwnd),
-		BlockCount:       int(read.it.block_count),
-		DuplicateCount:   int(read.it.duplicate_count),
-	}, bool(read.is_there)
-}
-
-// GapAckBlocks goes over the gap ack blocks of a SACK; another type has none.
-func (chunk Chunk) GapAckBlocks() *Iterator[GapAckBlock] {
-	if chunk.size < 0 {
-		blocks, _ := listsOfSACK(chunk.Type, chunk.Value)
-		return inPlace(blocks, 4, blockOf)
-	}
-	bytes, length, c := chunk.inC()
-	return listed[GapAckBlock](func(to unsafe.Pointer, room C.size_t) C.size_t {
-		return C.go_gap_ack_blocks(bytes, length, c, to, room)
-	})
-}
-
-// fillBlocks reads the gap ack blocks of a SACK to a slice of as many.
-func (chunk Chunk) fillBlocks(to []GapAckBlock) {
-	bytes, length, c := chunk.inC()
-	C.go_gap_ack_blocks(bytes, length, c, first(to), C.size_t(len(to)))
-}
-
-// DuplicateTSNs goes over the duplicate TSNs of a SACK; another type has none.
-func (chunk Chunk) DuplicateTSNs() *Iterator[uint32] {
-	if chunk.size < 0 {
-		_, duplicates := listsOfSACK(chunk.Type, chunk.Value)
-		return inPlace(duplicates, 4, binary.BigEndian.Uint32)
-	}
-	bytes, length, c := chunk.inC()
-	return listed[uint32](func(to unsafe.Pointer, room C.size_t) C.size_t {
-		return C.go_duplicate_tsns(bytes, length, c, to, room)
-	})
-}
-
 // IsValidSACK returns whether it is a SACK whose gap ack blocks are in order, apart, and begin at 2 or later.
 func (chunk Chunk) IsValidSACK() bool {
-	bytes, length, c := chunk.inC()
-	return bool(C.go_validate_sack(bytes, length, c))
+	return chunk.Type == ChunkSACK && bool(C.go_validate_sack(bytesOf(chunk.Value), C.size_t(len(chunk.Value))))
 }
 
-// Init reads the numbers of INIT or INIT ACK; false for another type.
-func (chunk Chunk) Init() (Init, bool) {
-	if chunk.size < 0 {
-		return initOf(chunk.Type, chunk.Value)
-	}
-	bytes, length, c := chunk.inC()
-	read := C.go_init(bytes, length, c)
-	return Init{
-		InitiateTag:     uint32(read.it.initiate_tag),
-		ARwnd:           uint32(read.it.a_rwnd),
-		OutboundStreams: uint16(read.it.outbound_streams),
-		InboundStreams:  uint16(read.it.inbound_streams),
-		InitialTSN:      uint32(read.it.initial_tsn),
-	}, bool(read.is_there)
-}
-
-// Shutdown reads the cumulative TSN ack of SHUTDOWN; false for another type.
-func (chunk Chunk) Shutdown() (cumulativeTSNAck uint32, ok bool) {
-	if chunk.size < 0 {
-		return shutdownOf(chunk.Type, chunk.Value)
-	}
-	bytes, length, c := chunk.inC()
-	read := C.go_shutdown(bytes, length, c)
-	return uint32(read.it), bool(read.is_there)
-}
-
-// ForwardTSN reads the numbers of FORWARD-TSN or I-FORWARD-TSN; false for another type.
-func (chunk Chunk) ForwardTSN() (ForwardTSN, bool) {
-	if chunk.size < 0 {
-		return forwardTSNOf(chunk.Type, chunk.Value)
-	}
-	bytes, length, c := chunk.inC()
-	read := C.go_forward_tsn(bytes, length, c)
-	return ForwardTSN{
-		NewCumulativeTSN: uint32(read.it.new_cumulative_tsn),
-		StreamCount:      int(read.it.stream_count),
-	}, bool(read.is_there)
-}
-
-// SkippedStreams goes over the streams of FORWARD-TSN or I-FORWARD-TSN; another type has none.
-func (chunk Chunk) SkippedStreams() *Iterator[SkippedStream] {
-	if chunk.size < 0 {
-		return inPlace(listOfStreams(chunk.Type, chunk.Value))
-	}
-	bytes, length, c := chunk.inC()
-	return listed[SkippedStream](func(to unsafe.Pointer, room C.size_t) C.size_t {
-		return C.go_skipped_streams(bytes, length, c, to, room)
-	})
-}
-
-// itemsOf goes over the parameters or error causes of a list that C writes, if they are there.
-func itemsOf[T any](packet Packet, areThere bool, fill func(unsafe.Pointer, C.size_t) C.size_t,
-	of func(Packet, uint16, int, []byte) T) *Iterator[T] {
-	if !areThere {
-		return &Iterator[T]{}
-	}
-	all := listed[C.struct_dcsctp_parameter](fill)
-	return &Iterator[T]{read: func() (none T, isThere bool) {
-		if !all.Next() {
-			return none, false
-		}
-		it := all.Value()
-		return of(packet, uint16(it._type), int(it.value_offset)-4, packet.part(it.value_offset, it.value_size)), true
-	}}
-}
-
-// items goes over the parameters, or the error causes, if this is what the chunk has.
-func items[T any](chunk Chunk, areThere bool, of func(Packet, uint16, int, []byte) T) *Iterator[T] {
-	if list := listOfItems(chunk.Type, chunk.Value); chunk.size < 0 {
-		packet, base, next := chunk.packet(), chunk.Offset+4+len(chunk.Value)-len(list), 0
-		return &Iterator[T]{read: func() (none T, isThere bool) {
-			it, isThere := placeAt(list, next)
-			if !isThere || !areThere {
-				return none, false
-			}
-			next = it.next()
-			return of(packet, shortAt(list, int(it.offset)), base+int(it.offset), it.value(list)), true
-		}}
-	}
-	bytes, length, c := chunk.inC()
-	return itemsOf(chunk.packet(), areThere, func(to unsafe.Pointer, room C.size_t) C.size_t {
-		return C.go_parameters(bytes, length, c, to, room)
-	}, of)
+// list returns the parameters or error causes of a chunk, and their offset in the packet.
+func (chunk Chunk) list() (bytes []byte, offset int) {
+	bytes = itemsOf(chunk.Type, chunk.Value)
+	return bytes, chunk.Offset + 4 + len(chunk.Value) - len(bytes)
 }
 
 // newItem returns the bytes of a parameter or an error cause.
@@ -585,147 +406,4 @@ func newItem(itemType uint16, value []byte) (Packet, error) {
 	}
 	packet := append(Packet{byte(itemType >> 8), byte(itemType), byte(size >> 8), byte(size)}, value...)
 	return packet[:size:size], nil
-}
-
-// itemInC returns the bytes of a packet and a parameter or an error cause of it as C takes them.
-func itemInC(packet Packet, itemType uint16, offset int, value []byte) (*C.uint8_t, C.size_t, C.struct_dcsctp_parameter) {
-	return bytesOf(packet), C.size_t(len(packet)), C.struct_dcsctp_parameter{
-		_type:        C.uint16_t(itemType),
-		value_offset: C.size_t(offset) + 4,
-		value_size:   C.size_t(len(value)),
-		next:         C.size_t(offset + 4 + len(value)),
-	}
-}
-
-func (parameter Parameter) inC() (*C.uint8_t, C.size_t, C.struct_dcsctp_parameter) {
-	return itemInC(parameter.packet, uint16(parameter.Type), parameter.Offset, parameter.Value)
-}
-
-func (cause Cause) inC() (*C.uint8_t, C.size_t, C.struct_dcsctp_parameter) {
-	return itemInC(cause.packet, uint16(cause.Code), cause.Offset, cause.Value)
-}
-
-func number(bytes *C.uint8_t, length C.size_t, item C.struct_dcsctp_parameter) (uint32, bool) {
-	read := C.go_number(bytes, length, item)
-	return uint32(read.it), bool(read.is_there)
-}
-
-func (t ChunkType) hasCauses() bool { return t == ChunkAbort || t == ChunkError }
-
-// A Parameter is a parameter of a chunk (section 3.2.1), where it lies. Its value is what it holds: a State Cookie the
-// cookie, a Heartbeat Info the info, Supported Extensions a ChunkType in each byte.
-type Parameter struct {
-	Type   ParameterType
-	Value  []byte // without its header and padding
-	Offset int    // where it begins in the packet
-	packet Packet
-}
-
-// Parameters goes over the parameters; ABORT and ERROR, and types that have none, have none.
-func (chunk Chunk) Parameters() *Iterator[Parameter] {
-	return items(chunk, !chunk.Type.hasCauses(), parameterOf)
-}
-
-func parameterOf(packet Packet, itemType uint16, offset int, value []byte) Parameter {
-	return Parameter{Type: ParameterType(itemType), Value: value, Offset: offset, packet: packet}
-}
-
-// NewParameter returns a parameter of this type with a copy of this value, which is read as one of a packet is; its Offset is 0.
-// ErrBadValue where it would have more than 65,535 bytes.
-func NewParameter(parameterType ParameterType, value []byte) (Parameter, error) {
-	packet, err := newItem(uint16(parameterType), value)
-	if err != nil {
-		return Parameter{}, err
-	}
-	return parameterOf(packet, uint16(parameterType), 0, packet[4:]), nil
-}
-
-// Bytes returns the whole parameter, its header and its value, without padding, where it lies in the packet: what the parameter
-// Unrecognized Parameter of an INIT ACK holds (section 3.3.3.1.2).
-func (parameter Parameter) Bytes() []byte {
-	return parameter.packet.withHeader(C.size_t(parameter.Offset)+4, C.size_t(len(parameter.Value)))
-}
-
-// String returns its type and the size of its value, as in "State Cookie size=4".
-func (parameter Parameter) String() string {
-	return fmt.Sprintf("%v size=%d", parameter.Type, len(parameter.Value))
-}
-
-// Number reads a value that is one number of four bytes, whatever its type: the method of Zero Checksum Acceptable
-// (RFC 9653 section 4). False where the value has another size.
-func (parameter Parameter) Number() (uint32, bool) { return number(parameter.inC()) }
-
-// ReConfig reads a request or the response of RE-CONFIG; false for another type.
-func (parameter Parameter) ReConfig() (ReConfig, bool) {
-	bytes, length, c := parameter.inC()
-	read := C.go_re_config(bytes, length, c)
-	it := read.it
-	return ReConfig{
-		Type:            ParameterType(it._type),
-		RequestNumber:   uint32(it.request_number),
-		ResponseNumber:  uint32(it.response_number),
-		LastTSN:         uint32(it.last_tsn),
-		Result:          ReConfigResult(it.result),
-		HasNextTSNs:     bool(it.has_next_tsns),
-		SenderNextTSN:   uint32(it.sender_next_tsn),
-		ReceiverNextTSN: uint32(it.receiver_next_tsn),
-		NewStreams:      uint16(it.new_streams),
-		StreamCount:     int(it.stream_count),
-	}, bool(read.is_there)
-}
-
-// ResetStreams goes over the streams of an Outgoing or Incoming SSN Reset; another type has none. A request that names no
-// stream is for all of them.
-func (parameter Parameter) ResetStreams() *Iterator[uint16] {
-	bytes, length, c := parameter.inC()
-	return listed[uint16](func(to unsafe.Pointer, room C.size_t) C.size_t {
-		return C.go_reset_streams(bytes, length, c, to, room)
-	})
-}
-
-// A Cause is an error cause of ABORT or ERROR (section 3.3.10), where it lies. Its value is what it holds: User-Initiated
-// Abort and Protocol Violation a text, Unrecognized Chunk Type the chunk.
-type Cause struct {
-	Code   CauseCode
-	Value  []byte // without its header and padding
-	Offset int    // where it begins in the packet
-	packet Packet
-}
-
-// Causes goes over the error causes of ABORT or ERROR; another type has none.
-func (chunk Chunk) Causes() *Iterator[Cause] {
-	return items(chunk, chunk.Type.hasCauses(), causeOf)
-}
-
-func causeOf(packet Packet, itemType uint16, offset int, value []byte) Cause {
-	return Cause{Code: CauseCode(itemType), Value: value, Offset: offset, packet: packet}
-}
-
-// NewCause returns an error cause of this code with a copy of this value, likewise.
-func NewCause(code CauseCode, value []byte) (Cause, error) {
-	packet, err := newItem(uint16(code), value)
-	if err != nil {
-		return Cause{}, err
-	}
-	return causeOf(packet, uint16(code), 0, packet[4:]), nil
-}
-
-// Bytes returns the whole error cause, its header and its value, without padding, where it lies in the packet.
-func (cause Cause) Bytes() []byte {
-	return cause.packet.withHeader(C.size_t(cause.Offset)+4, C.size_t(len(cause.Value)))
-}
-
-// String returns its code and the size of its value, as in "Protocol Violation size=3".
-func (cause Cause) String() string { return fmt.Sprintf("%v size=%d", cause.Code, len(cause.Value)) }
-
-// Number reads a value that is one number of four bytes, whatever its code: the TSN of No User Data (section 3.3.10.9).
-// False where the value has another size.
-func (cause Cause) Number() (uint32, bool) { return number(cause.inC()) }
-
-// MissingParameters goes over the types of the cause Missing Mandatory Parameter (section 3.3.10.2); another code has none.
-func (cause Cause) MissingParameters() *Iterator[ParameterType] {
-	bytes, length, c := cause.inC()
-	return listed[ParameterType](func(to unsafe.Pointer, room C.size_t) C.size_t {
-		return C.go_missing_parameters(bytes, length, c, to, room)
-	})
 }

@@ -9,7 +9,6 @@ import (
 	"fmt"
 	"net/netip"
 	"strings"
-	"unsafe"
 )
 
 // A Registered is what a chunk, a parameter or an error cause holds whose type has no method of its own here, but a place in
@@ -29,7 +28,7 @@ type Registered struct {
 	Rest   []byte
 	fields []field // of one that was read
 	packet Packet
-	place  C.struct_dcsctp_parameter // of the rest
+	offset int // of the rest, in the packet
 }
 
 // form is what a field of a value is.
@@ -67,29 +66,26 @@ func (all layouts) of(number uint16) ([]field, bool) {
 	return nil, false
 }
 
+// The levels, and the types of each that Registered reads.
+const (
+	chunkLevel = iota
+	parameterLevel
+	causeLevel
+)
+
+var allLayouts = [...]layouts{registeredChunks, registeredParameters, registeredCauses}
+
 // Registered reads ECNE, CWR, AUTH, NR-SACK, ASCONF ACK, PKTDROP, PAD or ASCONF. Each of these three methods returns false for
 // another type, and where the value has a size that its type doesn't allow, or a list that is broken: Check looks at none of
 // these values. A list is looked at one level deep.
 func (chunk Chunk) Registered() (Registered, bool) {
-	bytes, length, c := chunk.inC()
-	return registered(chunk.packet(), registeredChunks, uint16(chunk.Type), C.go_registered_chunk(bytes, length, c))
+	return registered(chunkLevel, uint16(chunk.Type), chunk.Value, chunk.packet(), chunk.Offset+4)
 }
 
-// Registered reads a parameter of the registry that has no method of its own here.
-func (parameter Parameter) Registered() (Registered, bool) {
-	bytes, length, c := parameter.inC()
-	return registered(parameter.packet, registeredParameters, uint16(parameter.Type), C.go_registered_parameter(bytes, length, c))
-}
-
-// Registered reads an error cause of the registry that has no method of its own here.
-func (cause Cause) Registered() (Registered, bool) {
-	bytes, length, c := cause.inC()
-	return registered(cause.packet, registeredCauses, uint16(cause.Code), C.go_registered_cause(bytes, length, c))
-}
-
-// registered returns what C has read.
-func registered(packet Packet, all layouts, number uint16, read C.struct_go_registered) (Registered, bool) {
-	fields, isThere := all.of(number)
+// registered returns what C reads of a value that lies at an offset in a packet.
+func registered(level C.int, number uint16, value Packet, packet Packet, offset int) (Registered, bool) {
+	fields, isThere := allLayouts[level].of(number)
+	read := C.go_registered(level, C.uint16_t(number), bytesOf(value), C.size_t(len(value)))
 	if !isThere || !bool(read.is_there) {
 		return Registered{}, false
 	}
@@ -104,11 +100,10 @@ func registered(packet Packet, all layouts, number uint16, read C.struct_go_regi
 		case ofU16:
 			result.Numbers, shorts = append(result.Numbers, uint32(shorts[0])), shorts[1:]
 		case ofAddress:
-			result.Address, _ = netip.AddrFromSlice(packet.part(it.address_offset, it.address_size))
+			result.Address, _ = netip.AddrFromSlice(value.part(int(it.address_offset), int(it.address_size)))
 		default:
-			result.Rest = packet.part(it.rest_offset, it.rest_size)
-			result.place.value_offset, result.place.value_size = it.rest_offset, it.rest_size
-			result.place.next = it.rest_offset + it.rest_size
+			result.offset = offset + int(it.rest_offset)
+			result.Rest = value.part(int(it.rest_offset), int(it.rest_size))
 		}
 	}
 	return result, true
@@ -146,35 +141,28 @@ func (it Registered) String() string {
 	return strings.Join(parts, " ")
 }
 
-// is returns whether what was read ends in this.
-func (it Registered) is(form form) bool {
-	return len(it.fields) > 0 && it.fields[len(it.fields)-1].form == form
+// endIn returns the rest of what was read, if it is this.
+func (it Registered) endIn(form form) []byte {
+	if len(it.fields) > 0 && it.fields[len(it.fields)-1].form == form {
+		return it.Rest
+	}
+	return nil
 }
 
 // Parameters goes over the parameters that end what was read: the requests of ASCONF, the addresses of the cause Restart of an
 // Association with New Addresses. Others have none.
 func (it Registered) Parameters() *Iterator[Parameter] {
-	return itemsOf(it.packet, it.is(ofParameters), it.list, parameterOf)
+	return parametersOf(it.packet, it.endIn(ofParameters), it.offset)
 }
 
 // Causes goes over the error causes of an Error Cause Indication; others have none.
 func (it Registered) Causes() *Iterator[Cause] {
-	return itemsOf(it.packet, it.is(ofCauses), it.list, causeOf)
-}
-
-// list writes the items of the rest.
-func (it Registered) list(to unsafe.Pointer, room C.size_t) C.size_t {
-	return C.go_items(bytesOf(it.packet), it.place.next, it.place.value_offset, to, room)
+	return causesOf(it.packet, it.endIn(ofCauses), it.offset)
 }
 
 // ShortNumbers goes over the numbers of two bytes of Supported Address Types and Requested HMAC Algorithm; others have none.
 func (it Registered) ShortNumbers() *Iterator[uint16] {
-	if !it.is(ofShortNumbers) {
-		return &Iterator[uint16]{}
-	}
-	return listed[uint16](func(to unsafe.Pointer, room C.size_t) C.size_t {
-		return C.go_short_numbers(bytesOf(it.packet), C.size_t(len(it.packet)), it.place, to, room)
-	})
+	return &Iterator[uint16]{items: appendShorts[uint16](nil, it.endIn(ofShortNumbers))}
 }
 
 // Addresses returns the addresses of parameters, in order: those of the IPv4 Address and IPv6 Address parameters of an INIT or INIT
@@ -215,39 +203,16 @@ func (b *Builder) AddAddresses(addresses ...netip.Addr) error {
 // carry is ignored. Each of these three functions returns ErrBadValue also for another type, a number that has no room in its
 // field, an address that is missing or has a zone, and a rest that the type doesn't allow, as a broken list.
 func (b *Builder) AddRegisteredChunk(chunkType ChunkType, it Registered) error {
-	c, bytes, err := it.in(b, registeredChunks, uint16(chunkType))
-	if err != nil {
-		return err
-	}
-	return errorOf(C.go_add_registered_chunk(bytesOf(b.buffer), &b.c, C.uint8_t(chunkType), c, bytesOf(bytes),
-		C.size_t(len(bytes))))
+	return b.addRegistered(chunkLevel, uint16(chunkType), it)
 }
 
-// AddRegisteredParameter adds a parameter that Registered reads to the last chunk: to an INIT, or to the requests of an ASCONF.
-func (b *Builder) AddRegisteredParameter(parameterType ParameterType, it Registered) error {
-	c, bytes, err := it.in(b, registeredParameters, uint16(parameterType))
-	if err != nil {
-		return err
-	}
-	return errorOf(C.go_add_registered_parameter(bytesOf(b.buffer), &b.c, C.uint16_t(parameterType), c, bytesOf(bytes),
-		C.size_t(len(bytes))))
-}
-
-// AddRegisteredCause adds an error cause that Registered reads to the last chunk.
-func (b *Builder) AddRegisteredCause(code CauseCode, it Registered) error {
-	c, bytes, err := it.in(b, registeredCauses, uint16(code))
-	if err != nil {
-		return err
-	}
-	return errorOf(C.go_add_registered_cause(bytesOf(b.buffer), &b.c, C.uint16_t(code), c, bytesOf(bytes),
-		C.size_t(len(bytes))))
-}
-
-// in returns what C takes: the places of the address and the rest, and the bytes that they lie in, apart from the builder's.
-func (it Registered) in(b *Builder, all layouts, number uint16) (c C.struct_dcsctp_registered, bytes []byte, err error) {
-	fields, isThere := all.of(number)
+// addRegistered calls C with the places of the address and the rest, and the bytes that they lie in, apart from the builder's.
+func (b *Builder) addRegistered(level C.int, number uint16, it Registered) error {
+	var c C.struct_dcsctp_registered
+	var bytes []byte
+	fields, isThere := allLayouts[level].of(number)
 	if !isThere {
-		return c, nil, ErrBadValue
+		return ErrBadValue
 	}
 	longs, shorts := []*C.uint32_t{&c.number, &c.second_number},
 		[]*C.uint16_t{&c.short_number, &c.second_short_number, &c.third_short_number}
@@ -262,12 +227,12 @@ func (it Registered) in(b *Builder, all layouts, number uint16) (c C.struct_dcsc
 			*longs[0], longs = C.uint32_t(value), longs[1:]
 		case ofU16:
 			if value > 0xffff {
-				return c, nil, ErrBadValue
+				return ErrBadValue
 			}
 			*shorts[0], shorts = C.uint16_t(value), shorts[1:]
 		case ofAddress:
 			if it.Address.Zone() != "" {
-				return c, nil, ErrBadValue
+				return ErrBadValue
 			}
 			bytes = it.Address.AsSlice()
 			c.address_size = C.size_t(len(bytes))
@@ -280,5 +245,7 @@ func (it Registered) in(b *Builder, all layouts, number uint16) (c C.struct_dcsc
 			}
 		}
 	}
-	return c, bytes, nil
+	return b.added(level == chunkLevel, func(to *C.uint8_t, room C.size_t, size *C.size_t, start C.size_t) C.uint32_t {
+		return C.go_add_registered(level, to, room, size, start, C.uint16_t(number), &c, bytesOf(bytes), C.size_t(len(bytes)))
+	})
 }

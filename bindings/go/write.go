@@ -6,6 +6,7 @@ package davgyuti
 import "C"
 
 import (
+	"unicode/utf8"
 	"unsafe"
 
 	"davgyuti.example/davgyuti/internal/direct"
@@ -32,11 +33,9 @@ import (
 //	if err == nil {
 //		err = packet.Seal()
 //	}
-//
-// The header is written with what comes first after Begin: an Add function, Bytes, LastChunk or Seal.
 type Builder struct {
-	buffer []byte
-	c      C.struct_go_builder
+	buffer      []byte
+	size, start int // of what is written, and of the last chunk: the size where there is none
 }
 
 // Begin begins a packet with these ports and this tag; the length of the buffer is the room. Bytes of the buffer after the
@@ -55,202 +54,154 @@ func (b *Builder) Reset(buffer []byte, sourcePort, destinationPort uint16, verif
 	if len(buffer) < FirstChunk {
 		return ErrNoRoom
 	}
-	b.buffer, b.c.begins = buffer, true
-	b.c.room, b.c.size, b.c.start = C.size_t(len(buffer)), FirstChunk, FirstChunk
-	b.c.source_port, b.c.destination_port = C.uint16_t(sourcePort), C.uint16_t(destinationPort)
-	b.c.tag = C.uint32_t(verificationTag)
+	b.buffer, b.size, b.start = buffer, FirstChunk, FirstChunk
+	to := (*[FirstChunk]byte)(buffer)
+	putShort(to[:], 0, sourcePort)
+	putShort(to[:], 2, destinationPort)
+	putNumber(to[:], 4, verificationTag)
+	putNumber(to[:], 8, 0)
 	return nil
 }
 
 // Bytes returns the packet, as far as it is written: a part of the buffer.
-func (b *Builder) Bytes() []byte {
-	if b.c.begins {
-		C.go_begin(bytesOf(b.buffer), &b.c)
-	}
-	return b.buffer[:b.c.size]
-}
+func (b *Builder) Bytes() []byte { return b.buffer[:b.size] }
 
 // LastChunk returns the last chunk, where it lies in the buffer: its Bytes are all that is sent of a chunk without a packet
 // around it. False where there is none.
-func (b *Builder) LastChunk() (Chunk, bool) { return Packet(b.Bytes()).ChunkAt(int(b.c.start)) }
+func (b *Builder) LastChunk() (Chunk, bool) { return Packet(b.Bytes()).ChunkAt(b.start) }
 
 // Seal writes the CRC32c. Call it last. Whether there is a chunk isn't looked at: without one the packet is sealed, and
 // Packet.Check refuses it.
 func (b *Builder) Seal() error {
 	if isDirect {
-		return b.call(at.seal, nil)
+		size := C.size_t(b.size)
+		return errorOf(C.uint32_t(direct.Call(functions.seal, unsafe.Pointer(bytesOf(b.buffer)), unsafe.Pointer(&size), nil)))
 	}
-	return errorOf(C.go_seal(bytesOf(b.buffer), &b.c))
-}
-
-// call calls a function directly, with the packet and what is added to it.
-func (b *Builder) call(function, it unsafe.Pointer) error {
-	return errorOf(C.uint32_t(direct.Call(function, unsafe.Pointer(bytesOf(b.buffer)), unsafe.Pointer(&b.c), it)))
+	return Packet(b.Bytes()).Seal()
 }
 
 // RemoveLastChunk takes the last chunk back, with its list; nothing if that was done, or there is none. After it there is
 // no chunk to add to, until one is added.
-func (b *Builder) RemoveLastChunk() { b.c.size = b.c.start }
+func (b *Builder) RemoveLastChunk() { b.size = b.start }
+
+// most is how many bytes a packet has at most that is written.
+const most = 65532
+
+// newChunk adds a chunk with room for a value, which it returns: of zeros, or of what was in the buffer.
+func (b *Builder) newChunk(chunkType ChunkType, flags uint8, size int) ([]byte, error) {
+	at, whole := b.size, size+4
+	end := at + (whole+3)&^3
+	switch {
+	case at < FirstChunk:
+		return nil, ErrBadPlace
+	case whole > 0xffff:
+		return nil, ErrBadValue
+	case end > len(b.buffer) || end > most:
+		return nil, ErrNoRoom
+	}
+	b.start, b.size = at, end
+	return putHeader(b.buffer[at:end], uint16(chunkType)<<8|uint16(flags), whole), nil
+}
+
+// putHeader writes the header of four bytes, and the padding; it returns the value between them.
+func putHeader(to []byte, itemType uint16, whole int) []byte {
+	putNumber(to, len(to)-4, 0)
+	putNumber(to, 0, uint32(itemType)<<16|uint32(whole))
+	return to[4:whole:whole]
+}
+
+// newItem adds a parameter or an error cause to the last chunk, likewise.
+func (b *Builder) newItem(itemType uint16, size int) ([]byte, error) {
+	at, whole := b.size, size+4
+	end := at + (whole+3)&^3
+	switch {
+	case !b.hasChunk():
+		return nil, ErrBadPlace
+	case at-b.start+whole > 0xffff:
+		return nil, ErrBadValue
+	case end > len(b.buffer) || end > most:
+		return nil, ErrNoRoom
+	}
+	putShort(b.buffer, b.start+2, uint16(at-b.start+whole))
+	b.size = end
+	return putHeader(b.buffer[at:end], itemType, whole), nil
+}
+
+// hasChunk returns whether there is a chunk to add to: what the last one's length says ends the packet.
+func (b *Builder) hasChunk() bool {
+	value, isThere := valueAt(b.buffer[:b.size], b.start)
+	return isThere && b.start >= FirstChunk && after(b.start, value) == b.size
+}
+
+// refusal returns why what can't be written isn't.
+func (b *Builder) refusal() error {
+	if !b.hasChunk() {
+		return ErrBadPlace
+	}
+	return ErrBadValue
+}
 
 // AddChunk adds a chunk of any type with these flags and this value.
 func (b *Builder) AddChunk(chunkType ChunkType, flags uint8, value []byte) error {
 	value = b.apart(value)
-	it := C.struct_go_item{value: bytesOf(value), count: C.size_t(len(value)), _type: C.uint16_t(chunkType), flags: C.uint8_t(flags)}
-	if isDirect {
-		return b.call(at.add_chunk, unsafe.Pointer(&it))
-	}
-	return errorOf(C.go_add_chunk(bytesOf(b.buffer), &b.c, it))
-}
-
-// AddData adds DATA; its MID and FSN are ignored.
-func (b *Builder) AddData(data Data) error {
-	payload := b.apart(data.Payload)
-	it := C.struct_go_user_data{bytesOf(payload), C.size_t(len(payload)), data.c()}
-	if isDirect {
-		return b.call(at.add_data, unsafe.Pointer(&it))
-	}
-	return errorOf(C.go_add_data(bytesOf(b.buffer), &b.c, it))
-}
-
-// AddIData adds I-DATA; its SSN is ignored, FSN at the beginning of a message, and PPID elsewhere.
-func (b *Builder) AddIData(data Data) error {
-	payload := b.apart(data.Payload)
-	it := C.struct_go_user_data{bytesOf(payload), C.size_t(len(payload)), data.c()}
-	if isDirect {
-		return b.call(at.add_i_data, unsafe.Pointer(&it))
-	}
-	return errorOf(C.go_add_i_data(bytesOf(b.buffer), &b.c, it))
-}
-
-// AddSACK adds a SACK.
-func (b *Builder) AddSACK(cumulativeTSNAck, aRwnd uint32, blocks []GapAckBlock, duplicates []uint32) error {
-	it := C.struct_go_lists{blocksOf(blocks), C.size_t(len(blocks)), (*C.uint32_t)(first(duplicates)), C.size_t(len(duplicates)),
-		C.uint32_t(cumulativeTSNAck), C.uint32_t(aRwnd)}
-	if isDirect {
-		return b.call(at.add_sack, unsafe.Pointer(&it))
-	}
-	return errorOf(C.go_add_sack(bytesOf(b.buffer), &b.c, it))
-}
-
-// AddInit adds INIT with these numbers, and no parameter yet.
-func (b *Builder) AddInit(init Init) error {
-	it := init.c()
-	if isDirect {
-		return b.call(at.add_init, unsafe.Pointer(&it))
-	}
-	return errorOf(C.go_add_init(bytesOf(b.buffer), &b.c, it))
-}
-
-// AddInitAck adds INIT ACK with these numbers, and no parameter yet; its State Cookie has to be added.
-func (b *Builder) AddInitAck(init Init) error {
-	it := init.c()
-	if isDirect {
-		return b.call(at.add_init_ack, unsafe.Pointer(&it))
-	}
-	return errorOf(C.go_add_init_ack(bytesOf(b.buffer), &b.c, it))
-}
-
-// AddCookieEcho adds COOKIE ECHO with this cookie.
-func (b *Builder) AddCookieEcho(cookie []byte) error {
-	cookie = b.apart(cookie)
-	return errorOf(C.go_add_cookie_echo(bytesOf(b.buffer), &b.c, bytesOf(cookie), C.size_t(len(cookie))))
-}
-
-// AddCookieAck adds COOKIE ACK.
-func (b *Builder) AddCookieAck() error {
-	if isDirect {
-		return b.call(at.add_cookie_ack, nil)
-	}
-	return errorOf(C.go_add_cookie_ack(bytesOf(b.buffer), &b.c))
+	to, err := b.newChunk(chunkType, flags, len(value))
+	copy(to, value)
+	return err
 }
 
 // AddHeartbeat adds HEARTBEAT with this heartbeat info.
-func (b *Builder) AddHeartbeat(info []byte) error { return b.heartbeat(false, info) }
+func (b *Builder) AddHeartbeat(info []byte) error {
+	return b.withItem(ChunkHeartbeat, 0, uint16(ParameterHeartbeatInfo), info)
+}
 
 // AddHeartbeatAck adds HEARTBEAT ACK with this heartbeat info.
-func (b *Builder) AddHeartbeatAck(info []byte) error { return b.heartbeat(true, info) }
-
-func (b *Builder) heartbeat(isAck bool, info []byte) error {
-	info = b.apart(info)
-	return errorOf(C.go_add_heartbeat(bytesOf(b.buffer), &b.c, C.bool(isAck), bytesOf(info), C.size_t(len(info))))
+func (b *Builder) AddHeartbeatAck(info []byte) error {
+	return b.withItem(ChunkHeartbeatAck, 0, uint16(ParameterHeartbeatInfo), info)
 }
 
 // AddAbort adds ABORT with the cause User-Initiated Abort; ErrBadValue where the reason isn't UTF-8. For other causes:
 // AddChunk of ChunkAbort, and AddCause.
 func (b *Builder) AddAbort(reason string, tagReflected bool) error {
-	bytes := []byte(reason)
-	return errorOf(C.go_add_abort(bytesOf(b.buffer), &b.c, C.bool(tagReflected), bytesOf(bytes), C.size_t(len(bytes))))
-}
-
-// AddShutdown adds SHUTDOWN.
-func (b *Builder) AddShutdown(cumulativeTSNAck uint32) error {
-	return errorOf(C.go_add_shutdown(bytesOf(b.buffer), &b.c, C.uint32_t(cumulativeTSNAck)))
-}
-
-// AddShutdownAck adds SHUTDOWN ACK.
-func (b *Builder) AddShutdownAck() error {
-	return errorOf(C.go_add_shutdown_ack(bytesOf(b.buffer), &b.c))
-}
-
-// AddShutdownComplete adds SHUTDOWN COMPLETE.
-func (b *Builder) AddShutdownComplete(tagReflected bool) error {
-	return errorOf(C.go_add_shutdown_complete(bytesOf(b.buffer), &b.c, C.bool(tagReflected)))
-}
-
-// AddForwardTSN adds FORWARD-TSN.
-func (b *Builder) AddForwardTSN(newCumulativeTSN uint32, streams []SkippedStream) error {
-	return errorOf(C.go_add_forward_tsn(bytesOf(b.buffer), &b.c, C.uint32_t(newCumulativeTSN), streamsOf(streams),
-		C.size_t(len(streams))))
-}
-
-// AddIForwardTSN adds I-FORWARD-TSN.
-func (b *Builder) AddIForwardTSN(newCumulativeTSN uint32, streams []SkippedStream) error {
-	return errorOf(C.go_add_i_forward_tsn(bytesOf(b.buffer), &b.c, C.uint32_t(newCumulativeTSN), streamsOf(streams),
-		C.size_t(len(streams))))
-}
-
-// AddParameter adds a parameter to the last chunk.
-func (b *Builder) AddParameter(parameterType ParameterType, value []byte) error {
-	return b.item(C.uint16_t(parameterType), value)
-}
-
-// AddCause adds an error cause to the last chunk.
-func (b *Builder) AddCause(code CauseCode, value []byte) error {
-	return b.item(C.uint16_t(code), value)
-}
-
-func (b *Builder) item(itemType C.uint16_t, value []byte) error {
-	value = b.apart(value)
-	it := C.struct_go_item{value: bytesOf(value), count: C.size_t(len(value)), _type: itemType}
-	if isDirect {
-		return b.call(at.add_parameter, unsafe.Pointer(&it))
+	if b.size >= FirstChunk && !utf8.ValidString(reason) {
+		return ErrBadValue
 	}
-	return errorOf(C.go_add_parameter(bytesOf(b.buffer), &b.c, it))
+	return b.withItem(ChunkAbort, bitOf(tagReflected), uint16(CauseUserInitiatedAbort), []byte(reason))
 }
 
-// AddNumber adds a parameter whose value is a number of four bytes: Zero Checksum Acceptable.
-func (b *Builder) AddNumber(parameterType ParameterType, number uint32) error {
-	return errorOf(C.go_add_number(bytesOf(b.buffer), &b.c, C.uint16_t(parameterType), C.uint32_t(number)))
+// withItem adds a chunk with one parameter or error cause.
+func (b *Builder) withItem(chunkType ChunkType, flags uint8, itemType uint16, value []byte) error {
+	value = b.apart(value)
+	to, err := b.newChunk(chunkType, flags, 4+len(value))
+	if err == nil {
+		putNumber(to, 0, uint32(itemType)<<16|uint32(len(to)))
+		copy(to[4:], value)
+	}
+	return err
 }
 
-// AddCauseNumber adds an error cause whose value is a number of four bytes: No User Data.
-func (b *Builder) AddCauseNumber(code CauseCode, number uint32) error {
-	return b.AddNumber(ParameterType(code), number)
+func (b *Builder) addItem(itemType uint16, value []byte) error {
+	value = b.apart(value)
+	to, err := b.newItem(itemType, len(value))
+	copy(to, value)
+	return err
 }
 
-// AddReConfig adds a request or the response of RE-CONFIG to the last chunk: call AddChunk(ChunkReConfig, 0, nil) first. The
-// streams are written for an Outgoing or Incoming SSN Reset alone. ErrBadValue for another type, or a response with a result
-// above 6.
-func (b *Builder) AddReConfig(reConfig ReConfig, streams []uint16) error {
-	value := reConfig.c()
-	return errorOf(C.go_add_re_config(bytesOf(b.buffer), &b.c, &value, (*C.uint16_t)(first(streams)),
-		C.size_t(len(streams))))
+func (b *Builder) addNumber(itemType uint16, number uint32) error {
+	to, err := b.newItem(itemType, 4)
+	if err == nil {
+		putNumber(to, 0, number)
+	}
+	return err
 }
 
-// AddMissingParameters adds the cause Missing Mandatory Parameter with these types.
-func (b *Builder) AddMissingParameters(types []ParameterType) error {
-	return errorOf(C.go_add_missing_parameters(bytesOf(b.buffer), &b.c, (*C.uint16_t)(first(types)),
-		C.size_t(len(types))))
+// added calls a function of C that adds a chunk, or something to the last one.
+func (b *Builder) added(isChunk bool, call func(to *C.uint8_t, room C.size_t, size *C.size_t, start C.size_t) C.uint32_t) error {
+	before, size := b.size, C.size_t(b.size)
+	code := call(bytesOf(b.buffer), C.size_t(len(b.buffer)), &size, C.size_t(b.start))
+	if b.size = int(size); isChunk && b.size > before {
+		b.start = before
+	}
+	return errorOf(code)
 }
 
 // AddUnrecognizedParameters adds to an INIT ACK, the last chunk, an Unrecognized Parameter (section 3.3.3.1.2) for each parameter of
@@ -258,20 +209,24 @@ func (b *Builder) AddMissingParameters(types []ParameterType) error {
 // processing stops, and with it. All, or nothing. known are the types that your program knows. The first result is where your
 // program stops: the Offset of the parameter at which processing stops, or of the end of the INIT's value if it stops at none.
 func (b *Builder) AddUnrecognizedParameters(init Chunk, known []ParameterType) (int, error) {
-	from, length, chunk := init.in(b.apart(init.packet())).inC()
-	reported := C.go_add_unrecognized_parameters(bytesOf(b.buffer), &b.c, from, length, &chunk, (*C.uint16_t)(first(known)),
-		C.size_t(len(known)))
-	return int(reported.end), errorOf(reported.code)
+	list, offset, end := b.listOf(init)
+	err := b.added(false, func(to *C.uint8_t, room C.size_t, size *C.size_t, start C.size_t) C.uint32_t {
+		return C.dcsctp_add_unrecognized_parameters(to, room, size, start, bytesOf(list), C.size_t(len(list)),
+			(*C.uint16_t)(first(known)), C.size_t(len(known)), end)
+	})
+	return offset + int(*end), err
 }
 
 // AddUnrecognizedParametersError adds an ERROR with a cause Unrecognized Parameters (section 3.3.10.8) for each parameter of an
 // INIT ACK that came, or of another chunk but INIT, likewise; no ERROR if there is none. The packet is the one that answers: that
 // of an INIT ACK begins with COOKIE ECHO.
 func (b *Builder) AddUnrecognizedParametersError(came Chunk, known []ParameterType) (int, error) {
-	from, length, chunk := came.in(b.apart(came.packet())).inC()
-	reported := C.go_add_unrecognized_parameters_error(bytesOf(b.buffer), &b.c, from, length, &chunk, (*C.uint16_t)(first(known)),
-		C.size_t(len(known)))
-	return int(reported.end), errorOf(reported.code)
+	list, offset, end := b.listOf(came)
+	err := b.added(true, func(to *C.uint8_t, room C.size_t, size *C.size_t, _ C.size_t) C.uint32_t {
+		return C.dcsctp_add_unrecognized_parameters_error(to, room, size, bytesOf(list), C.size_t(len(list)),
+			(*C.uint16_t)(first(known)), C.size_t(len(known)), end)
+	})
+	return offset + int(*end), err
 }
 
 // AddUnrecognizedChunks adds an ERROR with a cause Unrecognized Chunk Type (section 3.3.10.6) for each chunk of a packet that came
@@ -280,21 +235,32 @@ func (b *Builder) AddUnrecognizedParametersError(came Chunk, known []ParameterTy
 // program stops: the Offset of the chunk at which processing stops, or the packet's length if it stops at none.
 func (b *Builder) AddUnrecognizedChunks(came Packet, known []ChunkType) (int, error) {
 	came = b.apart(came)
-	reported := C.go_add_unrecognized_chunks(bytesOf(b.buffer), &b.c, bytesOf(came), C.size_t(len(came)), (*C.uint8_t)(first(known)),
-		C.size_t(len(known)))
-	return int(reported.end), errorOf(reported.code)
+	var end C.size_t
+	err := b.added(true, func(to *C.uint8_t, room C.size_t, size *C.size_t, _ C.size_t) C.uint32_t {
+		return C.dcsctp_add_unrecognized_chunks(to, room, size, bytesOf(came), C.size_t(len(came)),
+			(*C.uint8_t)(first(known)), C.size_t(len(known)), &end)
+	})
+	return int(end), err
 }
 
 // AddNewAddresses adds to an ABORT, the last chunk, the cause Restart of an Association with New Addresses (section 3.3.10.11),
 // with the addresses that an INIT adds to those of an association, known, as they are in the INIT: see Chunk.AddsAddresses.
 func (b *Builder) AddNewAddresses(init Chunk, known []byte) error {
 	known = b.apart(known)
-	from, length, chunk := init.in(b.apart(init.packet())).inC()
-	return errorOf(C.go_add_new_addresses(bytesOf(b.buffer), &b.c, from, length, &chunk, bytesOf(known),
-		C.size_t(len(known))))
+	list, _, _ := b.listOf(init)
+	return b.added(false, func(to *C.uint8_t, room C.size_t, size *C.size_t, start C.size_t) C.uint32_t {
+		return C.dcsctp_add_new_addresses(to, room, size, start, bytesOf(list), C.size_t(len(list)),
+			bytesOf(known), C.size_t(len(known)))
+	})
 }
 
-// apart returns what is to be written, and a copy where it lies in the buffer itself: C reads and writes apart.
+// listOf returns the list of a chunk, apart from the buffer, its offset in the chunk's packet, and where the program stops in it.
+func (b *Builder) listOf(came Chunk) (list []byte, offset int, end *C.size_t) {
+	list, offset = came.list()
+	return b.apart(list), offset, new(C.size_t)
+}
+
+// apart returns what is to be written, and a copy where it lies in the buffer itself.
 func (b *Builder) apart(value []byte) []byte {
 	if len(value) == 0 || len(b.buffer) == 0 {
 		return value
@@ -304,43 +270,4 @@ func (b *Builder) apart(value []byte) []byte {
 		return append([]byte(nil), value...)
 	}
 	return value
-}
-
-func (data Data) c() C.struct_dcsctp_data {
-	return C.struct_dcsctp_data{
-		tsn:           C.uint32_t(data.TSN),
-		mid:           C.uint32_t(data.MID),
-		fsn:           C.uint32_t(data.FSN),
-		ppid:          C.uint32_t(data.PPID),
-		stream:        C.uint16_t(data.Stream),
-		ssn:           C.uint16_t(data.SSN),
-		is_unordered:  C.bool(data.IsUnordered),
-		is_beginning:  C.bool(data.IsBeginning),
-		is_end:        C.bool(data.IsEnd),
-		immediate_ack: C.bool(data.ImmediateAck),
-	}
-}
-
-func (init Init) c() C.struct_dcsctp_init {
-	return C.struct_dcsctp_init{
-		initiate_tag:     C.uint32_t(init.InitiateTag),
-		a_rwnd:           C.uint32_t(init.ARwnd),
-		outbound_streams: C.uint16_t(init.OutboundStreams),
-		inbound_streams:  C.uint16_t(init.InboundStreams),
-		initial_tsn:      C.uint32_t(init.InitialTSN),
-	}
-}
-
-func (reConfig ReConfig) c() C.struct_dcsctp_re_config {
-	return C.struct_dcsctp_re_config{
-		_type:             C.uint16_t(reConfig.Type),
-		request_number:    C.uint32_t(reConfig.RequestNumber),
-		response_number:   C.uint32_t(reConfig.ResponseNumber),
-		last_tsn:          C.uint32_t(reConfig.LastTSN),
-		result:            C.uint32_t(reConfig.Result),
-		has_next_tsns:     C.bool(reConfig.HasNextTSNs),
-		sender_next_tsn:   C.uint32_t(reConfig.SenderNextTSN),
-		receiver_next_tsn: C.uint32_t(reConfig.ReceiverNextTSN),
-		new_streams:       C.uint16_t(reConfig.NewStreams),
-	}
 }
