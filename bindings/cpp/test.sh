@@ -3,9 +3,10 @@
 # usage: bindings/cpp/test.sh [DIST]
 #
 # Builds test.cc with g++ and clang++, those that are there, as C++17, C++20 and C++23, with the sanitizers, over the text in the
-# folder DIST (else the repository's dist/), and runs it; show.cc and the README's program as well, as C++17; all with every
-# warning as an error. Has the compilers refuse each WAY of dangling.cc, some of them clang++ alone. Looks whether dcsctp.hpp
-# calls each function of dcsctp.h, and by clang-tidy whether each result is [[nodiscard]]. Stops at the first that fails.
+# folder DIST (else the repository's dist/), and runs it over registry/vectors, and the file $VECTORS; show.cc and the README's
+# program as well, as C++17; all with every warning as an error. Has the compilers refuse each WAY of dangling.cc, some of them
+# clang++ alone. Looks whether dcsctp.hpp calls each function of dcsctp.h, or test.cc compares with it what is read by generated
+# code; and by clang-tidy whether each result is [[nodiscard]]. Stops at the first that fails.
 set -eu -o pipefail
 case ${1:-} in
     --help) sed -n 's/^# \(usage: \)/\1/p' "$0" && exit ;;
@@ -20,14 +21,15 @@ done
 work=$(mktemp -d)
 trap 'rm -rf "$work"' EXIT
 
-# Comments and the names of structs aside, each function has to be called, but for one that the texts alone need, and
-# dcsctp_read_many, whose rows are read as those of dcsctp_read.
-left_out='named|read_many'
+# Comments and the names of structs aside, each function has to be called, but for one that the texts alone need, dcsctp_read_many,
+# whose rows are read as those of dcsctp_read, dcsctp_items, which counts, and those in whose place generated code writes.
+left_out='named|read_many|items|short_numbers|add_(chunk|data|i_data|sack|init|init_ack|cookie_echo|cookie_ack|heartbeat)'
+left_out+='|add_(shutdown|shutdown_ack|shutdown_complete|forward_tsn|i_forward_tsn|parameter|number|re_config|missing_parameters)'
 functions=$(sed -E ':a; s%/\*.*\*/%%; /\/\*/{N; ba}' "$dist/dcsctp.h" | grep -oE '\bdcsctp_[a-z_]+\(' | grep -vE "^dcsctp_($left_out)\(" | sort -u)
-[ "$(wc -l <<<"$functions")" -ge 50 ] || { echo "bindings/cpp: $dist/dcsctp.h has too few functions" >&2 && exit 1; }
-sed 's%//.*%%' dcsctp.hpp >"$work/code"
+[ "$(wc -l <<<"$functions")" -ge 45 ] || { echo "bindings/cpp: $dist/dcsctp.h has too few functions" >&2 && exit 1; }
+sed 's%//.*%%' dcsctp.hpp dcsctp_kinds.hpp test.cc >"$work/code"
 for function in $functions; do
-    grep -qE "::${function%(}(\(|[,>)])" "$work/code" ||
+    grep -qE "::${function%(}(\(|[,>);])" "$work/code" ||
         { echo "bindings/cpp: dcsctp.hpp never calls ${function%(}" >&2 && exit 1; }
 done
 
@@ -43,8 +45,8 @@ done
 
 flags=(-Wall -Wextra -Wpedantic -Wconversion -Wshadow -Werror -I . -I "$dist")
 sanitizers=(-g "-fsanitize=address,undefined" -fno-sanitize-recover=all)
-rows=() tried=0
-[ ! -f ../../examples/rules.txt ] || rows=(../../examples/rules.txt)
+vectors=() tried=0
+if [ -f ../../registry/vectors/kinds.jsonl ]; then vectors=(../../registry/vectors); else echo 'bindings/cpp: left out: registry/vectors'; fi
 for compiler in g++ clang++; do
     command -v "$compiler" >"$work/log" || { echo "bindings/cpp: left out, since it isn't here: $compiler" && continue; }
     echo 'int main() {}' >"$work/probe.cc"
@@ -57,7 +59,7 @@ for compiler in g++ clang++; do
         fi
         [ $standard != 20 ] || { "$compiler" -std=c++20 "${flags[@]}" -fsyntax-only test.cc && continue; }
         "$compiler" -std=c++$standard "${flags[@]}" "${sanitizers[@]}" -Wl,--wrap=malloc,--wrap=realloc -o "$work/test" test.cc "$text"
-        "$work/test" "${rows[@]}"
+        "$work/test" "${vectors[@]}"
         tried=$((tried + 1))
     done
     for way in $(sed -n 's/^#.*WAY == //p' dangling.cc); do
@@ -76,7 +78,7 @@ for compiler in g++ clang++; do
     fi
 done
 if command -v clang-tidy >"$work/log"; then
-    clang-tidy --quiet --checks='-*,modernize-use-nodiscard' --warnings-as-errors='*' --header-filter=dcsctp.hpp show.cc -- \
+    clang-tidy --quiet --checks='-*,modernize-use-nodiscard' --warnings-as-errors='*' --header-filter='dcsctp.*hpp' show.cc -- \
         -std=c++17 -I . -I "$dist" 2>"$work/log"
 else
     echo 'bindings/cpp: left out, since it isn'"'"'t here: clang-tidy'
