@@ -77,7 +77,6 @@ PACKAGED |= {f"bindings/go/dcsctp_{system}.s": f"dist/dcsctp-{text}.s" for syste
     ("darwin_amd64", "x86_64-macho"), ("darwin_arm64", "aarch64-macho"), ("linux_amd64", "x86_64-elf"),
     ("linux_arm64", "aarch64-elf"), ("windows_amd64", "x86_64-coff"))}
 PACKAGED |= {f"bindings/go/{it}.h": f"dist/{it}.h" for it in ("dcsctp", "dcsctp_msan", "dcsctp_processor")}
-PACKAGED |= {f"bindings/python/tests/{it}.txt": f"examples/{it}.txt" for it in ("packets", "expected")}
 
 # What a text may take from a C library; the last two on macOS.
 LIBC = {"malloc", "realloc", "free", "memcpy", "memmove", "memset", "memcmp", "bcmp", "bzero", "__bzero"}

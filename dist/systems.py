@@ -59,11 +59,10 @@ aarch64-macho  -         -           -                              -           
 -              -         -           -                              js/wasm        -        -
 -              win32     x86         i686-pc-windows-msvc           windows/386    Windows  X86
 """
-ENDINGS = {"elf": ".so", "macho": ".dylib", "coff": ".dll"}
 
 
 def of_python(folder, system, machine):
-    """The text that backend.py has the compiler link, whose library gets the ending of the system."""
+    """The text that backend.py has the compiler link."""
     sys.path.insert(0, os.path.join(folder, "bindings", "python"))
     import backend
 
@@ -80,12 +79,11 @@ def of_python(folder, system, machine):
         mock.patch.dict(os.environ, CC=sys.executable),
     ):
         try:
-            library, _ = backend.shared_library()
+            backend.module()
         except SystemExit as error:
             return None if "there is no" in str(error) else str(error)
     (path,) = linked
-    text = os.path.basename(path)
-    return text if library.endswith(ENDINGS[text[:-2].rsplit("-", 1)[1]]) else f"{text} as {library}"
+    return os.path.basename(path)
 
 
 def of_rust(folder, target):

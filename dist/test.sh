@@ -697,12 +697,6 @@ python_package() {
         venv/bin/python -m unittest discover -s "$bindings/python/tests"
 }
 
-# The same tests without the module of C, by ctypes.
-python_by_ctypes() {
-    cp -r venv by_ctypes && rm -f by_ctypes/lib/python3*/site-packages/davgyuti/_fast.abi3.so &&
-        PYTHONPATH=$(echo "$PWD"/by_ctypes/lib/python3*/site-packages) venv/bin/python -m unittest discover -s "$bindings/python/tests"
-}
-
 # The archive of sources is whole, and the same files give the same archive and the same wheel; it is installed in place too.
 python_archives() {
     mkdir one two three && python_backend one && python_backend two && diff -r one two || return
@@ -831,8 +825,7 @@ rust() {
 }
 
 python_and_javascript() {
-    with 'python-3.10 python3-venv' 'pip install' python_package && try 'pip wheel, of the archive of sources' python_archives &&
-        with Python.h 'pip install: the tests by ctypes' python_by_ctypes
+    with 'python-3.10 python3-venv Python.h' 'pip install' python_package && try 'pip wheel, of the archive of sources' python_archives
     with 'node-18 npm' 'node --test' node_package
 }
 

@@ -1,10 +1,9 @@
 # SPDX-License-Identifier: Apache-2.0
 """Builds the package, for pip and other tools (PEP 517 and 660): `pip install .` in this folder.
 
-The wheel has the Python files and a shared library, which a C compiler makes of the text in dist/ and of _calls.c: $CC, or else cc.
-ctypes loads it, so that one wheel serves every Python of a system. Where Python.h is there too, the wheel also has a module of the
-limited API (abi3) with the text in it, which does the same at the rate of C; a Python that doesn't take it goes without.
-Nothing else is needed, setuptools neither.
+The wheel has the Python files and a module, which a C compiler makes of _fast.c and of the text in dist/: $CC, or else cc. It is one of
+the limited API (abi3), so that one wheel serves every CPython from 3.10 on of a system; of a CPython without a lock it is for that alone.
+Needed is Python.h (Debian: python3-dev), and else nothing, setuptools neither.
 """
 
 import base64
@@ -33,13 +32,18 @@ if not os.path.isdir(LIBRARY):
 NAME = "davgyuti"
 # The module that a wheel has beside those in src/: the version of dcsctp.h, which the library's has to be.
 VERSION = "_version.py"
-MODULE = "_fast.abi3.so"
+# (a CPython without a lock, before 3.15, has no limited API)
+IS_LIMITED = not sysconfig.get_config_var("Py_GIL_DISABLED")
+MODULE = ("_fast.pyd" if sys.platform == "win32" else "_fast.abi3.so") if IS_LIMITED else "_fast" + sysconfig.get_config_var("EXT_SUFFIX")
 PROCESSORS = {"amd64": "x86_64", "arm64": "aarch64"}
-# The format of the text, the ending of a shared library, and what a linker has to be told.
-FORMATS = {"darwin": ("macho", "dylib", []), "win32": ("coff", "dll", ["-Wl,--export-all-symbols"])}
-# (It names no libc: Python has loaded one, and so the same library serves with glibc and musl, of any version. The linker notes
+# The format of the text, and what a linker has to be told.
+FORMATS = {
+    "darwin": ("macho", ["-bundle", "-undefined", "dynamic_lookup"]),
+    "win32": ("coff", ["-shared", "-Wl,--export-all-symbols", os.path.join(sys.base_prefix, "python3.dll")]),
+}
+# (It names no libc: Python has loaded one, and so the same module serves with glibc and musl, of any version. The linker notes
 # the object's name, which is made up at random where it isn't saved.)
-ELF = ("elf", "so", ["-fPIC", "-save-temps=obj", "-nostdlib", "-Wl,-Bsymbolic,-z,now,-z,relro"])
+ELF = ("elf", ["-shared", "-fPIC", "-save-temps=obj", "-nostdlib", "-Wl,-Bsymbolic,-z,now,-z,relro"])
 # The segment of ELF with what a loader has to do, and the tags in it that name a library, and versions of one.
 PT_DYNAMIC, DT_NEEDED, DT_VERNEED = 2, 1, 0x6FFFFFFE
 
@@ -91,7 +95,7 @@ def metadata():
 def files_of(*folder):
     """The files of a folder that are to be packed, by name: those of Python, and what the tests read."""
     names = sorted(os.listdir(os.path.join(HERE, *folder)))
-    return {it: read(HERE, *folder, it) for it in names if it.endswith((".c", ".py", ".pyi", ".typed", ".txt")) and it != VERSION}
+    return {it: read(HERE, *folder, it) for it in names if it.endswith((".c", ".h", ".py", ".pyi", ".typed")) and it != VERSION}
 
 
 def texts():
@@ -99,16 +103,10 @@ def texts():
     return sorted(it for it in os.listdir(LIBRARY) if re.fullmatch(r"dcsctp-.*-(elf|macho|coff)\.s", it))
 
 
-def linked(compiler, out, source, text, *words):
-    """What runs the compiler over a source of the package and the text."""
-    words = ["-O2", "-fno-stack-protector", "-shared", "-I", LIBRARY, "-o", out, *words]
-    return subprocess.run([*compiler, *words, os.path.join(HERE, "src", NAME, source), text]).returncode == 0
-
-
-def shared_library():
-    """The name and the bytes of the library for this system."""
+def module():
+    """The module for this system."""
     processor = platform.machine().lower()
-    kind, ending, words = FORMATS.get(sys.platform, ELF)
+    kind, words = FORMATS.get(sys.platform, ELF)
     text = os.path.join(LIBRARY, f"dcsctp-{PROCESSORS.get(processor, processor)}-{kind}.s")
     if sys.maxsize < 2**32:
         give_up("this Python has pointers of 4 bytes, and the library of 8")
@@ -118,30 +116,17 @@ def shared_library():
     compiler = shlex.split(os.environ.get("CC", "cc"))
     if not compiler or not shutil.which(compiler[0]):
         give_up(f"a C compiler is needed, and there is no {' '.join(compiler) or 'CC'}; $CC names another")
-    with tempfile.TemporaryDirectory() as work:
-        out = os.path.join(work, "library")
-        if not linked(compiler, out, "_calls.c", text, *words):
-            give_up(f"{compiler[0]} doesn't take {os.path.normpath(text)}: it has to assemble GNU syntax for this system")
-        with open(out, "rb") as file:
-            return f"_dcsctp.{ending}", file.read()
-
-
-def module():
-    """The module, by its name; nothing where there is no Python.h, or no limited API, or what is built of it can't be."""
     header = os.path.join(sysconfig.get_path("include"), "Python.h")
-    if sys.platform in FORMATS or sys.implementation.name != "cpython" or sysconfig.get_config_var("Py_GIL_DISABLED"):
-        return {}
-    if not os.path.isfile(header):
-        print(f"{NAME}: there is no {header}: without it the package calls the library by ctypes, and takes more time", file=sys.stderr)
-        return {}
-    text = os.path.join(LIBRARY, f"dcsctp-{platform.machine().lower()}-elf.s")
+    if sys.implementation.name != "cpython" or not os.path.isfile(header):
+        give_up(f"CPython's headers are needed, and there is no {header}; Debian has it in python3-dev")
+    words = [*words, "-O2", "-fno-stack-protector", "-I", LIBRARY, "-I", os.path.dirname(header)]
+    words += ["-DPy_LIMITED_API=0x030A0000"] if IS_LIMITED else []
     with tempfile.TemporaryDirectory() as work:
         out = os.path.join(work, "module")
-        if not linked(shlex.split(os.environ.get("CC", "cc")), out, "_fast.c", text, "-I", os.path.dirname(header), *ELF[2]):
-            print(f"{NAME}: _fast.c isn't compiled: without it the package takes more time", file=sys.stderr)
-            return {}
+        if subprocess.run([*compiler, "-o", out, os.path.join(HERE, "src", NAME, "_fast.c"), text, *words]).returncode:
+            give_up(f"{compiler[0]} doesn't take {os.path.normpath(text)}: it has to assemble GNU syntax for this system")
         with open(out, "rb") as file:
-            return {MODULE: file.read()}
+            return file.read()
 
 
 def is_alone(library):
@@ -155,35 +140,36 @@ def is_alone(library):
     return False
 
 
-def systems(*libraries):
-    """The systems of the wheel's tags (PEP 425, 600 and 656)."""
+def tags(module):
+    """The wheel's tags (PEP 425, 600 and 656)."""
     system = sysconfig.get_platform().replace("universal2", platform.machine())
     kind, _, processor = system.partition("-")
-    if kind == "linux" and all(map(is_alone, libraries)):
-        return [f"{it}_{processor}" for it in ("manylinux_2_17", "manylinux2014", "musllinux_1_1")]
-    return [re.sub("[-.]", "_", system)]
+    systems = [re.sub("[-.]", "_", system)]
+    if kind == "linux" and is_alone(module):
+        systems = [f"{it}_{processor}" for it in ("manylinux_2_17", "manylinux2014", "musllinux_1_1")]
+    version = f"cp{sys.version_info[0]}{sys.version_info[1]}"
+    return "cp310-abi3" if IS_LIMITED else f"{version}-{version}t", systems
 
 
 def made():
-    """What the package has beside the files in src/, and the systems that it is for."""
-    name, library = shared_library()
-    libraries = {name: library} | module()
-    return {VERSION: version_module()} | libraries, systems(*libraries.values())
+    """What the package has beside the files in src/."""
+    return {VERSION: version_module(), MODULE: module()}
 
 
-def write_wheel(folder, files, systems):
+def write_wheel(folder, files, module):
+    pythons, systems = tags(module)
     info = f"{NAME}-{version()}.dist-info"
     for name in ("LICENSE", "NOTICE"):
         files[f"{info}/licenses/{name}"] = read(LICENSES, name)
     files[f"{info}/METADATA"] = metadata()
-    tags = "".join(f"Tag: py3-none-{it}\n" for it in systems)
-    files[f"{info}/WHEEL"] = f"Wheel-Version: 1.0\nGenerator: {NAME}\nRoot-Is-Purelib: false\n{tags}".encode()
+    lines = "".join(f"Tag: {pythons}-{it}\n" for it in systems)
+    files[f"{info}/WHEEL"] = f"Wheel-Version: 1.0\nGenerator: {NAME}\nRoot-Is-Purelib: false\n{lines}".encode()
     record = ""
     for name, data in files.items():
         digest = base64.urlsafe_b64encode(hashlib.sha256(data).digest()).rstrip(b"=").decode()
         record += f"{name},sha256={digest},{len(data)}\n"
     files[f"{info}/RECORD"] = f"{record}{info}/RECORD,,\n".encode()
-    wheel = f"{NAME}-{version()}-py3-none-{'.'.join(systems)}.whl"
+    wheel = f"{NAME}-{version()}-{pythons}-{'.'.join(systems)}.whl"
     with zipfile.ZipFile(os.path.join(folder, wheel), "w", zipfile.ZIP_DEFLATED) as archive:
         for name, data in files.items():
             # (a time that says nothing: the same files give the same wheel)
@@ -194,23 +180,22 @@ def write_wheel(folder, files, systems):
 
 
 def build_wheel(wheel_directory, config_settings=None, metadata_directory=None):
-    more, systems = made()
-    files = {f"{NAME}/{it}": data for it, data in (files_of("src", NAME) | more).items() if not it.endswith(".c")}
-    return write_wheel(wheel_directory, files, systems)
+    files = files_of("src", NAME) | made()
+    packed = {f"{NAME}/{it}": data for it, data in files.items() if not it.endswith((".c", ".h"))}
+    return write_wheel(wheel_directory, packed, files[MODULE])
 
 
 def build_editable(wheel_directory, config_settings=None, metadata_directory=None):
     """Puts what is made into src/, to which the wheel only leads."""
-    more, systems = made()
-    for name in {MODULE, *more}:
+    files = made()
+    for name, data in files.items():
         path = os.path.join(HERE, "src", NAME, name)
-        # (not over an old library, which a process may have mapped)
+        # (not over an old module, which a process may have mapped)
         with contextlib.suppress(FileNotFoundError):
             os.remove(path)
-        if name in more:
-            with open(path, "wb") as file:
-                file.write(more[name])
-    return write_wheel(wheel_directory, {f"{NAME}.pth": os.path.join(HERE, "src").encode() + b"\n"}, systems)
+        with open(path, "wb") as file:
+            file.write(data)
+    return write_wheel(wheel_directory, {f"{NAME}.pth": os.path.join(HERE, "src").encode() + b"\n"}, files[MODULE])
 
 
 def build_sdist(sdist_directory, config_settings=None):
@@ -221,6 +206,11 @@ def build_sdist(sdist_directory, config_settings=None):
     for folder in (("src", NAME), ("tests",), ("examples",)):
         files.update(("/".join((*folder, it)), data) for it, data in files_of(*folder).items())
     files.update((f"library/{it}", read(LIBRARY, it)) for it in (*texts(), "dcsctp.h"))
+    # What the tests of all packages read: in the archive it is among these.
+    root = os.path.join(HERE, os.pardir, os.pardir)
+    for folder, ending, to in (("examples", ".txt", "tests"), (os.path.join("registry", "vectors"), ".jsonl", "tests/vectors")):
+        source = os.path.join(root, folder) if LIBRARY.endswith("dist") else os.path.join(HERE, to)
+        files.update((f"{to}/{it}", read(source, it)) for it in sorted(os.listdir(source)) if it.endswith(ending))
     with open(os.path.join(sdist_directory, f"{name}.tar.gz"), "wb") as file:
         with gzip.GzipFile("", "wb", mtime=0, fileobj=file) as packed, tarfile.open(fileobj=packed, mode="w") as archive:
             for path, data in sorted(files.items()):

@@ -84,16 +84,16 @@ class Host:
 
     def granted(self, source: davgyuti.Address, request: davgyuti.Parameter) -> davgyuti.Parameter | None:
         match request.registered():
-            case registered.AddIpAddress(request=number, address=address):
+            case registered.AddIpAddress(correlation_id=number, address=address):
                 self.peer.append(address)
-            case registered.DeleteIpAddress(request=number, address=address):
+            case registered.DeleteIpAddress(correlation_id=number, address=address):
                 left = [it for it in self.peer if it != address]
                 if not left:
                     return refused(number, registered.DeleteLastRemainingIpAddress((request,)))
                 if address == source:
                     return refused(number, registered.DeleteSourceIpAddress((request,)))
                 self.peer = left
-            case registered.SetPrimaryAddress(request=number, address=address) if address in self.peer:
+            case registered.SetPrimaryAddress(correlation_id=number, address=address) if address in self.peer:
                 self.peer.sort(key=lambda it: it != address)
             case _:
                 return None

@@ -17,10 +17,12 @@ import davgyuti
 HERE = os.path.dirname(os.path.abspath(__file__))
 # Where the package's sources are, if they are beside the tests.
 SOURCES = os.path.dirname(HERE) if os.path.exists(os.path.join(HERE, os.pardir, "backend.py")) else ""
+# What has the packets: in the archive of sources beside this file, with the vectors.
+ROOT = os.path.join(HERE, os.pardir, os.pardir, os.pardir)
+EXAMPLES, VECTORS = os.path.join(ROOT, "examples"), os.path.join(ROOT, "registry", "vectors")
+if not os.path.exists(os.path.join(EXAMPLES, "packets.txt")):
+    EXAMPLES, VECTORS = HERE, os.path.join(HERE, "vectors")
 ANY_CHECKSUM = davgyuti.Policy(any_checksum=True)
-# What is a kind of its own; the other types and codes are raw.
-CHUNK_KINDS = {0, 1, 2, 3, 4, 5, 6, 7, 8, 9, 10, 11, 14, 64, 130, 192, 194}
-PARAMETER_KINDS = {1, 7, 13, 14, 15, 16, 17, 18, 0x8001, 0x8008, 0xC000}
 
 
 def module(name: str, *path: str) -> ModuleType:
@@ -51,7 +53,7 @@ def of_hex(text: str) -> bytes:
 
 def packets() -> list[bytes]:
     """Those of examples/packets.txt."""
-    with open(os.path.join(HERE, "packets.txt"), encoding="ascii") as file:
+    with open(os.path.join(EXAMPLES, "packets.txt"), encoding="ascii") as file:
         return [bytes.fromhex(line) for line in file.read().splitlines() if line and not line.startswith("#")]
 
 

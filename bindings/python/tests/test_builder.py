@@ -3,10 +3,35 @@
 
 import unittest
 from collections.abc import Callable
+from functools import partial
+from typing import Any
 
 import davgyuti
 from davgyuti import PacketBuilder, Result
 from support import of_hex
+
+
+class Number(int):
+    pass
+
+
+# Numbers of four bytes are 1 here, and those of two 2.
+INIT = {"initiate_tag": 1, "a_rwnd": 1, "outbound_streams": 2, "inbound_streams": 2, "initial_tsn": 1}
+NUMBERS: list[tuple[Any, dict[str, Any]]] = [
+    (davgyuti.Init, INIT),
+    (davgyuti.InitAck, INIT),
+    (partial(davgyuti.Data, payload=b"a"), {"tsn": 1, "stream": 2, "ssn": 2, "ppid": 1}),
+    (partial(davgyuti.IData, payload=b"a"), {"tsn": 1, "stream": 2, "mid": 1, "ppid": 1, "fsn": 1}),
+    (davgyuti.Sack, {"cumulative_tsn_ack": 1, "a_rwnd": 1}),
+    (davgyuti.Shutdown, {"cumulative_tsn_ack": 1}),
+    (davgyuti.ForwardTsn, {"new_cumulative_tsn": 1}),
+    (davgyuti.RawParameter, {"type": 2}),
+    (davgyuti.RawCause, {"code": 2}),
+    (davgyuti.ZeroChecksumAcceptable, {"method": 1}),
+    (davgyuti.OutgoingSsnReset, {"request_number": 1, "response_number": 1, "last_tsn": 1}),
+    (davgyuti.AddOutgoingStreams, {"request_number": 1, "new_streams": 2}),
+    (davgyuti.NoUserData, {"tsn": 1}),
+]
 
 
 class Limits(unittest.TestCase):
@@ -43,7 +68,7 @@ class Limits(unittest.TestCase):
         with self.assertRaises(davgyuti.NoRoom) as caught:
             builder.shutdown(9)
         self.assertEqual(caught.exception.code, Result.NO_ROOM)
-        self.assertEqual(str(caught.exception), "no room: add_shutdown, after 28 of at most 28")
+        self.assertEqual(str(caught.exception), "no room: 8 bytes more, after 28 of at most 28")
         self.assertEqual((bytes(builder), len(builder)), (before, 28))
         self.assertEqual(PacketBuilder(1, 2, 3, limit=10**9).limit, 65532)
         for limit in (-1, 0, 11):
@@ -127,31 +152,6 @@ class Lists(unittest.TestCase):
         error.cause(davgyuti.NoUserData(7))
         self.assertEqual(bytes(builder)[16:], of_hex("09 00 000c  0009 0008 00000007"))
 
-    def test_kept(self) -> None:
-        builder = self.builder()
-        with builder.error() as error:
-            error.cause(davgyuti.NoUserData(7))
-        self.assertEqual(bytes(builder)[16:], of_hex("09 00 000c  0009 0008 00000007"))
-
-    def test_one_that_raises_changes_nothing(self) -> None:
-        builder = self.builder()
-        error = builder.error()
-        error.cause(davgyuti.NoUserData(7))
-        before = bytes(builder)
-        with self.assertRaises(davgyuti.NoRoom):
-            error.cause(davgyuti.ProtocolViolation(bytes(100)))
-        self.assertEqual(bytes(builder), before)
-
-    def test_not_the_last_chunk(self) -> None:
-        builder = self.builder()
-        error = builder.error()
-        builder.cookie_ack()
-        before = bytes(builder)
-        with self.assertRaises(davgyuti.BadPlace) as caught:
-            error.cause(davgyuti.NoUserData(7))
-        self.assertEqual(caught.exception.code, Result.BAD_PLACE)
-        self.assertEqual(bytes(builder), before)
-
     def test_value_of_a_list_is_all_or_nothing(self) -> None:
         builder = self.builder()
         before = bytes(builder)
@@ -164,65 +164,80 @@ class Lists(unittest.TestCase):
 
 
 class Refused(unittest.TestCase):
-    def refused(self, error: type[Exception], write: Callable[[PacketBuilder], object]) -> None:
+    def refused(self, error: type[Exception], write: Callable[[PacketBuilder], object], text: str = "") -> None:
         builder = PacketBuilder(1, 2, 3)
         builder.cookie_ack()
+        self.refused_by(builder, error, write, text)
+
+    def refused_by(self, builder: PacketBuilder, error: type[Exception], write: Callable[[Any], object], text: str = "") -> None:
         before = bytes(builder)
-        with self.assertRaises(error):
+        with self.assertRaises(error) as caught:
             write(builder)
+        self.assertIn(text, str(caught.exception))
         self.assertEqual(bytes(builder), before)
 
     def test_numbers(self) -> None:
-        init = {"initiate_tag": 1, "a_rwnd": 2, "outbound_streams": 3, "inbound_streams": 4, "initial_tsn": 5}
-        data = {"tsn": 1, "stream": 2, "ssn": 3, "ppid": 4}
-        i_data = {"tsn": 1, "stream": 2, "mid": 3, "ppid": 4, "fsn": 5}
-        for wrong in (-1, 2**32, 2**64):
-            for name in init:
-                self.refused(ValueError, lambda it: it.init(**{**init, name: wrong}))
-                self.refused(ValueError, lambda it: it.init_ack(**{**init, name: wrong}))
-            for name in data:
-                self.refused(ValueError, lambda it: it.data(b"a", **{**data, name: wrong}))  # type: ignore[arg-type]
-            for name in i_data:
-                self.refused(ValueError, lambda it: it.i_data(b"a", **{**i_data, name: wrong}))  # type: ignore[arg-type]
-            self.refused(ValueError, lambda it: it.sack(wrong, 0))
-            self.refused(ValueError, lambda it: it.sack(0, wrong))
-            self.refused(ValueError, lambda it: it.sack(0, 0, [(wrong, 1)]))
-            self.refused(ValueError, lambda it: it.sack(0, 0, [(1, wrong)]))
-            self.refused(ValueError, lambda it: it.sack(0, 0, [], [wrong]))
-            self.refused(ValueError, lambda it: it.shutdown(wrong))
-            self.refused(ValueError, lambda it: it.forward_tsn(wrong))
-            self.refused(ValueError, lambda it: it.forward_tsn(0, [(wrong, 0)]))
-            self.refused(ValueError, lambda it: it.forward_tsn(0, [(0, wrong)]))
-            self.refused(ValueError, lambda it: it.i_forward_tsn(0, [(0, wrong, False)]))
-            self.refused(ValueError, lambda it: it.chunk(wrong))
-            self.refused(ValueError, lambda it: it.chunk(1, wrong))
+        """Each field of each kind, beside its least and its largest number; the error names it."""
+        for kind, values in NUMBERS:
+            for name, value in values.items():
+                most = 2**32 - 1 if value == 1 else 2**16 - 1
+                for number in (0, most, True, Number(most)):
+                    bytes(kind(**{**values, name: number}))
+                for number in (-1, most + 1, 2**64):
+                    with self.assertRaisesRegex(ValueError, f"^{name} has to be 0 to {most}, and is {number}$"):
+                        bytes(kind(**{**values, name: number}))
+                for wrong in (1.0, None, "1"):
+                    self.assertRaises(TypeError, bytes, kind(**{**values, name: wrong}))
         for ports in ((65536, 1, 1), (1, 65536, 1), (1, 1, 2**32), (-1, 1, 1)):
             with self.assertRaises(ValueError):
                 PacketBuilder(*ports)
 
-    def test_items(self) -> None:
-        parameters: list[davgyuti.Parameter] = [
-            davgyuti.RawParameter(65536),
-            davgyuti.ZeroChecksumAcceptable(2**32),
-            davgyuti.OutgoingSsnReset(2**32, 0, 0),
-            davgyuti.OutgoingSsnReset(0, 2**32, 0),
-            davgyuti.OutgoingSsnReset(0, 0, 2**32),
-            davgyuti.OutgoingSsnReset(0, 0, 0, (65536,)),
-            davgyuti.IncomingSsnReset(-1),
-            davgyuti.SsnTsnReset(-1),
-            davgyuti.AddOutgoingStreams(0, 65536),
-            davgyuti.AddIncomingStreams(-1, 0),
-            davgyuti.ReConfigResponse(0, davgyuti.ReConfigResult.DENIED, davgyuti.NextTsns(0, -1)),
-        ]
-        for parameter in parameters:
-            self.refused(ValueError, lambda it: it.add(davgyuti.ReConfig((parameter,))))
-        causes: list[davgyuti.Cause] = [
-            davgyuti.RawCause(65536),
-            davgyuti.NoUserData(-1),
-            davgyuti.MissingMandatoryParameter((65536,)),
-        ]
-        for cause in causes:
-            self.refused(ValueError, lambda it: it.add(davgyuti.OperationError((cause,))))
+    def test_lists(self) -> None:
+        """Any iterable is a list, and what is in it a record if it has as many fields; the error says which one has no place."""
+        sack = davgyuti.Sack(1, 2, (davgyuti.GapAckBlock(1, 2), davgyuti.GapAckBlock(3, 4)), (5,))
+        for blocks, duplicates in (([(1, 2), iter((3, 4))], {5: 6}), (iter([[1, 2], (3, True + 3)]), iter((5,)))):
+            builder: Any = PacketBuilder(1, 2, 3)
+            builder.sack(1, 2, blocks, duplicates)
+            self.assertEqual(davgyuti.Packet(builder.seal()).chunks(), (sack,))
+        for error, write, text in (
+            (ValueError, lambda it: it.sack(0, 0, [(1, 1), (65536, 1)]), "blocks[1].start has to be 0 to 65535, and is 65536"),
+            (ValueError, lambda it: it.sack(0, 0, [(1, -1)]), "blocks[0].end has to be 0 to 65535, and is -1"),
+            (ValueError, lambda it: it.sack(0, 0, [], [1, 2**32]), "duplicates[1] has to be 0 to 4294967295, and is 4294967296"),
+            (ValueError, lambda it: it.sack(0, 0, [(1, 2, 3)]), "blocks[0] has to have 2 fields"),
+            (ValueError, lambda it: it.i_forward_tsn(0, [(0, 1)]), "streams[0] has to have 3 fields"),
+            (ValueError, lambda it: it.i_forward_tsn(0, [(0, 2**32, True)]), "streams[0].mid has to be 0 to 4294967295, and is 4294967296"),
+            (ValueError, lambda it: it.forward_tsn(0, [(0, -1)]), "streams[0].ssn has to be 0 to 65535, and is -1"),
+            (TypeError, lambda it: it.sack(0, 0, 7), "'int' object is not iterable"),
+            (TypeError, lambda it: it.sack(0, 0, [7]), "'int' object is not iterable"),
+            (TypeError, lambda it: it.add(davgyuti.Init(1, 2, 3, 4, 5, (b"",))), "bytes is no parameter"),  # type: ignore[arg-type]
+            (TypeError, lambda it: it.add(davgyuti.Abort((davgyuti.SsnTsnReset(1),))), "SsnTsnReset is no error cause"),  # type: ignore[arg-type]
+            (TypeError, lambda it: it.add(davgyuti.NoUserData(1)), "NoUserData is no chunk"),
+        ):
+            with self.subTest(text):
+                self.refused(error, write, text)
+
+    def test_what_a_number_does(self) -> None:
+        """What runs while a chunk is written may write to the same builder: that comes before it, whole."""
+
+        class Writes:
+            def __index__(self) -> int:
+                builder.add(davgyuti.CookieAck())
+                return 7
+
+        builder: Any = PacketBuilder(1, 2, 3)
+        builder.shutdown(Writes())
+        self.assertEqual(davgyuti.Packet(builder.seal()).chunks(), (davgyuti.CookieAck(), davgyuti.Shutdown(7)))
+
+    def test_subclasses(self) -> None:
+        class Mine(davgyuti.Shutdown):
+            pass
+
+        self.assertEqual(bytes(Mine(7)), bytes(davgyuti.Shutdown(7)))
+
+    def test_not_begun(self) -> None:
+        builder = PacketBuilder.__new__(PacketBuilder)
+        self.refused_by(builder, davgyuti.NoRoom, lambda it: it.cookie_ack())
+        self.refused_by(builder, davgyuti.NoRoom, lambda it: it.reset(1, 2, 3))
 
     def test_values(self) -> None:
         self.refused(davgyuti.BadValue, lambda it: it.abort(b"\xff"))
@@ -232,34 +247,48 @@ class Refused(unittest.TestCase):
         self.refused(davgyuti.BadValue, lambda it: it.sack(0, 0, [(1, 1)] * 20000))
         self.refused(davgyuti.BadValue, lambda it: it.chunk(200, 0, bytes(10**6)))
 
-    def test_types(self) -> None:
-        self.refused(TypeError, lambda it: it.add("DATA"))  # type: ignore[arg-type]
-        self.refused(TypeError, lambda it: it.add(davgyuti.NoUserData(1)))  # type: ignore[arg-type]
-        self.refused(TypeError, lambda it: it.add(davgyuti.Init(1, 2, 3, 4, 5, (b"",))))  # type: ignore[arg-type]
-        self.refused(TypeError, lambda it: it.add(davgyuti.Abort((davgyuti.SsnTsnReset(1),))))  # type: ignore[arg-type]
-        self.refused(TypeError, lambda it: it.cookie_echo("abc"))  # type: ignore[arg-type]
-        self.refused(TypeError, lambda it: it.cookie_echo(7))  # type: ignore[arg-type]
-        self.refused(TypeError, lambda it: it.shutdown(1.0))  # type: ignore[arg-type]
-        self.refused(TypeError, lambda it: it.shutdown(None))  # type: ignore[arg-type]
-
     def test_texts(self) -> None:
-        builder = PacketBuilder(1, 2, 3, limit=40)
-        writes: list[tuple[Callable[[], object], str]] = [
-            (lambda: builder.cookie_echo(bytes(60)), "no room: add_cookie_echo of 60 bytes, after 12 of at most 40"),
-            (lambda: builder.abort(b"\xff"), "a value that can't be written: add_abort of 1 bytes, after 12 of at most 40"),
-            (lambda: davgyuti.seal(b""), "fewer than 12 bytes: 0"),
-            (lambda: davgyuti.set_tag(bytes(11), 1), "fewer than 12 bytes: 11"),
-        ]
-        for write, text in writes:
-            with self.assertRaises(davgyuti.WriteError) as caught:
-                write()
-            self.assertEqual(str(caught.exception), text)
+        self.refused(davgyuti.NoRoom, lambda it: it.cookie_echo(bytes(65513)), "no room: 65520 bytes more, after 16 of at most 65532")
+        self.refused(davgyuti.BadPlace, lambda it: davgyuti.seal(b""), "fewer than 12 bytes: 0")
+        self.refused(davgyuti.BadPlace, lambda it: davgyuti.set_tag(bytes(11), 1), "fewer than 12 bytes: 11")
+        self.refused(TypeError, lambda it: it.cookie_echo("abc"))  # type: ignore[arg-type]
 
     def test_text_of_a_reason(self) -> None:
         builder = PacketBuilder(1, 2, 3)
         builder.abort("zu spät")
         packet = davgyuti.Packet(builder.seal())
         self.assertEqual(packet.chunks(), (davgyuti.Abort((davgyuti.UserInitiatedAbort("zu spät".encode()),)),))
+
+
+class Reset(unittest.TestCase):
+    def test_reset(self) -> None:
+        builder = davgyuti.PacketBuilder(1, 2, 3, limit=6000)
+        builder.cookie_echo(bytes(5000))
+        error = builder.error()
+        builder.reset(4, 5, 6)
+        self.assertEqual((bytes(builder), builder.limit), (bytes(davgyuti.PacketBuilder(4, 5, 6)), 6000))
+        with self.assertRaises(davgyuti.BadPlace):
+            error.cause(davgyuti.NoUserData(1))
+        builder.cookie_ack()
+        other = davgyuti.PacketBuilder(4, 5, 6)
+        other.cookie_ack()
+        self.assertEqual(builder.seal(), other.seal())
+        with self.assertRaises(ValueError):
+            builder.reset(65536, 1, 1)
+        self.assertEqual(builder.seal(), other.seal())
+
+    def test_header_alone(self) -> None:
+        builder = davgyuti.PacketBuilder(1, 2, 3)
+        builder.cookie_echo(bytes(3000))
+        # (the checksum is in what was sealed alone)
+        self.assertEqual((davgyuti.seal(bytes(builder)), bytes(builder)[8:12]), (builder.seal(), bytes(4)))
+        builder.reset(4, 5, 6)
+        self.assertEqual((len(builder), len(builder.seal())), (12, 12))
+        for wrong in ((7, 65536, 8), (7, 8, 2**32), (7, "a", 8)):
+            builder.reset(7, 8, 9)
+            with self.assertRaises((ValueError, TypeError)):
+                builder.reset(*wrong)  # type: ignore[arg-type]
+            self.assertEqual(davgyuti.header(builder.seal()), davgyuti.Header(7, 8, 9, davgyuti.word(bytes(builder))))
 
 
 if __name__ == "__main__":

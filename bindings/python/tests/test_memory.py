@@ -45,10 +45,10 @@ class Memory(unittest.TestCase):
             with open(source, "w") as file:
                 file.write(SOURCE)
             with mock.patch.dict(os.environ, CC=f"cc -fPIC {source} -Wl,--wrap=malloc,--wrap=realloc"):
-                name, library = backend.shared_library()
+                library = backend.module()
             # (not over the old one, which this process has mapped)
-            os.remove(os.path.join(copy, os.path.basename(name)))
-            with open(os.path.join(copy, os.path.basename(name)), "wb") as file:
+            os.remove(os.path.join(copy, backend.MODULE))
+            with open(os.path.join(copy, backend.MODULE), "wb") as file:
                 file.write(library)
             self.refused(module("refusing", copy, "__init__.py"))
 

@@ -9,13 +9,13 @@ import sys
 import unittest
 
 import davgyuti
-from support import HERE, mypy
+from support import EXAMPLES, HERE, mypy
 
 COOKIE_ACK = "138813884d2df52d67db78b50b000004"
 
 
 def read(name: str) -> str:
-    with open(os.path.join(HERE, name), encoding="ascii") as file:
+    with open(os.path.join(EXAMPLES, name), encoding="ascii") as file:
         return file.read()
 
 
@@ -120,7 +120,7 @@ class Program(unittest.TestCase):
             self.assertEqual((process.wait(600), process.stderr.read()), (130, "python -m davgyuti: interrupted\n"))
 
     def test_show(self) -> None:
-        done = run("show.py", "packets.txt")
+        done = run("show.py", os.path.join(EXAMPLES, "packets.txt"))
         self.assertEqual((done.stdout, done.stderr, done.returncode), (read("expected.txt"), "", 0))
 
 

@@ -97,7 +97,7 @@ class Readme(unittest.TestCase):
             # (pip takes the archive of sources here, not one from PyPI; and a few of the tests will do)
             more = {
                 "pip install": ["--upgrade", "--no-index", "--find-links", work, "--target", installed],
-                "python -m unittest": ["-k", "test_kinds"],
+                "python -m unittest": ["-k", "test_vectors"],
             }
             for command, expected in commands:
                 if "aiortc" in command and not importlib.util.find_spec("aiortc"):

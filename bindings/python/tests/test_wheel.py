@@ -6,7 +6,6 @@ import platform
 import shutil
 import subprocess
 import sys
-import sysconfig
 import tarfile
 import tempfile
 import unittest
@@ -17,29 +16,9 @@ from unittest import mock
 import davgyuti
 from support import SOURCES, module
 
-LOADS = """
-#include <dlfcn.h>
-#include <stdint.h>
-#include <stdio.h>
-
-int main(int argc, char **argv)
-{
-    const uint8_t cookie_ack[] = {19, 136, 19, 136, 77, 45, 245, 45, 103, 219, 120, 181, 11, 0, 0, 4};
-    const char policy[16] = {0};
-    char text[999];
-    size_t size;
-    void *library = dlopen(argv[argc - 1], RTLD_NOW);
-    if (!library)
-        return puts(dlerror());
-    uint32_t (*word)(const void *, size_t) = (uint32_t (*)(const void *, size_t))dlsym(library, "dcsctp_word");
-    uint32_t (*print)(const void *, size_t, uint32_t, const void *, void *, size_t, size_t *) = dlsym(library, "dcsctp_print");
-    uint32_t code = print(cookie_ack, 16, word(cookie_ack, 16), policy, text, sizeof text, &size);
-    return printf("%u %.*s\\n", code, (int)size, text) < 0;
-}
-"""
-SYSTEM = f"py3-none-linux_{platform.machine()}"
+SYSTEM = f"cp310-abi3-linux_{platform.machine()}"
 # (PEP 600 and 656; the second is the name of the first before PEP 600)
-ANY_LINUX = "py3-none-" + ".".join(
+ANY_LINUX = "cp310-abi3-" + ".".join(
     f"{it}_{platform.machine()}" for it in ("manylinux_2_17", "manylinux2014", "musllinux_1_1")
 )
 
@@ -63,22 +42,31 @@ class Wheel(unittest.TestCase):
     def test_module(self) -> None:
         name, files = self.built()
         self.assertIn(ANY_LINUX, name)
-        self.assertEqual("davgyuti/_fast.abi3.so" in files, os.path.exists(os.path.join(sysconfig.get_path("include"), "Python.h")))
-        self.assertFalse([it for it in files if it.endswith(".c")])
-        # Without Python.h, and where Python has no limited API, the wheel has no module.
-        for what in (
-            mock.patch("sysconfig.get_path", lambda name: "/nowhere"),
-            mock.patch("sysconfig.get_config_var", lambda name: name == "Py_GIL_DISABLED"),
+        self.assertIn("davgyuti/_fast.abi3.so", files)
+        self.assertFalse([it for it in files if it.endswith((".c", ".h"))])
+
+    def test_a_python_without_a_lock(self) -> None:
+        version = f"cp{sys.version_info[0]}{sys.version_info[1]}"
+        values = {"Py_GIL_DISABLED": 1, "EXT_SUFFIX": f".{version}t.so"}
+        with mock.patch("sysconfig.get_config_var", values.get):
+            name, files = self.built()
+        self.assertIn(f"{version}-{version}t-manylinux", name)
+        self.assertIn(f"davgyuti/_fast.{version}t.so", files)
+
+    def test_refused(self) -> None:
+        for what, text in (
+            (mock.patch("sysconfig.get_path", lambda name: "/nowhere"), "no /nowhere/Python.h; Debian has it in python3-dev"),
+            (mock.patch("platform.machine", lambda: "riscv64"), "there is no .*dcsctp-riscv64-elf.s for this system; there are: "),
         ):
-            with what:
-                name, files = self.built()
-            self.assertIn(ANY_LINUX, name)
-            self.assertNotIn("davgyuti/_fast.abi3.so", files)
+            with what, self.assertRaisesRegex(SystemExit, text):
+                self.built()
+        with self.assertRaisesRegex(SystemExit, "there is no nothing; .CC names another"):
+            self.built("nothing")
 
     def library(self) -> str:
-        path = os.path.join(self.work, "_dcsctp.so")
+        path = os.path.join(self.work, "_fast.abi3.so")
         with open(path, "wb") as file:
-            file.write(self.built()[1]["davgyuti/_dcsctp.so"])
+            file.write(self.built()[1]["davgyuti/_fast.abi3.so"])
         return path
 
     def test_tags(self) -> None:
@@ -86,7 +74,7 @@ class Wheel(unittest.TestCase):
             name, files = self.built(compiler)
             version = f"davgyuti-{davgyuti.__version__}"
             self.assertEqual(name, f"{version}-{tags}.whl")
-            words = f"Tag: {tags}\n".replace(".", "\nTag: py3-none-")
+            words = f"Tag: {tags}\n".replace(".", "\nTag: cp310-abi3-")
             self.assertIn(words, files[f"{version}.dist-info/WHEEL"].decode())
 
     def test_tags_of_others(self) -> None:
@@ -97,7 +85,7 @@ class Wheel(unittest.TestCase):
             ("win-amd64", "AMD64", "win_amd64"),
         ):
             with mock.patch("sysconfig.get_platform", lambda: system), mock.patch("platform.machine", lambda: processor):
-                self.assertEqual(module("backend", SOURCES, "backend.py").systems(b""), [tag])
+                self.assertEqual(module("backend", SOURCES, "backend.py").tags(b""), ("cp310-abi3", [tag]))
 
     @unittest.skipUnless(shutil.which("aarch64-linux-gnu-gcc"), "there is no aarch64-linux-gnu-gcc")
     def test_arm64(self) -> None:
@@ -129,31 +117,16 @@ class Wheel(unittest.TestCase):
 
     def test_damaged(self) -> None:
         copy = shutil.copytree(os.path.dirname(davgyuti.__file__), os.path.join(self.work, "davgyuti"))
-        path = os.path.join(copy, "_dcsctp.so")
-        os.remove(path)
-        with open(path, "wb") as file:
-            file.write(b"\x7fELF")
-        with self.assertRaisesRegex(ImportError, "_dcsctp.so can't be loaded, and has to be installed again: "):
+        with open(os.path.join(copy, "_version.py"), "w") as file:
+            file.write("VERSION = (9, 8, 7)")
+        with self.assertRaisesRegex(ImportError, "_fast.*so isn't of davgyuti 9.8.7: it has to be installed again"):
             module("damaged", copy, "__init__.py")
 
     def test_sources(self) -> None:
         name = module("backend", SOURCES, "backend.py").build_sdist(self.work)
         with tarfile.open(os.path.join(self.work, name)) as archive:
-            self.assertIn(f"davgyuti-{davgyuti.__version__}/src/davgyuti/_version.pyi", archive.getnames())
-
-    def test_loads(self) -> None:
-        library = self.library()
-        source, program = os.path.join(self.work, "loads.c"), os.path.join(self.work, "loads")
-        with open(source, "w", encoding="ascii") as file:
-            file.write(LOADS)
-        for compiler in ("cc", "musl-gcc"):
-            with self.subTest(compiler):
-                if not shutil.which(compiler):
-                    self.skipTest(f"there is no {compiler}")
-                subprocess.run([compiler, "-w", "-o", program, source, "-ldl"], check=True)
-                done = subprocess.run([program, library], capture_output=True, text=True)
-                text = "source=5000 destination=5000 tag=1294857517 checksum=1742436533\nCOOKIE-ACK"
-                self.assertEqual(done.stdout, f"0 {text}\n")
+            for it in ("src/davgyuti/_version.pyi", "src/davgyuti/_kinds.h", "tests/packets.txt", "tests/vectors/kinds.jsonl"):
+                self.assertIn(f"davgyuti-{davgyuti.__version__}/{it}", archive.getnames())
 
 
 if __name__ == "__main__":

@@ -4,10 +4,8 @@
 import copy
 import pickle
 import unittest
-from unittest import mock
 
 import davgyuti
-from davgyuti import _reading
 from support import ANY_CHECKSUM, of_hex, packets
 
 COOKIE_ACK = of_hex("1388 1388 4d2df52d 67db78b5  0b 00 0004")
@@ -40,29 +38,11 @@ class Check(unittest.TestCase):
         for data in packets()[:15]:
             self.assertIsNone(self.fault(data))
 
-    def test_size(self) -> None:
-        self.assertEqual(self.fault(b""), (davgyuti.Result.FAULT_SIZE, 0))
-        self.assertEqual(self.fault(COOKIE_ACK[:15]), (davgyuti.Result.FAULT_SIZE, 15))
-        self.assertEqual(self.fault(COOKIE_ACK + bytes(65520)), (davgyuti.Result.FAULT_SIZE, 65535))
-
     def test_checksum(self) -> None:
         data = COOKIE_ACK[:8] + bytes(4) + COOKIE_ACK[12:]
         self.assertEqual(self.fault(data), (davgyuti.Result.FAULT_CHECKSUM, 8))
         self.assertIsNone(self.fault(data, davgyuti.Policy(zero_checksum=True)))
         self.assertIsNone(self.fault(data, ANY_CHECKSUM))
-
-    def test_length(self) -> None:
-        data = davgyuti.seal(COOKIE_ACK + of_hex("0b 00 0005"))
-        self.assertEqual(self.fault(data), (davgyuti.Result.FAULT_LENGTH, 16))
-
-    def test_value(self) -> None:
-        data = davgyuti.seal(COOKIE_ACK + of_hex("82 00 0010  0010 000c 00000001 00000007"))
-        self.assertEqual(self.fault(data), (davgyuti.Result.FAULT_VALUE, 20))
-
-    def test_padding(self) -> None:
-        data = davgyuti.seal(COOKIE_ACK[:12] + of_hex("0a 00 0005  61 00 01 00"))
-        self.assertIsNone(self.fault(data))
-        self.assertEqual(self.fault(data, davgyuti.Policy(strict_padding=True)), (davgyuti.Result.FAULT_PADDING, 18))
 
     def test_own_word(self) -> None:
         word = davgyuti.word(COOKIE_ACK)
@@ -241,13 +221,36 @@ class Value(unittest.TestCase):
         self.assertEqual(repr(packet), "<Packet from port 5000 to 5000, tag 0x4d2df52d, 16 bytes>")
         self.assertNotEqual(packet, COOKIE_ACK)
         self.assertEqual(packet.header, davgyuti.Header(5000, 5000, 0x4D2DF52D, 0x67DB78B5))
+        with self.assertRaises(davgyuti.Fault) as caught:
+            davgyuti.header(COOKIE_ACK[:11])
+        self.assertEqual((caught.exception.code, caught.exception.offset), (davgyuti.Result.FAULT_SIZE, 11))
 
-    def test_iteration_reads_each_of_many_chunks_as_it_is_reached(self) -> None:
-        for count, wanted in ((64, 0), (65, 1)):
+    def test_no_checksum_is_computed_where_any_is_accepted(self) -> None:
+        packet = davgyuti.Packet(COOKIE_ACK[:8] + bytes(4) + COOKIE_ACK[12:], ANY_CHECKSUM)
+        self.assertIsNone(packet._word)
+        self.assertEqual((packet.word, packet.report().splitlines()[1]), (0x67DB78B5, "checksum 0x00000000: zero"))
+
+    def test_iteration(self) -> None:
+        for count in (1, 64, 65, 1000):
             packet = davgyuti.Packet(davgyuti.seal(COOKIE_ACK[:12] + count * COOKIE_ACK[12:]))
-            with mock.patch("davgyuti._reading._chunk", side_effect=_reading._chunk) as read:
-                self.assertEqual(next(iter(packet)), davgyuti.CookieAck())
-                self.assertEqual((read.call_count, len(packet.chunks()), len([*packet])), (wanted, count, count))
+            self.assertEqual(([*packet], len(packet.chunks())), ([davgyuti.CookieAck()] * count, count))
+
+    def test_names(self) -> None:
+        self.assertEqual((davgyuti.chunk_name(130), davgyuti.chunk_name(99)), ("RE-CONFIG", "chunk type 99 (0x63)"))
+        self.assertEqual((davgyuti.parameter_name(5), davgyuti.parameter_name(0x8006)), ("IPv4 Address", "parameter type 32774 (0x8006)"))
+        self.assertEqual((davgyuti.cause_name(0x105), davgyuti.cause_name(99)), ("Unsupported HMAC Identifier", "cause code 99 (0x0063)"))
+        self.assertEqual((davgyuti.ChunkType.is_known(15), davgyuti.ChunkType.is_known(99)), (True, False))
+        self.assertEqual(f"{davgyuti.Action.SKIP} {davgyuti.Action.SKIP:d} {davgyuti.ChunkType.SACK}", "SKIP 2 3")
+        self.assertEqual([(it.reports, it.skips) for it in davgyuti.Action], [(False, False), (True, False), (False, True), (True, True)])
+        self.assertEqual(davgyuti.Rule.TAG_ZERO.text, "the verification tag is 0 with a chunk other than INIT")
+        self.assertEqual(davgyuti.Result.OK.__doc__, "The bytes are a packet; what was asked for is written.")
+
+    def test_match(self) -> None:
+        match davgyuti.Data(tsn=1, stream=2, ssn=3, ppid=4, payload=b"abc"):
+            case davgyuti.Data(1, 2, 3, 4, payload):
+                self.assertEqual(payload, b"abc")
+            case _:
+                self.fail()
 
     def test_values_have_slots(self) -> None:
         chunk = davgyuti.Shutdown(7)

@@ -5,11 +5,10 @@ from ctypes import byref, c_uint64, sizeof
 from dataclasses import dataclass
 from itertools import chain
 
-from . import _library as c
-from . import _values as v
-from ._library import functions
-from ._reading import Buffer, number
-from ._writing import _bytes, _u8, written
+from . import _header as c
+from ._library import functions, number, sized, written
+from ._numbers import CookieState
+from ._values import Buffer, CookieError
 
 # The fields of a cookie, but for the place of its addresses.
 _NUMBERS = c.Cookie._fields_[:-2]
@@ -18,14 +17,14 @@ _NUMBERS = c.Cookie._fields_[:-2]
 def is_listed(chunk_list: Buffer, type: int) -> bool:
     """Returns whether a chunk of this type has to come after AUTH: the list is the value of the receiver's Chunk List, a type in
     each byte, in which INIT, INIT ACK, SHUTDOWN COMPLETE and AUTH are ignored (RFC 4895 section 3.2)."""
-    return bool(functions.dcsctp_is_listed(*_bytes(chunk_list), _u8(type, "type")))
+    return bool(functions.dcsctp_is_listed(*sized(chunk_list), number(type, 8, "type")))
 
 
 def shared_key(pair_key: Buffer, one: Buffer, other: Buffer) -> bytes:
     """Returns an association shared key (RFC 4895 section 6.1): the endpoint pair shared key, which may be empty, and then the
     key vectors of both ends in the order that the section gives, whichever is passed first. A key vector is the parameters
     Random, Chunk List and Requested HMAC Algorithm that an end sent, in this order, each with its header and without padding."""
-    parts = [_bytes(it) for it in (pair_key, one, other)]
+    parts = [sized(it) for it in (pair_key, one, other)]
     room = sum(len(data) for data, _ in parts)
     return written(functions.dcsctp_shared_key, room, *chain.from_iterable(parts))
 
@@ -34,7 +33,7 @@ def verify_auth(key: Buffer, data: Buffer) -> bool:
     """Returns whether the HMAC of an AUTH chunk is right under an association shared key (RFC 4895 section 6.3). The bytes are
     those of the packet from the AUTH on, up to its end: `data[auth.offset :]`. False also where no AUTH is there, its HMAC
     identifier is another than 1 (SHA-1) and 3 (SHA-256), or its HMAC has another length than theirs, 20 and 32 bytes."""
-    return bool(functions.dcsctp_verify_auth(*_bytes(key), *_bytes(data)))
+    return bool(functions.dcsctp_verify_auth(*sized(key), *sized(data)))
 
 
 @dataclass(slots=True, unsafe_hash=True, kw_only=True)
@@ -68,10 +67,10 @@ def seal_cookie(key: Buffer, cookie: Cookie) -> bytes:
     32 random bytes that nobody else knows."""
     says = c.Cookie()
     for name, kind, *_ in _NUMBERS:
-        setattr(says, name, number(getattr(cookie, name), (1 << 8 * sizeof(kind)) - 1, name))
-    addresses, count = _bytes(cookie.addresses)
+        setattr(says, name, number(getattr(cookie, name), 8 * sizeof(kind), name))
+    addresses, count = sized(cookie.addresses)
     room = 72 + len(addresses)
-    return written(functions.dcsctp_seal_cookie, room, *_bytes(key), byref(says), addresses, count)
+    return written(functions.dcsctp_seal_cookie, room, *sized(key), byref(says), addresses, count)
 
 
 def open_cookie(key: Buffer, cookie: Buffer, now: int) -> Cookie:
@@ -80,14 +79,14 @@ def open_cookie(key: Buffer, cookie: Buffer, now: int) -> Cookie:
     set back. Raises CookieError of one that is stale, and of all other bytes.
 
     That its ports and its local tag are those of the packet is for you to compare."""
-    data, count = _bytes(cookie)
+    data, count = sized(cookie)
     out, staleness = c.Cookie(), c_uint64()
-    time = number(now, 0xFFFFFFFFFFFFFFFF, "now")
-    state = functions.dcsctp_open_cookie(*_bytes(key), data, count, time, byref(out), byref(staleness))
-    if state == v.CookieState.INVALID:
-        raise v.CookieError(v.CookieState.INVALID)
+    time = number(now, 64, "now")
+    state = functions.dcsctp_open_cookie(*sized(key), data, count, time, byref(out), byref(staleness))
+    if state == CookieState.INVALID:
+        raise CookieError(CookieState.INVALID)
     start, size = out.addresses_offset, out.addresses_size
     says = Cookie(**{name: getattr(out, name) for name, *_ in _NUMBERS}, addresses=data[start : start + size])
-    if state == v.CookieState.STALE:
-        raise v.CookieError(v.CookieState.STALE, staleness.value, says)
+    if state == CookieState.STALE:
+        raise CookieError(CookieState.STALE, staleness.value, says)
     return says

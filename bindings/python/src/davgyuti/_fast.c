@@ -1,605 +1,884 @@
 /* SPDX-License-Identifier: Apache-2.0 */
-/* What _reading.py and _writing.py do by ctypes, at the rate of C, for what packets have most. All that isn't plain is left to
-   them, from its beginning: a fault, a rare kind, a value of another type than its own, a packet that has to grow. So what is
-   raised is raised in one place. Each call is one step, since it holds Python's lock (GIL) and runs no code of Python's in
-   between. Where this isn't built, or a Python doesn't take it, they do all. */
+/* Reads and writes packets. Whether bytes are a packet is said by the proved calls of dcsctp.h. The fields are read and written here, by what
+   _kinds.h says of each kind: it is generated, and nothing else here names a kind. None of that is proved. What reads is total, whatever
+   the bytes are: a value whose size isn't one of its kind is none.
+
+   Each call of a packet's builder is one step, since it holds Python's lock (GIL), and what may run code of Python's, as to ask an object for
+   its number, writes into memory that nobody else has. So it is alone, and a chunk that can't be written leaves all as it was. */
 #define PY_SSIZE_T_CLEAN
-#define Py_LIMITED_API 0x030A0000
 #include <Python.h>
+#include <structmember.h>
+#include <string.h>
 #include "dcsctp.h"
 
-/* The classes of _values.py that are made here, or read, and their slots. */
-enum kind {
-    DATA,
-    I_DATA,
-    INIT,
-    INIT_ACK,
-    SACK,
-    HEARTBEAT,
-    HEARTBEAT_ACK,
-    SHUTDOWN,
-    SHUTDOWN_ACK,
-    COOKIE_ECHO,
-    COOKIE_ACK,
-    SHUTDOWN_COMPLETE,
-    FORWARD_TSN,
-    I_FORWARD_TSN,
-    RAW_CHUNK,
-    HEARTBEAT_INFO,
-    STATE_COOKIE,
-    ZERO_CHECKSUM_ACCEPTABLE,
-    SUPPORTED_EXTENSIONS,
-    FORWARD_TSN_SUPPORTED,
-    RAW_PARAMETER,
-    HEADER,
-    POLICY,
-    GAP_ACK_BLOCK,
-    SKIPPED_STREAM,
-    SKIPPED_I_STREAM,
-    BUILDER,
-    KINDS
+/* What a value is made of, in order, but that flags come first, which are in its header, and the type of what is of no kind. */
+enum what { END, NUMBER, RESERVED, BIT, RESULT, COUNT, EITHER, OR_ELSE, LIST, RECORDS, OPTIONAL, REST, ITEMS, FLAG, HEAD };
+enum level { CHUNK, PARAMETER, CAUSE, RECORD };
+enum { MOST_STEPS = 12, LARGEST_CHUNK = 0xFFFF, HEADER_SIZE = 4 };
+struct step {
+    uint8_t what;
+    uint8_t size; /* of a number or an item, in bytes */
+    uint8_t more; /* the bit of a flag, the kind of a record, the level of a list, a place in the header */
+    const char *name;
 };
-enum { MOST_SLOTS = 11 };
-#define BITS "offset", "is_unordered", "is_beginning", "is_end", "immediate_ack", "tsn", "stream"
-#define INIT_SLOTS "offset", "initiate_tag", "a_rwnd", "outbound_streams", "inbound_streams", "initial_tsn", "parameters"
-static const struct {
-    const char *name, *slots[MOST_SLOTS + 1];
-} CLASSES[KINDS] = {
-    [DATA] = {"Data", {BITS, "ssn", "ppid", "payload"}},
-    [I_DATA] = {"IData", {BITS, "mid", "ppid", "payload", "fsn"}},
-    [INIT] = {"Init", {INIT_SLOTS}},
-    [INIT_ACK] = {"InitAck", {INIT_SLOTS}},
-    [SACK] = {"Sack", {"offset", "cumulative_tsn_ack", "a_rwnd", "blocks", "duplicates"}},
-    [HEARTBEAT] = {"Heartbeat", {"offset", "parameters"}},
-    [HEARTBEAT_ACK] = {"HeartbeatAck", {"offset", "parameters"}},
-    [SHUTDOWN] = {"Shutdown", {"offset", "cumulative_tsn_ack"}},
-    [SHUTDOWN_ACK] = {"ShutdownAck", {"offset"}},
-    [COOKIE_ECHO] = {"CookieEcho", {"offset", "cookie"}},
-    [COOKIE_ACK] = {"CookieAck", {"offset"}},
-    [SHUTDOWN_COMPLETE] = {"ShutdownComplete", {"offset", "tag_reflected"}},
-    [FORWARD_TSN] = {"ForwardTsn", {"offset", "new_cumulative_tsn", "streams"}},
-    [I_FORWARD_TSN] = {"IForwardTsn", {"offset", "new_cumulative_tsn", "streams"}},
-    [RAW_CHUNK] = {"RawChunk", {"offset", "type", "flags", "value"}},
-    [HEARTBEAT_INFO] = {"HeartbeatInfo", {"offset", "info"}},
-    [STATE_COOKIE] = {"StateCookie", {"offset", "cookie"}},
-    [ZERO_CHECKSUM_ACCEPTABLE] = {"ZeroChecksumAcceptable", {"offset", "method"}},
-    [SUPPORTED_EXTENSIONS] = {"SupportedExtensions", {"offset", "chunk_types"}},
-    [FORWARD_TSN_SUPPORTED] = {"ForwardTsnSupported", {"offset"}},
-    [RAW_PARAMETER] = {"RawParameter", {"offset", "type", "value"}},
-    [HEADER] = {"Header", {"source_port", "destination_port", "verification_tag", "checksum"}},
-    [POLICY] = {"Policy", {"any_checksum", "zero_checksum", "allowed_zero_checksum", "strict_padding"}},
-    [GAP_ACK_BLOCK] = {"GapAckBlock", {NULL}},
-    [SKIPPED_STREAM] = {"SkippedStream", {NULL}},
-    [SKIPPED_I_STREAM] = {"SkippedIStream", {NULL}},
-    [BUILDER] = {"Builder", {"_packet", "_size", "_last", "_is_taken"}},
+struct layout {
+    const char *name;
+    uint16_t number;
+    uint16_t size, step, most; /* a value has `size` bytes, and at most `most` times `step` more; a step of 0: as its counts say */
+    struct step steps[MOST_STEPS];
 };
+#include "_kinds.h"
+
+static const char *const LEVEL_NAMES[] = {"chunk", "parameter", "error cause"};
 
 struct state {
     PyTypeObject *types[KINDS];
-    PyObject *slots[KINDS][MOST_SLOTS];
+    PyObject *slots[KINDS][MOST_STEPS], *offsets[KINDS]; /* of a kind a slot for each step that has a name */
+    PyObject *results[RESULTS], *error_of, *policy, *encoded; /* (a policy that was made before, by which nothing is set) */
     descrgetfunc get;
     descrsetfunc set;
-    PyObject *read, *chunk_at; /* by ctypes */
 };
 
-/* A packet that is read. */
-struct bytes {
-    PyObject *object;
-    const uint8_t *at;
-    size_t length;
-};
+static PyObject *error(const struct state *state, uint32_t code, PyObject *detail)
+{
+    PyObject *it = detail ? PyObject_CallFunction(state->error_of, "IO", (unsigned)code, detail) : NULL;
+    if (it)
+        PyErr_SetObject((PyObject *)Py_TYPE(it), it);
+    Py_XDECREF(it);
+    Py_XDECREF(detail);
+    return NULL;
+}
+
+static PyObject *too_long(const struct state *state)
+{
+    return error(state, DCSCTP_BAD_VALUE, PyUnicode_FromString("a chunk of more than 65,535 bytes"));
+}
 
 /* ---- reading */
 
-/* Makes a value of a class of these in its slots, and gives them up; none of them, where one is NULL. */
-static PyObject *made(const struct state *state, enum kind kind, PyObject *const *values)
-{
-    PyObject *it = PyType_GenericAlloc(state->types[kind], 0);
-    for (int i = 0; i < MOST_SLOTS && state->slots[kind][i]; i++) {
-        if (it && (!values[i] || state->set(state->slots[kind][i], it, values[i]) < 0))
-            Py_CLEAR(it);
-        Py_XDECREF(values[i]);
-    }
-    return it;
-}
-#define MADE(kind, ...) made(state, kind, (PyObject *[]){__VA_ARGS__})
-#define NUMBER PyLong_FromUnsignedLong
-#define BOOL PyBool_FromLong
+/* Bytes that are read, and what is added to the offsets in them; they are None where it is NOWHERE. */
+struct bytes {
+    const uint8_t *at;
+    size_t length;
+    Py_ssize_t base;
+};
+enum { NOWHERE = -1 };
 
-static PyObject *part(struct bytes bytes, size_t offset, size_t size)
+static inline uint32_t number_at(const uint8_t *at, int size)
 {
-    return PyBytes_FromStringAndSize((const char *)bytes.at + offset, (Py_ssize_t)size);
+    const uint32_t two = (uint32_t)at[0] << 8 | at[size > 1];
+    return size == 4 ? two << 16 | (uint32_t)at[2] << 8 | at[3] : size == 2 ? two : at[0];
 }
 
-/* Puts a value into a tuple that is new, and gives it up; returns whether it is there. */
-static bool put(PyObject *tuple, size_t index, PyObject *value)
+/* A size with its padding. */
+static size_t padded(size_t size)
 {
-    return value && PyTuple_SetItem(tuple, (Py_ssize_t)index, value) == 0;
+    return (size + 3) & ~(size_t)3;
 }
 
-/* A tuple of a class, with these numbers, and a third value or NULL. */
-static PyObject *pair(PyTypeObject *type, unsigned long one, unsigned long other, PyObject *third)
+/* The size of the chunk, parameter or error cause that begins at an offset, before an end; 0 where no whole one does. */
+static size_t whole(const struct bytes *bytes, size_t at, size_t end)
 {
-    PyObject *it = PyType_GenericAlloc(type, third ? 3 : 2);
-    /* (numbers lead to nothing: the collector of garbage needn't look) */
-    if (it)
-        PyObject_GC_UnTrack(it);
-    if (it && !(put(it, 0, NUMBER(one)) && put(it, 1, NUMBER(other)) && (!third || put(it, 2, third))))
-        Py_CLEAR(it);
-    return it;
+    const size_t size = at < end && end - at >= HEADER_SIZE ? number_at(bytes->at + at + 2, 2) : 0;
+    return size >= HEADER_SIZE && size <= end - at ? size : 0;
 }
 
-/* A list of a chunk: its items are read by a call, by a second one where there are many, and each is made by an expression; NULL
-   where one isn't made. */
-#define LIST(name, item, call, made)                                                                                   \
-    static PyObject *name(const struct state *state, struct bytes bytes, const struct dcsctp_row *row)                 \
-    {                                                                                                                  \
-        item few[32], *items = few;                                                                                    \
-        const size_t count = call(bytes.at, bytes.length, &row->chunk, few, 32);                                       \
-        if (count > 32) {                                                                                              \
-            items = PyMem_Malloc(count * sizeof *items);                                                               \
-            if (!items)                                                                                                \
-                return PyErr_NoMemory();                                                                               \
-            call(bytes.at, bytes.length, &row->chunk, items, count);                                                   \
-        }                                                                                                              \
-        PyObject *list = PyTuple_New((Py_ssize_t)count);                                                               \
-        (void)state;                                                                                                   \
-        for (size_t i = 0; list && i < count; i++) {                                                                   \
-            const item it = items[i];                                                                                  \
-            if (!put(list, i, made))                                                                                   \
-                Py_CLEAR(list);                                                                                        \
-        }                                                                                                              \
-        if (items != few)                                                                                              \
-            PyMem_Free(items);                                                                                         \
-        return list;                                                                                                   \
-    }
-LIST(blocks, struct dcsctp_gap_ack_block, dcsctp_gap_ack_blocks, pair(state->types[GAP_ACK_BLOCK], it.start, it.end, NULL))
-LIST(duplicates, uint32_t, dcsctp_duplicate_tsns, NUMBER(it))
-LIST(streams, struct dcsctp_skipped_stream, dcsctp_skipped_streams, pair(state->types[SKIPPED_STREAM], it.stream, it.ssn, NULL))
-LIST(i_streams, struct dcsctp_skipped_stream, dcsctp_skipped_streams,
-     pair(state->types[SKIPPED_I_STREAM], it.stream, it.mid, BOOL(it.is_unordered)))
-
-/* A parameter; NULL without an exception for one of RE-CONFIG, which is left to ctypes. */
-static PyObject *parameter(const struct state *state, struct bytes bytes, const struct dcsctp_parameter *item)
+/* Sets a slot to a value, and gives that up; false where there is none. */
+static inline bool set(const struct state *state, PyObject *slot, PyObject *it, PyObject *value)
 {
-    if (item->type >= DCSCTP_PARAMETER_OUTGOING_SSN_RESET && item->type <= DCSCTP_PARAMETER_ADD_INCOMING_STREAMS)
+    const bool is_set = value && state->set(slot, it, value) == 0;
+    Py_XDECREF(value);
+    return is_set;
+}
+
+/* How many fields a record has. */
+static Py_ssize_t fields_of(int kind)
+{
+    Py_ssize_t count = 0;
+    while (LAYOUTS[kind].steps[count].what)
+        count++;
+    return count;
+}
+
+/* A record: a tuple of its numbers, after which come its bits. */
+static PyObject *record_at(const struct state *state, int kind, const uint8_t *at, Py_ssize_t count)
+{
+    const struct step *const steps = LAYOUTS[kind].steps;
+    Py_ssize_t place = 0;
+    PyObject *it = PyType_GenericAlloc(state->types[kind], count);
+    if (!it)
         return NULL;
-    PyObject *offset = PyLong_FromSize_t(item->value_offset - 4);
-    uint32_t number;
-#define VALUE part(bytes, item->value_offset, item->value_size)
-    switch (item->type) {
-    case DCSCTP_PARAMETER_HEARTBEAT_INFO: return MADE(HEARTBEAT_INFO, offset, VALUE);
-    case DCSCTP_PARAMETER_STATE_COOKIE: return MADE(STATE_COOKIE, offset, VALUE);
-    case DCSCTP_PARAMETER_SUPPORTED_EXTENSIONS: return MADE(SUPPORTED_EXTENSIONS, offset, VALUE);
-    case DCSCTP_PARAMETER_FORWARD_TSN_SUPPORTED: return MADE(FORWARD_TSN_SUPPORTED, offset);
-    case DCSCTP_PARAMETER_ZERO_CHECKSUM_ACCEPTABLE:
-        if (dcsctp_number(bytes.at, bytes.length, item, &number))
-            return MADE(ZERO_CHECKSUM_ACCEPTABLE, offset, NUMBER(number));
-    }
-    return MADE(RAW_PARAMETER, offset, NUMBER(item->type), VALUE);
-#undef VALUE
-}
-
-LIST(parameters, struct dcsctp_parameter, dcsctp_parameters, parameter(state, bytes, &it))
-
-static PyObject *chunk_of(const struct state *state, struct bytes bytes, const struct dcsctp_row *row)
-{
-    const struct dcsctp_chunk *chunk = &row->chunk;
-    PyObject *list = NULL;
-#define OFFSET PyLong_FromSize_t(chunk->value_offset - 4)
-#define REST part(bytes, row->rest_offset, row->rest_size)
-#define FLAGS OFFSET, BOOL(row->is_unordered), BOOL(row->is_beginning), BOOL(row->is_end), BOOL(row->immediate_ack)
-#define NUMBERS NUMBER(row->initiate_tag), NUMBER(row->a_rwnd), NUMBER(row->outbound_streams), NUMBER(row->inbound_streams)
-    switch (chunk->type) {
-    case DCSCTP_CHUNK_DATA:
-        return MADE(DATA, FLAGS, NUMBER(row->tsn), NUMBER(row->stream), NUMBER(row->ssn), NUMBER(row->ppid), REST);
-    case DCSCTP_CHUNK_I_DATA:
-        return MADE(I_DATA, FLAGS, NUMBER(row->tsn), NUMBER(row->stream), NUMBER(row->mid), NUMBER(row->ppid), REST, NUMBER(row->fsn));
-    case DCSCTP_CHUNK_SACK:
-        return MADE(SACK, OFFSET, NUMBER(row->tsn), NUMBER(row->a_rwnd), blocks(state, bytes, row), duplicates(state, bytes, row));
-    case DCSCTP_CHUNK_INIT:
-    case DCSCTP_CHUNK_INIT_ACK:
-    case DCSCTP_CHUNK_HEARTBEAT:
-    case DCSCTP_CHUNK_HEARTBEAT_ACK:
-        list = parameters(state, bytes, row);
-        if (!list && PyErr_Occurred())
+    PyObject_GC_UnTrack(it); /* (numbers lead to nothing: the collector of garbage needn't look) */
+    for (const struct step *step = steps; step->what; at += step->size, step++) {
+        const uint32_t number = number_at(at, step->size);
+        PyObject *value = step->what == BIT ? PyBool_FromLong(number & 1) : PyLong_FromUnsignedLong(number);
+        if (!value || PyTuple_SetItem(it, step->what == BIT ? count - 1 : place++, value) < 0) {
+            Py_DECREF(it);
             return NULL;
-        if (!list)
-            break;
-        switch (chunk->type) {
-        case DCSCTP_CHUNK_INIT: return MADE(INIT, OFFSET, NUMBERS, NUMBER(row->tsn), list);
-        case DCSCTP_CHUNK_INIT_ACK: return MADE(INIT_ACK, OFFSET, NUMBERS, NUMBER(row->tsn), list);
-        case DCSCTP_CHUNK_HEARTBEAT: return MADE(HEARTBEAT, OFFSET, list);
-        default: return MADE(HEARTBEAT_ACK, OFFSET, list);
         }
-    case DCSCTP_CHUNK_SHUTDOWN: return MADE(SHUTDOWN, OFFSET, NUMBER(row->tsn));
-    case DCSCTP_CHUNK_SHUTDOWN_ACK: return MADE(SHUTDOWN_ACK, OFFSET);
-    case DCSCTP_CHUNK_COOKIE_ECHO: return MADE(COOKIE_ECHO, OFFSET, REST);
-    case DCSCTP_CHUNK_COOKIE_ACK: return MADE(COOKIE_ACK, OFFSET);
-    case DCSCTP_CHUNK_SHUTDOWN_COMPLETE:
-        return MADE(SHUTDOWN_COMPLETE, OFFSET, BOOL(chunk->flags & DCSCTP_TAG_REFLECTED));
-    case DCSCTP_CHUNK_FORWARD_TSN: return MADE(FORWARD_TSN, OFFSET, NUMBER(row->tsn), streams(state, bytes, row));
-    case DCSCTP_CHUNK_I_FORWARD_TSN: return MADE(I_FORWARD_TSN, OFFSET, NUMBER(row->tsn), i_streams(state, bytes, row));
-    case DCSCTP_CHUNK_ABORT:
-    case DCSCTP_CHUNK_ERROR:
-    case DCSCTP_CHUNK_RE_CONFIG: break;
-    default:
-        return MADE(RAW_CHUNK, OFFSET, NUMBER(chunk->type), NUMBER(chunk->flags), part(bytes, chunk->value_offset, chunk->value_size));
     }
-    return PyObject_CallFunction(state->chunk_at, "On", bytes.object, (Py_ssize_t)(chunk->value_offset - 4));
+    return it;
 }
 
-/* The value of a slot, which the object keeps; NULL without an exception where there is none. */
-static PyObject *got(const struct state *state, enum kind kind, int slot, PyObject *object)
+static PyObject *list_at(const struct state *state, const struct step *step, const uint8_t *at, size_t count)
 {
-    PyObject *value = state->get(state->slots[kind][slot], object, (PyObject *)Py_TYPE(object));
-    if (value)
-        Py_DECREF(value);
-    else
-        PyErr_Clear();
-    return value;
+    PyObject *list = PyTuple_New((Py_ssize_t)count);
+    const Py_ssize_t fields = step->what == LIST ? 0 : fields_of(step->more);
+    for (size_t i = 0; list && i < count; i++, at += step->size) {
+        PyObject *it = fields ? record_at(state, step->more, at, fields) : PyLong_FromUnsignedLong(number_at(at, step->size));
+        if (!it || PyTuple_SetItem(list, (Py_ssize_t)i, it) < 0)
+            Py_CLEAR(list);
+    }
+    return list;
 }
 
-static bool as_bytes(PyObject *object, struct bytes *bytes)
+/* Whether lists that are counted have as many bytes. */
+static bool fill(const struct step *step, const uint32_t *counts, size_t size)
 {
-    if (!object || !PyBytes_CheckExact(object))
+    uint64_t all = 0;
+    for (; step->what; step++)
+        if (step->what == LIST || step->what == RECORDS)
+            all += (uint64_t)*counts++ * step->size;
+    return all == size;
+}
+
+static PyObject *parts_at(const struct state *state, const struct bytes *bytes, size_t at, size_t end, enum level level, bool is_raw,
+                          Py_ssize_t most);
+
+/* A value of a kind, between two offsets: NULL, without an exception, where it isn't one of the kind. */
+static PyObject *value_at(const struct state *state, int kind, const struct bytes *bytes, size_t at, size_t end)
+{
+    const struct layout *const layout = &LAYOUTS[kind];
+    const size_t more = end - at - layout->size;
+    if (end - at < layout->size || (layout->step ? more % layout->step || more / layout->step > layout->most : more && !layout->most))
+        return NULL;
+    const uint8_t *const header = bytes->at + (at ? at - HEADER_SIZE : 0); /* (of a part: the common header has none) */
+    const unsigned flags = header[1];
+    uint32_t counts[2] = {0, 0};
+    size_t counted = 0, used = 0, count;
+    PyObject *it = PyType_GenericAlloc(state->types[kind], 0);
+    const Py_ssize_t place = bytes->base + (Py_ssize_t)at - HEADER_SIZE;
+    if (it && state->offsets[kind] && !set(state, state->offsets[kind], it, bytes->base == NOWHERE ? Py_NewRef(Py_None) : PyLong_FromSsize_t(place)))
+        Py_CLEAR(it);
+    for (const struct step *step = layout->steps; it && step->what; step++) {
+        const uint8_t *const from = bytes->at + at;
+        const uint32_t number = step->size && step->what < LIST ? number_at(from, step->size) : 0;
+        PyObject *value = NULL;
+        at += step->what == EITHER || step->what >= LIST ? 0 : step->size;
+        switch ((enum what)step->what) {
+        case NUMBER: value = PyLong_FromUnsignedLong(number); break;
+        case RESULT: value = number < RESULTS ? Py_NewRef(state->results[number]) : NULL; break;
+        case COUNT: counts[counted++] = number; continue;
+        case EITHER: value = PyLong_FromUnsignedLong(flags & step->more ? number : 0); break;
+        case OR_ELSE: value = PyLong_FromUnsignedLong(flags & step->more ? 0 : number); break;
+        case FLAG: value = Py_NewRef(flags & step->more ? Py_True : Py_False); break;
+        case HEAD: value = PyLong_FromUnsignedLong(number_at(header + step->more, step->size)); break;
+        case REST: value = PyBytes_FromStringAndSize((const char *)from, (Py_ssize_t)(end - at)); break;
+        case ITEMS: value = parts_at(state, bytes, at, end, step->more, false, LARGEST_CHUNK); break;
+        case OPTIONAL: value = more ? record_at(state, step->more, from, fields_of(step->more)) : Py_NewRef(Py_None); break;
+        case LIST:
+        case RECORDS:
+            if (counted && !used && !fill(step, counts, more))
+                break;
+            count = counted ? counts[used++] : more / step->size;
+            value = list_at(state, step, from, count);
+            at += count * step->size;
+            break;
+        default: continue;
+        }
+        if (!set(state, state->slots[kind][step - layout->steps], it, value))
+            Py_CLEAR(it);
+    }
+    return it;
+}
+
+/* The chunks, parameters or error causes from an offset on, at most as many, up to an end, or to the first that isn't whole. */
+static PyObject *parts_at(const struct state *state, const struct bytes *bytes, size_t at, size_t end, enum level level, bool is_raw,
+                          Py_ssize_t most)
+{
+    Py_ssize_t count = 0;
+    for (size_t next = at, size; count < most && (size = whole(bytes, next, end)); next += padded(size))
+        count++;
+    PyObject *list = PyTuple_New(count);
+    for (Py_ssize_t i = 0; list && i < count; i++) {
+        const size_t size = whole(bytes, at, end);
+        const int kind = is_raw ? -1 : kind_of_number(level, number_at(bytes->at + at, level == CHUNK ? 1 : 2));
+        PyObject *it = kind < 0 ? NULL : value_at(state, kind, bytes, at + HEADER_SIZE, at + size);
+        if (!it && !PyErr_Occurred())
+            it = value_at(state, RAW_CHUNK + (int)level, bytes, at + HEADER_SIZE, at + size);
+        if (!it || PyTuple_SetItem(list, i, it) < 0)
+            Py_CLEAR(list);
+        at += padded(size);
+    }
+    return list;
+}
+
+/* ---- what is passed */
+
+/* Bytes, of which those that may change are copied; NULL with an exception for what holds none. */
+static PyObject *bytes_of(PyObject *object, struct bytes *bytes)
+{
+    PyObject *view = PyBytes_CheckExact(object) ? NULL : PyMemoryView_FromObject(object);
+    PyObject *found = PyBytes_CheckExact(object) ? Py_NewRef(object) : view ? PyObject_CallMethod(view, "tobytes", NULL) : NULL;
+    Py_XDECREF(view);
+    if (found)
+        *bytes = (struct bytes){(const uint8_t *)PyBytes_AsString(found), (size_t)PyBytes_Size(found), 0};
+    return found;
+}
+
+/* A number that isn't plain: any object that has an index; an exception names what has no place, and the list that it is an item of. */
+static bool index_of(PyObject *object, uint32_t most, uint32_t *number, const char *name, const char *list, size_t index)
+{
+    PyErr_Clear();
+    PyObject *exact = PyNumber_Index(object);
+    if (!exact)
         return false;
-    *bytes = (struct bytes){object, (const uint8_t *)PyBytes_AsString(object), (size_t)PyBytes_Size(object)};
+    const unsigned long long found = PyLong_AsUnsignedLongLong(exact);
+    const bool has_place = found <= most;
+    if (!has_place) {
+        PyErr_Clear();
+        PyObject *item = list ? PyUnicode_FromFormat("%s[%zu]%s%s", list, index, *name ? "." : "", name) : PyUnicode_FromString(name);
+        if (item)
+            PyErr_Format(PyExc_ValueError, "%U has to be 0 to %u, and is %S", item, (unsigned)most, exact);
+        Py_XDECREF(item);
+    }
+    Py_DECREF(exact);
+    *number = (uint32_t)found;
+    return has_place;
+}
+
+/* A number that is plain, and has a place; -1 of another, perhaps with an exception. */
+static inline int64_t plain(PyObject *object, uint32_t most)
+{
+    const unsigned long found = PyLong_CheckExact(object) ? PyLong_AsUnsignedLong(object) : (unsigned long)-1;
+    /* (all bits are set where it has none) */
+    return found <= most && (sizeof found > 4 || found != (unsigned long)-1) ? (int64_t)found : -1;
+}
+
+/* Any number. */
+static bool number_of(PyObject *object, uint32_t most, uint32_t *number, const char *name)
+{
+    const int64_t found = plain(object, most);
+    *number = (uint32_t)found;
+    return found >= 0 || index_of(object, most, number, name, NULL, 0);
+}
+
+static inline uint32_t most_of(int size)
+{
+    return size == 4 ? 0xFFFFFFFF : size == 2 ? 0xFFFF : 0xFF;
+}
+
+/* The value of a slot. */
+static PyObject *got(const struct state *state, int class, ptrdiff_t slot, PyObject *object)
+{
+    return state->get(state->slots[class][slot], object, (PyObject *)Py_TYPE(object));
+}
+
+static bool has_count(Py_ssize_t count, Py_ssize_t wanted)
+{
+    if (count != wanted)
+        PyErr_Format(PyExc_TypeError, "it takes %zd arguments, and got %zd", wanted, count);
+    return count == wanted;
+}
+
+/* ---- writing: what follows writes behind `size` bytes, and is false with an exception */
+
+struct out {
+    const struct state *state;
+    uint8_t *at;
+    size_t size, room;
+    uint8_t few[2048];
+};
+
+/* Place for so many bytes more; NULL with an exception. */
+static uint8_t *place_for(struct out *out, size_t count)
+{
+    if (count > LARGEST_CHUNK - out->size)
+        return (uint8_t *)too_long(out->state);
+    if (count > out->room - out->size) {
+        uint8_t *const at = PyMem_Malloc(LARGEST_CHUNK);
+        if (!at)
+            return (uint8_t *)PyErr_NoMemory();
+        memcpy(at, out->at, out->size);
+        out->at = at, out->room = LARGEST_CHUNK;
+    }
+    out->size += count;
+    return out->at + out->size - count;
+}
+
+static inline void put(uint8_t *at, uint32_t number, int size)
+{
+    if (size == 4)
+        at[0] = (uint8_t)(number >> 24), at[1] = (uint8_t)(number >> 16), at += 2;
+    if (size > 1)
+        *at++ = (uint8_t)(number >> 8);
+    *at = (uint8_t)number;
+}
+
+static bool put_bytes(struct out *out, PyObject *object)
+{
+    struct bytes bytes;
+    PyObject *found = object ? bytes_of(object, &bytes) : NULL;
+    uint8_t *const at = found ? place_for(out, bytes.length) : NULL;
+    if (at)
+        memcpy(at, bytes.at, bytes.length);
+    Py_XDECREF(found);
+    return at;
+}
+
+/* Writes a record of as many fields, which a list has at an index. */
+static bool put_record(const struct state *state, uint8_t *at, PyObject *object, const struct step *list, size_t index, Py_ssize_t count)
+{
+    const struct step *const steps = LAYOUTS[list->more].steps;
+    const bool is_plain = Py_TYPE(object) == state->types[list->more] || PyTuple_CheckExact(object);
+    PyObject *const fields = is_plain ? object : PySequence_Tuple(object);
+    bool is_put = fields && PyTuple_Size(fields) == count;
+    if (fields && !is_put)
+        PyErr_Format(PyExc_ValueError, "%s[%zu] has to have %zd fields", list->name, index, count);
+    for (Py_ssize_t i = 0, place = 0; is_put && i < count; at += steps[i++].size) {
+        const bool is_bit = steps[i].what == BIT;
+        PyObject *const field = PyTuple_GetItem(fields, is_bit ? count - 1 : place++);
+        int64_t number = is_bit ? PyObject_IsTrue(field) : plain(field, most_of(steps[i].size));
+        if (number < 0) {
+            uint32_t other = 0;
+            is_put = !is_bit && index_of(field, most_of(steps[i].size), &other, steps[i].name, list->name, index);
+            number = other;
+        }
+        put(at, (uint32_t)number, steps[i].size);
+    }
+    if (!is_plain)
+        Py_XDECREF(fields);
+    return is_put;
+}
+
+static bool put_part(struct out *out, PyObject *part, enum level level);
+
+/* A list of numbers, records, parameters or error causes, of any iterable; `count` is where it is counted, or NULL. */
+static bool put_list(struct out *out, PyObject *list, const struct step *step, const struct step *counted, size_t count_at)
+{
+    PyObject *items = list ? PySequence_Tuple(list) : NULL;
+    const size_t count = items ? (size_t)PyTuple_Size(items) : 0;
+    bool is_put = items != NULL;
+    if (step->what == ITEMS) {
+        for (size_t i = 0; is_put && i < count; i++)
+            is_put = (i == 0 || put_part(out, NULL, step->more)) && put_part(out, PyTuple_GetItem(items, (Py_ssize_t)i), step->more);
+    } else if (is_put) {
+        uint8_t *at = count > LARGEST_CHUNK ? (uint8_t *)too_long(out->state) : place_for(out, count * step->size);
+        is_put = at != NULL;
+        const Py_ssize_t fields = step->what == LIST ? 0 : fields_of(step->more);
+        for (size_t i = 0; is_put && i < count; i++, at += step->size) {
+            PyObject *const item = PyTuple_GetItem(items, (Py_ssize_t)i);
+            /* (most records are pairs of shorts) */
+            const bool is_pair = fields == 2 && step->size == 4 && Py_TYPE(item) == out->state->types[step->more];
+            const int64_t one = is_pair ? plain(PyTuple_GetItem(item, 0), 0xFFFF) : -1, other = is_pair ? plain(PyTuple_GetItem(item, 1), 0xFFFF) : -1;
+            const int64_t plainly = fields ? 0 : plain(item, most_of(step->size));
+            uint32_t number = (uint32_t)plainly;
+            if (one >= 0 && other >= 0)
+                put(at, (uint32_t)(one << 16 | other), 4);
+            else if (fields)
+                is_put = put_record(out->state, at, item, step, i, fields);
+            else if (plainly >= 0 || (is_put = index_of(item, most_of(step->size), &number, "", step->name, i)))
+                put(at, number, step->size);
+        }
+        if (counted)
+            put(out->at + count_at, (uint32_t)count, counted->size);
+    }
+    Py_XDECREF(items);
+    return is_put;
+}
+
+/* The value of a kind, whose header is before it. */
+static bool put_value(struct out *out, PyObject *part, int kind)
+{
+    const struct state *const state = out->state;
+    const struct step *const steps = LAYOUTS[kind].steps, *counts[2] = {NULL, NULL};
+    const size_t header = out->size - HEADER_SIZE;
+    size_t counts_at[2] = {0, 0}, counted = 0, used = 0;
+    uint32_t number = 0, other;
+    bool is_put = true;
+    for (const struct step *step = steps; is_put && step->what; step++) {
+        PyObject *value = *step->name ? got(state, kind, step - steps, part) : Py_NewRef(Py_None);
+        uint8_t *at = NULL;
+        int bit;
+        is_put = value != NULL;
+        switch (is_put ? (enum what)step->what : END) {
+        case FLAG:
+            bit = PyObject_IsTrue(value);
+            is_put = bit >= 0;
+            out->at[header + 1] |= bit > 0 ? step->more : 0;
+            break;
+        case NUMBER:
+        case EITHER:
+        case RESULT:
+        case HEAD: is_put = number_of(value, most_of(step->size), &number, step->name); break;
+        case OR_ELSE:
+            is_put = number_of(value, most_of(step->size), &other, step->name);
+            number = out->at[header + 1] & step->more ? number : other;
+            break;
+        case COUNT:
+            counts[counted] = step;
+            counts_at[counted++] = out->size;
+            number = 0;
+            break;
+        case RESERVED: number = 0; break;
+        case REST: is_put = put_bytes(out, value); break;
+        case OPTIONAL:
+            is_put = value == Py_None || ((at = place_for(out, step->size)) && put_record(state, at, value, step, 0, fields_of(step->more)));
+            break;
+        case ITEMS:
+        case LIST:
+        case RECORDS:
+            is_put = put_list(out, value, step, used < counted ? counts[used] : NULL, used < counted ? counts_at[used] : 0);
+            used++;
+            break;
+        default: break;
+        }
+        if (is_put && step->what == RESULT && number >= RESULTS)
+            is_put = error(state, DCSCTP_BAD_VALUE, PyUnicode_FromFormat("no %s is %u", step->name, (unsigned)number));
+        if (is_put && step->what < LIST && step->what != EITHER && (is_put = (at = place_for(out, step->size)) != NULL))
+            put(at, number, step->size);
+        if (is_put && step->what == HEAD)
+            put(out->at + header + step->more, number, step->size);
+        Py_XDECREF(value);
+    }
+    return is_put;
+}
+
+/* The class that an object is of; -1 of what is of no class of the level. */
+static int class_of(const struct state *state, PyObject *object, enum level level)
+{
+    PyTypeObject *const type = Py_TYPE(object);
+    for (int kind = FIRST[level]; kind < (int)FIRST[level + 1]; kind++)
+        if (state->types[kind] == type)
+            return kind;
+    if (type == state->types[RAW_CHUNK + level])
+        return RAW_CHUNK + (int)level;
+    for (int kind = 0; kind < KINDS; kind++)
+        if (((kind >= (int)FIRST[level] && kind < (int)FIRST[level + 1]) || kind == RAW_CHUNK + (int)level || kind == REGISTERED_CHUNK + (int)level)
+            && PyType_IsSubtype(type, state->types[kind]))
+            return kind;
+    return -1;
+}
+
+/* A chunk, a parameter or an error cause, with its header; or, where there is none, the padding of the one before. */
+static bool put_part(struct out *out, PyObject *part, enum level level)
+{
+    const struct state *const state = out->state;
+    const size_t start = out->size;
+    if (!part) {
+        uint8_t *const at = place_for(out, padded(start) - start);
+        return at && memset(at, 0, padded(start) - start);
+    }
+    const int class = class_of(state, part, level);
+    if (class < 0) {
+        PyObject *name = PyObject_GetAttrString((PyObject *)Py_TYPE(part), "__name__");
+        if (name)
+            PyErr_Format(PyExc_TypeError, "%U is no %s", name, LEVEL_NAMES[level]);
+        Py_XDECREF(name);
+        return false;
+    }
+    if (class >= REGISTERED_CHUNK) {
+        PyObject *encoded = PyObject_CallFunctionObjArgs(state->encoded, part, NULL);
+        const bool is_put = put_bytes(out, encoded);
+        Py_XDECREF(encoded);
+        return is_put;
+    }
+    uint8_t *const at = place_for(out, HEADER_SIZE);
+    if (!at)
+        return false;
+    put(at, level == CHUNK ? (uint32_t)LAYOUTS[class].number << 8 : LAYOUTS[class].number, 2);
+    if (!put_value(out, part, class))
+        return false;
+    put(out->at + start + 2, (uint32_t)(out->size - start), 2);
     return true;
 }
 
-static bool as_number(PyObject *object, unsigned long most, uint32_t *number)
+/* Begins to write, and ends it. */
+static struct out *begun(struct out *out, const struct state *state)
 {
-    if (!object || !PyLong_CheckExact(object))
-        return false;
-    unsigned long found = PyLong_AsUnsignedLong(object);
-    if (found == (unsigned long)-1 && PyErr_Occurred()) {
-        PyErr_Clear();
-        return false;
-    }
-    *number = (uint32_t)found;
-    return found <= most;
+    out->state = state, out->at = out->few, out->size = 0, out->room = sizeof out->few;
+    return out;
 }
 
-/* Whether the packet has to have its CRC32c also where a checksum of zero was negotiated (RFC 9653 section 5.2). */
-static bool needs_checksum(struct bytes bytes)
+static bool ended(struct out *out, bool is_put)
 {
-    struct dcsctp_chunk chunk;
-    for (size_t at = DCSCTP_FIRST_CHUNK; dcsctp_chunk_at(bytes.at, bytes.length, at, &chunk); at = chunk.next)
-        switch (chunk.type) {
+    if (out->at != out->few)
+        PyMem_Free(out->at);
+    return is_put;
+}
+
+/* ---- a packet's builder */
+
+struct builder {
+    PyObject_HEAD
+    const struct state *state;
+    uint8_t *packet;
+    size_t size, room, start; /* where the last chunk begins */
+    Py_ssize_t limit;
+    uint64_t chunks, last; /* how many were begun in all; and which of these is the last one that can be added to, or 0 */
+};
+
+/* Makes the memory as large; false with an exception where the packet may not be. */
+static bool grow(struct builder *it, size_t size)
+{
+    size_t room = 2 * it->room > 2048 ? 2 * it->room : 2048;
+    if (size > (size_t)it->limit)
+        return error(it->state, DCSCTP_NO_ROOM,
+                     PyUnicode_FromFormat("no room: %zu bytes more, after %zu of at most %zd", size - it->size, it->size, it->limit));
+    if (size <= it->room)
+        return true;
+    room = room < size ? size : room > (size_t)it->limit ? (size_t)it->limit : room;
+    uint8_t *const packet = PyMem_Realloc(it->packet, room);
+    if (!packet)
+        return PyErr_NoMemory();
+    it->packet = packet, it->room = room;
+    return true;
+}
+
+static PyObject *builder_new(PyTypeObject *type, PyObject *arguments, PyObject *words)
+{
+    (void)arguments, (void)words;
+    struct builder *it = (struct builder *)PyType_GenericAlloc(type, 0);
+    /* (the module's class is among those that a class of Python's is made of) */
+    for (; it && !(it->state = PyType_GetModuleState(type)); type = PyType_GetSlot(type, Py_tp_base))
+        PyErr_Clear();
+    return (PyObject *)it;
+}
+
+static PyObject *builder_open(struct builder *it, PyObject *object)
+{
+    const Py_ssize_t limit = PyNumber_AsSsize_t(object, NULL);
+    it->limit = limit < 0 ? 0 : limit > 65532 ? 65532 : limit;
+    return PyErr_Occurred() ? NULL : Py_NewRef(Py_None);
+}
+
+static PyObject *builder_begin(struct builder *it, PyObject *const *arguments, Py_ssize_t count)
+{
+    uint32_t source, destination, tag;
+    if (!has_count(count, 3) || !number_of(arguments[0], 0xFFFF, &source, "source_port")
+        || !number_of(arguments[1], 0xFFFF, &destination, "destination_port")
+        || !number_of(arguments[2], 0xFFFFFFFF, &tag, "verification_tag"))
+        return NULL;
+    if (!grow(it, DCSCTP_FIRST_CHUNK))
+        return NULL;
+    dcsctp_begin(it->packet, it->room, &it->size, (uint16_t)source, (uint16_t)destination, tag);
+    it->last = 0;
+    return Py_NewRef(Py_None);
+}
+
+/* Puts bytes behind the packet, and their padding. */
+static bool append(struct builder *it, const struct out *out)
+{
+    const size_t end = it->size + padded(out->size);
+    if (!grow(it, end))
+        return false;
+    memset(it->packet + end - 4, 0, 4);
+    memcpy(it->packet + it->size, out->at, out->size);
+    it->size = end;
+    return true;
+}
+
+/* Adds a chunk, and returns the number by which its list is written after it. */
+static PyObject *builder_list(struct builder *it, PyObject *chunk)
+{
+    struct out out;
+    const bool is_added = put_part(begun(&out, it->state), chunk, CHUNK) && append(it, &out);
+    if (is_added) {
+        it->start = it->size - padded(out.size);
+        it->last = ++it->chunks;
+    }
+    return ended(&out, is_added) ? PyLong_FromUnsignedLongLong(it->last) : NULL;
+}
+
+static PyObject *builder_add(struct builder *it, PyObject *chunk)
+{
+    struct out out;
+    const bool is_added = put_part(begun(&out, it->state), chunk, CHUNK) && append(it, &out);
+    it->last = is_added ? 0 : it->last;
+    return ended(&out, is_added) ? Py_NewRef(Py_None) : NULL;
+}
+
+/* Where the chunk with a number begins, which has to be the last one; 0 where it isn't any more, or with an exception. */
+static size_t start_of(const struct builder *it, PyObject *chunk)
+{
+    const unsigned long long number = PyLong_AsUnsignedLongLong(chunk);
+    return PyErr_Occurred() || !number || number != it->last ? 0 : it->start;
+}
+
+/* Adds parameters or error causes to a chunk: all of them, or nothing. */
+static PyObject *builder_items(struct builder *it, PyObject *const *arguments, Py_ssize_t count)
+{
+    static const struct step LISTS[] = {[PARAMETER] = {ITEMS, 0, PARAMETER, ""}, [CAUSE] = {ITEMS, 0, CAUSE, ""}};
+    struct out out;
+    const long level = has_count(count, 3) ? PyLong_AsLong(arguments[0]) : -1;
+    if (level != PARAMETER && level != CAUSE)
+        return PyErr_Occurred() ? NULL : PyErr_Format(PyExc_ValueError, "it is no level: %ld", level);
+    bool is_put = put_list(begun(&out, it->state), arguments[1], &LISTS[level], NULL, 0);
+    const size_t start = is_put ? start_of(it, arguments[2]) : 0, size = it->size - start + out.size;
+    if (is_put && !start && !PyErr_Occurred())
+        error(it->state, DCSCTP_BAD_PLACE, PyUnicode_FromString("the chunk isn't the packet's last one any more"));
+    else if (is_put && start && size > LARGEST_CHUNK)
+        too_long(it->state);
+    else if ((is_put = is_put && start && (!out.size || append(it, &out))) && out.size)
+        put(it->packet + start + 2, (uint32_t)size, 2);
+    return ended(&out, is_put && !PyErr_Occurred()) ? Py_NewRef(Py_None) : NULL;
+}
+
+/* Takes a chunk back; false where it isn't the last one any more. */
+static PyObject *builder_back(struct builder *it, PyObject *chunk)
+{
+    const size_t start = start_of(it, chunk);
+    if (start)
+        it->size = start, it->last = 0;
+    return PyErr_Occurred() ? NULL : PyBool_FromLong(start != 0);
+}
+
+/* Writes the HMAC of the AUTH at an offset; false where it can't be. */
+static PyObject *builder_sign(struct builder *it, PyObject *const *arguments, Py_ssize_t count)
+{
+    struct bytes key;
+    const size_t at = has_count(count, 2) ? PyLong_AsSize_t(arguments[1]) : 0;
+    PyObject *object = PyErr_Occurred() ? NULL : bytes_of(arguments[0], &key);
+    const bool is_signed = object && at <= it->size && dcsctp_sign_auth(key.at, key.length, it->packet + at, it->size - at);
+    Py_XDECREF(object);
+    return object ? PyBool_FromLong(is_signed) : NULL;
+}
+
+static PyObject *builder_bytes(struct builder *it, PyObject *none)
+{
+    (void)none;
+    return PyBytes_FromStringAndSize((const char *)it->packet, (Py_ssize_t)it->size);
+}
+
+static PyObject *builder_seal(struct builder *it, PyObject *none)
+{
+    PyObject *packet = builder_bytes(it, none);
+    /* (it is nobody's yet, and so may be written) */
+    if (packet)
+        dcsctp_seal((uint8_t *)PyBytes_AsString(packet), it->size);
+    return packet;
+}
+
+static Py_ssize_t builder_length(struct builder *it)
+{
+    return (Py_ssize_t)it->size;
+}
+
+static void builder_free(struct builder *it)
+{
+    PyTypeObject *const type = Py_TYPE(it);
+    PyMem_Free(it->packet);
+    ((freefunc)PyType_GetSlot(type, Py_tp_free))(it);
+    Py_DECREF(type);
+}
+
+#define METHOD(name, function, flags, doc) {name, (PyCFunction)(void (*)(void))function, flags, doc}
+static PyMethodDef METHODS[] = {
+    METHOD("_open", builder_open, METH_O, NULL),
+    METHOD("_begin", builder_begin, METH_FASTCALL, NULL),
+    METHOD("add", builder_add, METH_O,
+           "add($self, chunk, /)\n--\n\nAdds a chunk of any kind, with its parameters or error causes: all of it, or nothing."),
+    METHOD("_list", builder_list, METH_O, NULL),
+    METHOD("_items", builder_items, METH_FASTCALL, NULL),
+    METHOD("_back", builder_back, METH_O, NULL),
+    METHOD("_sign", builder_sign, METH_FASTCALL, NULL),
+    METHOD("__bytes__", builder_bytes, METH_NOARGS,
+           "__bytes__($self, /)\n--\n\nThe packet with a checksum field of zero, as RFC 9653 has it sent where that was negotiated."),
+    METHOD("seal", builder_seal, METH_NOARGS,
+           "seal($self, /)\n--\n\nReturns the packet, with its CRC32c (RFC 9260 section 6.8). More may be added, and sealed again."),
+    {NULL, NULL, 0, NULL},
+};
+static PyMemberDef FIELDS[] = {
+    {"limit", T_PYSSIZET, offsetof(struct builder, limit), READONLY, "The most bytes that the packet may have."},
+    {NULL, 0, 0, 0, NULL},
+};
+static PyType_Slot BUILDER_SLOTS[] = {
+    {Py_tp_new, builder_new}, {Py_tp_methods, METHODS}, {Py_tp_members, FIELDS}, {Py_sq_length, builder_length}, {Py_tp_dealloc, builder_free}, {0, NULL},
+};
+static PyType_Spec BUILDER = {
+    .name = "davgyuti._fast.Builder", .basicsize = sizeof(struct builder), .flags = Py_TPFLAGS_DEFAULT | Py_TPFLAGS_BASETYPE, .slots = BUILDER_SLOTS};
+
+/* ---- a whole packet */
+
+static bool needs_checksum(const struct bytes *bytes)
+{
+    size_t at = DCSCTP_FIRST_CHUNK;
+    for (size_t size; (size = whole(bytes, at, bytes->length)); at += padded(size))
+        switch (bytes->at[at]) {
         case DCSCTP_CHUNK_INIT:
         case DCSCTP_CHUNK_COOKIE_ECHO:
         case DCSCTP_CHUNK_ASCONF: return true;
         case DCSCTP_CHUNK_ABORT:
         case DCSCTP_CHUNK_SHUTDOWN_COMPLETE:
-            if (chunk.flags & DCSCTP_TAG_REFLECTED)
+            if (bytes->at[at + 1] & DCSCTP_TAG_REFLECTED)
                 return true;
         }
     return false;
 }
 
-PyDoc_STRVAR(read_doc, "read(data, policy, word, /) -> the word, and the number of chunks; as _reading.read, which it calls for a fault");
+/* Returns the word, or None where none is needed, and how many chunks there are; or raises the first fault. */
 static PyObject *fast_read(PyObject *module, PyObject *const *arguments, Py_ssize_t count)
 {
-    const struct state *state = PyModule_GetState(module);
-    struct bytes bytes;
+    const struct state *const state = PyModule_GetState(module);
     struct dcsctp_packet packet;
+    struct bytes bytes;
+    bool is_set[4] = {false};
     uint32_t word = 0;
-    if (count != 3)
-        return PyErr_Format(PyExc_TypeError, "read takes 3 arguments");
-    if (as_bytes(arguments[0], &bytes) && Py_TYPE(arguments[1]) == state->types[POLICY]
-        && (arguments[2] == Py_None || as_number(arguments[2], 0xFFFFFFFF, &word))) {
-        bool is_set[4];
-        for (int i = 0; i < 4; i++)
-            is_set[i] = got(state, POLICY, i, arguments[1]) == Py_True;
-        struct dcsctp_policy policy = {.any_checksum = is_set[0], .zero_checksum = is_set[1], .strict_padding = is_set[3]};
-        if (arguments[2] == Py_None)
-            word = dcsctp_word(bytes.at, bytes.length);
-        if (is_set[2] && bytes.length <= 0xFFFF && dcsctp_header(bytes.at, bytes.length, &packet.header) && packet.header.checksum == 0)
-            policy.zero_checksum |= !needs_checksum(bytes);
-        if (dcsctp_read(bytes.at, bytes.length, word, &policy, NULL, 0, &packet) == DCSCTP_OK)
-            return Py_BuildValue("kn", (unsigned long)word, (Py_ssize_t)packet.chunk_count);
+    if (!has_count(count, 3))
+        return NULL;
+    PyObject *const policy = arguments[1];
+    bool has_word = arguments[2] != Py_None;
+    if (policy != state->policy && !PyType_IsSubtype(Py_TYPE(policy), state->types[POLICY]))
+        return PyErr_Format(PyExc_TypeError, "policy has to be a Policy, and is %R", policy);
+    if (has_word && !number_of(arguments[2], 0xFFFFFFFF, &word, "word"))
+        return NULL;
+    for (int i = 0; policy != state->policy && i < 4; i++) {
+        PyObject *value = got(state, POLICY, i, policy);
+        is_set[i] = value == Py_True;
+        Py_XDECREF(value);
     }
-    return PyObject_CallFunctionObjArgs(state->read, arguments[0], arguments[1], arguments[2], NULL);
+    PyObject *data = bytes_of(arguments[0], &bytes);
+    if (!data)
+        return NULL;
+    /* (what has another size is no packet, and is refused before it is gone through) */
+    const bool has_size = bytes.length >= 16 && bytes.length <= 0xFFFF;
+    if (is_set[2] && has_size && number_at(bytes.at + 8, 4) == 0)
+        is_set[1] |= !needs_checksum(&bytes);
+    if (!has_word && !is_set[0] && has_size) {
+        word = dcsctp_word(bytes.at, bytes.length);
+        has_word = true;
+    }
+    const struct dcsctp_policy asked = {.any_checksum = is_set[0], .zero_checksum = is_set[1], .strict_padding = is_set[3]};
+    const uint32_t code = dcsctp_read(bytes.at, bytes.length, word, &asked, NULL, 0, &packet);
+    Py_DECREF(data);
+    if (code)
+        return error(state, code, PyLong_FromSize_t(packet.fault_offset));
+    return has_word ? Py_BuildValue("kn", (unsigned long)word, (Py_ssize_t)packet.chunk_count)
+                    : Py_BuildValue("On", Py_None, (Py_ssize_t)packet.chunk_count);
 }
 
-PyDoc_STRVAR(chunks_doc, "chunks(data, /) -> the chunks of a packet");
+static PyObject *fast_needs_checksum(PyObject *module, PyObject *data)
+{
+    struct bytes bytes;
+    PyObject *object = bytes_of(data, &bytes);
+    (void)module;
+    const bool needs = object && needs_checksum(&bytes);
+    Py_XDECREF(object);
+    return object ? PyBool_FromLong(needs) : NULL;
+}
+
+static PyObject *fast_header(PyObject *module, PyObject *data)
+{
+    const struct state *const state = PyModule_GetState(module);
+    struct bytes bytes;
+    PyObject *object = bytes_of(data, &bytes), *header = NULL;
+    if (object && bytes.length < DCSCTP_FIRST_CHUNK)
+        error(state, DCSCTP_FAULT_SIZE, PyLong_FromSize_t(bytes.length));
+    else if (object)
+        header = value_at(state, HEADER, &bytes, 0, DCSCTP_FIRST_CHUNK);
+    Py_XDECREF(object);
+    return header;
+}
+
+/* ---- parts of any bytes */
+
 static PyObject *fast_chunks(PyObject *module, PyObject *data)
 {
-    const struct state *state = PyModule_GetState(module);
-    const struct dcsctp_policy policy = {.any_checksum = true};
-    struct dcsctp_row few[32], *rows = few;
-    struct dcsctp_packet packet;
     struct bytes bytes;
-    if (!as_bytes(data, &bytes))
-        return PyErr_Format(PyExc_TypeError, "data has to be bytes");
-    dcsctp_read(bytes.at, bytes.length, 0, &policy, rows, 32, &packet);
-    if (packet.chunk_count > 32) {
-        rows = PyMem_Malloc(packet.chunk_count * sizeof *rows);
-        if (!rows)
-            return PyErr_NoMemory();
-        dcsctp_read(bytes.at, bytes.length, 0, &policy, rows, packet.chunk_count, &packet);
-    }
-    PyObject *list = PyTuple_New((Py_ssize_t)packet.chunk_count);
-    for (size_t i = 0; list && i < packet.chunk_count; i++)
-        if (!put(list, i, chunk_of(state, bytes, &rows[i])))
-            Py_CLEAR(list);
-    if (rows != few)
-        PyMem_Free(rows);
+    PyObject *object = bytes_of(data, &bytes);
+    PyObject *list =
+        object ? parts_at(PyModule_GetState(module), &bytes, DCSCTP_FIRST_CHUNK, bytes.length, CHUNK, false, PY_SSIZE_T_MAX) : NULL;
+    Py_XDECREF(object);
     return list;
 }
 
-PyDoc_STRVAR(header_doc, "header(data, /) -> the header of a packet");
-static PyObject *fast_header(PyObject *module, PyObject *data)
+/* The chunks, parameters or error causes from an offset on: bytes, the offset, the level, whether they stay as they are, the most of them, and
+   what is added to their offsets, or None. */
+static PyObject *fast_parts(PyObject *module, PyObject *const *arguments, Py_ssize_t count)
 {
-    const struct state *state = PyModule_GetState(module);
-    struct dcsctp_header it;
     struct bytes bytes;
-    if (!as_bytes(data, &bytes) || !dcsctp_header(bytes.at, bytes.length, &it))
-        return PyErr_Format(PyExc_TypeError, "data has to be a packet");
-    return MADE(HEADER, NUMBER(it.source_port), NUMBER(it.destination_port), NUMBER(it.verification_tag), NUMBER(it.checksum));
-}
-
-/* ---- writing */
-
-/* A builder's packet, as the functions of dcsctp.h take it. */
-struct to {
-    uint8_t *packet;
-    size_t room, size, start;
-};
-
-/* False where the builder is in the midst of what takes several steps. */
-static bool as_to(const struct state *state, PyObject *builder, struct to *to)
-{
-    if (!PyType_IsSubtype(Py_TYPE(builder), state->types[BUILDER]) || got(state, BUILDER, 3, builder) != Py_False)
-        return false;
-    PyObject *packet = got(state, BUILDER, 0, builder), *size = got(state, BUILDER, 1, builder);
-    if (!packet || !PyByteArray_CheckExact(packet) || !size || !PyLong_CheckExact(size))
-        return false;
-    to->packet = (uint8_t *)PyByteArray_AsString(packet);
-    to->room = (size_t)PyByteArray_Size(packet);
-    to->size = to->start = PyLong_AsSize_t(size);
-    return true;
-}
-
-/* True, after what was written is kept: False where a call returned something else than DCSCTP_OK. */
-static PyObject *kept(const struct state *state, PyObject *builder, const struct to *to, bool is_written)
-{
-    if (!is_written)
-        return Py_NewRef(Py_False);
-    PyObject *size = PyLong_FromSize_t(to->size);
-    if (!size || state->set(state->slots[BUILDER][1], builder, size) < 0 || state->set(state->slots[BUILDER][2], builder, Py_None) < 0) {
-        Py_XDECREF(size);
+    if (!has_count(count, 6))
         return NULL;
-    }
-    Py_DECREF(size);
-    return Py_NewRef(Py_True);
+    const size_t at = PyLong_AsSize_t(arguments[1]);
+    const long level = PyLong_AsLong(arguments[2]);
+    const Py_ssize_t most = PyLong_AsSsize_t(arguments[4]), base = arguments[5] == Py_None ? NOWHERE : PyLong_AsSsize_t(arguments[5]);
+    PyObject *data = PyErr_Occurred() ? NULL : bytes_of(arguments[0], &bytes), *list = NULL;
+    bytes.base = base;
+    if (data && (level == CHUNK || level == PARAMETER || level == CAUSE))
+        list = parts_at(PyModule_GetState(module), &bytes, at, bytes.length, (enum level)level, arguments[3] == Py_True, most);
+    else if (data)
+        PyErr_Format(PyExc_ValueError, "it is no level: %ld", level);
+    Py_XDECREF(data);
+    return list;
 }
 
-/* The items of a tuple or a list, which borrows them. */
-static bool as_items(PyObject *object, size_t *count)
+static PyObject *fast_encoded(PyObject *module, PyObject *part)
 {
-    if (!object || !(PyTuple_CheckExact(object) || PyList_CheckExact(object)))
-        return false;
-    *count = (size_t)PySequence_Size(object);
-    return true;
-}
-
-static PyObject *item_of(PyObject *list, size_t index)
-{
-    return PyTuple_CheckExact(list) ? PyTuple_GetItem(list, (Py_ssize_t)index) : PyList_GetItem(list, (Py_ssize_t)index);
-}
-
-static bool as_block(const struct state *state, PyObject *object, struct dcsctp_gap_ack_block *block)
-{
-    uint32_t start, end;
-    if (!(Py_TYPE(object) == state->types[GAP_ACK_BLOCK] || PyTuple_CheckExact(object)) || PyTuple_Size(object) != 2
-        || !as_number(PyTuple_GetItem(object, 0), 0xFFFF, &start) || !as_number(PyTuple_GetItem(object, 1), 0xFFFF, &end))
-        return false;
-    *block = (struct dcsctp_gap_ack_block){.start = (uint16_t)start, .end = (uint16_t)end};
-    return true;
-}
-
-#define TO to->packet, to->room, &to->size
-#define SLOT(kind, slot) got(state, kind, slot, chunk)
-
-static bool add_sack(const struct state *state, struct to *to, PyObject *chunk)
-{
-    PyObject *blocks = SLOT(SACK, 3), *duplicates = SLOT(SACK, 4);
-    size_t block_count, duplicate_count, i = 0, j = 0;
-    uint32_t tsn, a_rwnd;
-    if (!as_number(SLOT(SACK, 1), 0xFFFFFFFF, &tsn) || !as_number(SLOT(SACK, 2), 0xFFFFFFFF, &a_rwnd) || !as_items(blocks, &block_count)
-        || !as_items(duplicates, &duplicate_count) || block_count + duplicate_count > to->room / 4)
-        return false;
-    struct dcsctp_gap_ack_block few_pairs[32], *pairs = block_count <= 32 ? few_pairs : PyMem_Malloc(to->room);
-    uint32_t few[32], *numbers = duplicate_count <= 32 ? few : PyMem_Malloc(to->room);
-    while (pairs && i < block_count && as_block(state, item_of(blocks, i), &pairs[i]))
-        i++;
-    while (numbers && j < duplicate_count && as_number(item_of(duplicates, j), 0xFFFFFFFF, &numbers[j]))
-        j++;
-    bool is_written = pairs && numbers && i == block_count && j == duplicate_count
-                      && dcsctp_add_sack(TO, tsn, a_rwnd, pairs, i, numbers, j) == DCSCTP_OK;
-    if (pairs != few_pairs)
-        PyMem_Free(pairs);
-    if (numbers != few)
-        PyMem_Free(numbers);
-    return is_written;
-}
-
-static bool add_data(const struct state *state, struct to *to, PyObject *chunk, enum kind kind)
-{
-    struct dcsctp_data data = {0};
-    struct bytes payload;
-    uint32_t stream, ssn = 0;
-    bool *bits[] = {&data.is_unordered, &data.is_beginning, &data.is_end, &data.immediate_ack};
-    for (int i = 0; i < 4; i++) {
-        PyObject *bit = SLOT(kind, 1 + i);
-        if (bit != Py_True && bit != Py_False)
-            return false;
-        *bits[i] = bit == Py_True;
-    }
-    if (!as_number(SLOT(kind, 5), 0xFFFFFFFF, &data.tsn) || !as_number(SLOT(kind, 6), 0xFFFF, &stream)
-        || !as_number(SLOT(kind, 8), 0xFFFFFFFF, &data.ppid) || !as_bytes(SLOT(kind, 9), &payload)
-        || !(kind == DATA ? as_number(SLOT(kind, 7), 0xFFFF, &ssn)
-                          : as_number(SLOT(kind, 7), 0xFFFFFFFF, &data.mid) && as_number(SLOT(kind, 10), 0xFFFFFFFF, &data.fsn)))
-        return false;
-    data.stream = (uint16_t)stream;
-    data.ssn = (uint16_t)ssn;
-    return (kind == DATA ? dcsctp_add_data : dcsctp_add_i_data)(TO, &data, payload.at, payload.length) == DCSCTP_OK;
-}
-
-static bool add_parameter(const struct state *state, struct to *to, PyObject *chunk)
-{
-    const PyTypeObject *type = Py_TYPE(chunk);
-    struct bytes value;
-    uint32_t number;
-#define OF(kind, number, slot)                                                                                         \
-    if (type == state->types[kind])                                                                                    \
-        return as_bytes(SLOT(kind, slot), &value)                                                                      \
-               && dcsctp_add_parameter(TO, to->start, (uint16_t)(number), value.at, value.length) == DCSCTP_OK;
-    OF(HEARTBEAT_INFO, DCSCTP_PARAMETER_HEARTBEAT_INFO, 1)
-    OF(STATE_COOKIE, DCSCTP_PARAMETER_STATE_COOKIE, 1)
-    OF(SUPPORTED_EXTENSIONS, DCSCTP_PARAMETER_SUPPORTED_EXTENSIONS, 1)
-    if (type == state->types[RAW_PARAMETER] && !as_number(SLOT(RAW_PARAMETER, 1), 0xFFFF, &number))
-        return false;
-    OF(RAW_PARAMETER, number, 2)
-#undef OF
-    if (type == state->types[FORWARD_TSN_SUPPORTED])
-        return dcsctp_add_parameter(TO, to->start, DCSCTP_PARAMETER_FORWARD_TSN_SUPPORTED, NULL, 0) == DCSCTP_OK;
-    return type == state->types[ZERO_CHECKSUM_ACCEPTABLE] && as_number(SLOT(ZERO_CHECKSUM_ACCEPTABLE, 1), 0xFFFFFFFF, &number)
-           && dcsctp_add_number(TO, to->start, DCSCTP_PARAMETER_ZERO_CHECKSUM_ACCEPTABLE, number) == DCSCTP_OK;
-}
-
-static bool add_parameters(const struct state *state, struct to *to, PyObject *list)
-{
-    size_t count, i = 0;
-    if (!as_items(list, &count))
-        return false;
-    while (i < count && add_parameter(state, to, item_of(list, i)))
-        i++;
-    return i == count;
-}
-
-static bool add_init(const struct state *state, struct to *to, PyObject *chunk, enum kind kind)
-{
-    struct dcsctp_init init;
-    uint32_t outbound, inbound;
-    if (!as_number(SLOT(kind, 1), 0xFFFFFFFF, &init.initiate_tag) || !as_number(SLOT(kind, 2), 0xFFFFFFFF, &init.a_rwnd)
-        || !as_number(SLOT(kind, 3), 0xFFFF, &outbound) || !as_number(SLOT(kind, 4), 0xFFFF, &inbound)
-        || !as_number(SLOT(kind, 5), 0xFFFFFFFF, &init.initial_tsn))
-        return false;
-    init.outbound_streams = (uint16_t)outbound;
-    init.inbound_streams = (uint16_t)inbound;
-    return (kind == INIT ? dcsctp_add_init : dcsctp_add_init_ack)(TO, &init) == DCSCTP_OK
-           && add_parameters(state, to, SLOT(kind, 6));
-}
-
-static bool add_chunk(const struct state *state, struct to *to, PyObject *chunk)
-{
-    const PyTypeObject *type = Py_TYPE(chunk);
-    struct bytes value;
-    uint32_t number, flags;
-#define IS(kind) (type == state->types[kind])
-    if (IS(DATA))
-        return add_data(state, to, chunk, DATA);
-    if (IS(I_DATA))
-        return add_data(state, to, chunk, I_DATA);
-    if (IS(SACK))
-        return add_sack(state, to, chunk);
-    if (IS(INIT))
-        return add_init(state, to, chunk, INIT);
-    if (IS(INIT_ACK))
-        return add_init(state, to, chunk, INIT_ACK);
-    if (IS(COOKIE_ECHO))
-        return as_bytes(SLOT(COOKIE_ECHO, 1), &value) && dcsctp_add_cookie_echo(TO, value.at, value.length) == DCSCTP_OK;
-    if (IS(COOKIE_ACK))
-        return dcsctp_add_cookie_ack(TO) == DCSCTP_OK;
-    if (IS(HEARTBEAT) || IS(HEARTBEAT_ACK))
-        return dcsctp_add_chunk(TO, IS(HEARTBEAT) ? DCSCTP_CHUNK_HEARTBEAT : DCSCTP_CHUNK_HEARTBEAT_ACK, 0, NULL, 0) == DCSCTP_OK
-               && add_parameters(state, to, SLOT(HEARTBEAT, 1));
-    if (IS(SHUTDOWN))
-        return as_number(SLOT(SHUTDOWN, 1), 0xFFFFFFFF, &number) && dcsctp_add_shutdown(TO, number) == DCSCTP_OK;
-    return IS(RAW_CHUNK) && as_number(SLOT(RAW_CHUNK, 1), 0xFF, &number) && as_number(SLOT(RAW_CHUNK, 2), 0xFF, &flags)
-           && as_bytes(SLOT(RAW_CHUNK, 3), &value)
-           && dcsctp_add_chunk(TO, (uint8_t)number, (uint8_t)flags, value.at, value.length) == DCSCTP_OK;
-#undef IS
-}
-
-PyDoc_STRVAR(add_doc, "add(builder, chunk, /) -> whether the chunk is added; if not, nothing is changed");
-static PyObject *fast_add(PyObject *module, PyObject *const *arguments, Py_ssize_t count)
-{
-    const struct state *state = PyModule_GetState(module);
-    struct to to;
-    if (count != 2)
-        return PyErr_Format(PyExc_TypeError, "add takes 2 arguments");
-    return kept(state, arguments[0], &to, as_to(state, arguments[0], &to) && add_chunk(state, &to, arguments[1]));
-}
-
-PyDoc_STRVAR(begin_doc, "begin(builder, source_port, destination_port, verification_tag, /) -> whether a packet is begun");
-static PyObject *fast_begin(PyObject *module, PyObject *const *arguments, Py_ssize_t count)
-{
-    const struct state *state = PyModule_GetState(module);
-    struct to to;
-    uint32_t source, destination, tag;
-    if (count != 4)
-        return PyErr_Format(PyExc_TypeError, "begin takes 4 arguments");
-    return kept(state, arguments[0], &to,
-                as_to(state, arguments[0], &to) && as_number(arguments[1], 0xFFFF, &source) && as_number(arguments[2], 0xFFFF, &destination)
-                    && as_number(arguments[3], 0xFFFFFFFF, &tag)
-                    && dcsctp_begin(to.packet, to.room, &to.size, (uint16_t)source, (uint16_t)destination, tag) == DCSCTP_OK);
-}
-
-PyDoc_STRVAR(sealed_doc, "sealed(builder, /) -> the packet with its CRC32c; or None");
-static PyObject *fast_sealed(PyObject *module, PyObject *builder)
-{
-    struct to to;
-    if (!as_to(PyModule_GetState(module), builder, &to))
-        return Py_NewRef(Py_None);
-    /* (it is nobody's yet, and so may be written) */
-    PyObject *packet = PyBytes_FromStringAndSize((const char *)to.packet, (Py_ssize_t)to.size);
-    if (packet)
-        dcsctp_seal((uint8_t *)PyBytes_AsString(packet), to.size);
-    return packet;
+    const struct state *const state = PyModule_GetState(module);
+    struct out out;
+    enum level level = CHUNK;
+    while (level < CAUSE && class_of(state, part, level) < 0)
+        level++;
+    const bool is_put = put_part(begun(&out, state), part, level);
+    PyObject *data = is_put ? PyBytes_FromStringAndSize((const char *)out.at, (Py_ssize_t)out.size) : NULL;
+    ended(&out, is_put);
+    return data;
 }
 
 /* ---- the module */
 
-PyDoc_STRVAR(prepare_doc, "prepare(read, chunk_at, builder, values, /): is told of the functions of _reading.py that read by ctypes, of what a PacketBuilder is, and of _values.py");
+/* Is told of the classes and functions by their names, and of what writes by field. */
 static PyObject *fast_prepare(PyObject *module, PyObject *const *arguments, Py_ssize_t count)
 {
-    struct state *state = PyModule_GetState(module);
-    if (count != 4 || state->read)
-        return PyErr_Format(PyExc_TypeError, "prepare takes 4 arguments, once");
+    struct state *const state = PyModule_GetState(module);
+    if (!has_count(count, 2) || state->encoded)
+        return PyErr_Occurred() ? NULL : PyErr_Format(PyExc_TypeError, "it is prepared");
     for (int kind = 0; kind < KINDS; kind++) {
-        PyObject *class = kind == BUILDER ? Py_NewRef(arguments[2]) : PyObject_GetAttrString(arguments[3], CLASSES[kind].name);
+        PyObject *const class = PyMapping_GetItemString(arguments[0], LAYOUTS[kind].name);
+        const struct step *const steps = LAYOUTS[kind].steps;
+        state->types[kind] = (PyTypeObject *)class;
         if (!class)
             return NULL;
-        state->types[kind] = (PyTypeObject *)class;
-        for (int i = 0; CLASSES[kind].slots[i]; i++) {
-            PyObject *slot = state->slots[kind][i] = PyObject_GetAttrString(class, CLASSES[kind].slots[i]);
-            if (!slot)
+        if (!(state->offsets[kind] = PyObject_GetAttrString(class, "offset")))
+            PyErr_Clear();
+        for (int i = 0; steps[i].what; i++)
+            if (*steps[i].name && !(state->slots[kind][i] = PyObject_GetAttrString(class, steps[i].name)))
                 return NULL;
-            state->get = (descrgetfunc)PyType_GetSlot(Py_TYPE(slot), Py_tp_descr_get);
-            state->set = (descrsetfunc)PyType_GetSlot(Py_TYPE(slot), Py_tp_descr_set);
-        }
     }
-    state->chunk_at = Py_NewRef(arguments[1]);
-    state->read = Py_NewRef(arguments[0]);
-    return Py_NewRef(Py_None);
+    PyTypeObject *const of_slot = Py_TYPE(state->offsets[0]);
+    state->get = (descrgetfunc)PyType_GetSlot(of_slot, Py_tp_descr_get);
+    state->set = (descrsetfunc)PyType_GetSlot(of_slot, Py_tp_descr_set);
+    PyObject *results = PyMapping_GetItemString(arguments[0], "ReConfigResult");
+    for (int i = 0; results && i < RESULTS; i++)
+        if (!(state->results[i] = PyObject_CallFunction(results, "i", i)))
+            return NULL;
+    state->error_of = PyMapping_GetItemString(arguments[0], "error_of");
+    state->policy = PyMapping_GetItemString(arguments[0], "DEFAULT");
+    state->encoded = Py_NewRef(arguments[1]);
+    return PyErr_Occurred() ? NULL : Py_NewRef(Py_None);
 }
 
 static PyMethodDef FUNCTIONS[] = {
-    {"prepare", (PyCFunction)(void (*)(void))fast_prepare, METH_FASTCALL, prepare_doc},
-    {"read", (PyCFunction)(void (*)(void))fast_read, METH_FASTCALL, read_doc},
-    {"chunks", fast_chunks, METH_O, chunks_doc},
-    {"header", fast_header, METH_O, header_doc},
-    {"begin", (PyCFunction)(void (*)(void))fast_begin, METH_FASTCALL, begin_doc},
-    {"add", (PyCFunction)(void (*)(void))fast_add, METH_FASTCALL, add_doc},
-    {"sealed", fast_sealed, METH_O, sealed_doc},
+    METHOD("prepare", fast_prepare, METH_FASTCALL, NULL),
+    METHOD("read", fast_read, METH_FASTCALL, NULL),
+    METHOD("needs_checksum", fast_needs_checksum, METH_O, NULL),
+    METHOD("header", fast_header, METH_O, NULL),
+    METHOD("chunks", fast_chunks, METH_O, NULL),
+    METHOD("parts", fast_parts, METH_FASTCALL, NULL),
+    METHOD("encoded", fast_encoded, METH_O, NULL),
     {NULL, NULL, 0, NULL},
 };
 
-static PyModuleDef_Slot SLOTS[] = {{0, NULL}};
+static int fast_exec(PyObject *module)
+{
+    PyObject *builder = PyType_FromModuleAndSpec(module, &BUILDER, NULL);
+    const int failed = !builder || PyModule_AddObjectRef(module, "Builder", builder) < 0 || PyModule_AddIntMacro(module, CHUNK) < 0
+                       || PyModule_AddIntMacro(module, PARAMETER) < 0 || PyModule_AddIntMacro(module, CAUSE) < 0;
+    Py_XDECREF(builder);
+    return failed ? -1 : 0;
+}
+
+static PyModuleDef_Slot SLOTS[] = {{Py_mod_exec, fast_exec}, {0, NULL}};
 static struct PyModuleDef MODULE = {
     PyModuleDef_HEAD_INIT, .m_name = "_fast", .m_size = sizeof(struct state), .m_methods = FUNCTIONS, .m_slots = SLOTS};
 

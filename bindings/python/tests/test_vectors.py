@@ -1,0 +1,256 @@
+# SPDX-License-Identifier: Apache-2.0
+"""What registry/vectors says of bytes is what the package reads of them, and writes; VECTORS names a further file of kinds."""
+
+import json
+import os
+import random
+import typing
+import unittest
+from collections.abc import Callable, Iterator
+from dataclasses import fields
+from ipaddress import IPv4Address, IPv6Address, ip_address
+from typing import Any
+
+import davgyuti
+from davgyuti import Answer, Header, InitFault, PacketBuilder, Policy, Result, _kinds, registered
+from support import ANY_CHECKSUM, VECTORS
+
+HEADER = bytes.fromhex("138813890102030400000000")
+STRICT = Policy(any_checksum=True, strict_padding=True)
+RAW: dict[str, Any] = {"chunks": davgyuti.RawChunk, "parameters": davgyuti.RawParameter, "causes": davgyuti.RawCause}
+
+
+def lines(path: str) -> Iterator[dict[str, Any]]:
+    with open(path, encoding="ascii") as file:
+        yield from map(json.loads, file)
+
+
+def number_of(kind: Any) -> Any:
+    """The type of a class, or its code."""
+    return getattr(kind, "type", getattr(kind, "code", None))
+
+
+CLASSES = {
+    (level, number_of(it).name): it
+    for level, base in (("chunks", "ChunkPart"), ("parameters", "ParameterPart"), ("causes", "CausePart"))
+    for it in vars(_kinds).values()
+    if isinstance(it, type) and issubclass(it, getattr(_kinds, base)) and isinstance(number_of(it), int) and not hasattr(it, "fields")
+}
+HINTS = {it: typing.get_type_hints(it) for it in CLASSES.values()}
+
+
+def own(it: Any) -> dict[str, Any]:
+    """The fields of a kind, and their values."""
+    return {field.name: getattr(it, field.name) for field in fields(it) if field.name != "offset"}
+
+
+def made(level: str, said: dict[str, Any]) -> Any:
+    """The value that is said of a chunk, a parameter or an error cause."""
+    if "kind" not in said:
+        return RAW[level](**{name: bytes.fromhex(it) if name == "value" else it for name, it in said.items()})
+    kind = CLASSES[level, said["kind"]]
+    return kind(**{name: field(name, it, HINTS[kind][name]) for name, it in said.items() if name != "kind"})
+
+
+def field(name: str, said: Any, hint: Any) -> Any:
+    if isinstance(said, str):
+        return bytes.fromhex(said)
+    if isinstance(said, list):
+        return tuple(made(name, it) if name in RAW else field(name, it, typing.get_args(hint)[0]) for it in said)
+    if isinstance(said, dict):
+        return (hint if isinstance(hint, type) else typing.get_args(hint)[0])(**said)
+    return said
+
+
+def by_method(builder: PacketBuilder, chunk: Any) -> None:
+    """Writes a chunk by the builder's method for it, and its list one by one."""
+    given = own(chunk)
+    items = given.pop("parameters", given.pop("causes", ()))
+    is_raw = isinstance(chunk, davgyuti.RawChunk | davgyuti.Heartbeat | davgyuti.HeartbeatAck)
+    writer = builder.chunk(**{"type": chunk.type, **given}) if is_raw else getattr(builder, chunk.type.name.lower())(**given)
+    for it in items:
+        writer.parameter(it) if hasattr(it, "type") else writer.cause(it)
+
+
+def offsets(chunk: Any) -> list[int | None]:
+    return [chunk.offset, *(it.offset for it in getattr(chunk, "parameters", getattr(chunk, "causes", ())))]
+
+
+class Kinds(unittest.TestCase):
+    maxDiff = None
+
+    def test_kinds(self) -> None:
+        found = set()
+        for path in (os.path.join(VECTORS, "kinds.jsonl"), *filter(None, [os.environ.get("VECTORS")])):
+            for it in lines(path):
+                data = HEADER + bytes.fromhex(it["bytes"])
+                self.fault(data, ANY_CHECKSUM, it.get("fault"))
+                if "chunks" in it:
+                    self.fault(data, STRICT, it.get("strict"))
+                    self.packet(data, tuple(made("chunks", chunk) for chunk in it["chunks"]), it.get("written", it["bytes"]))
+                    found |= {part["kind"] for chunk in it["chunks"] for part in self.parts(chunk) if "kind" in part}
+                else:
+                    # (all that is whole is read of it, and nothing raises)
+                    [*davgyuti.chunks(data)], [*davgyuti.raw_items(data)]
+        self.assertEqual(found, {name for _, name in CLASSES})
+
+    def test_sizes(self) -> None:
+        """A value is of its kind where a check accepts it there; but a list may end too early."""
+        for (level, _), kind in CLASSES.items():
+            for size in range(41):
+                for value in (bytes(size), random.Random(size).randbytes(size), (max(0, size - 4) // 2).to_bytes(4, "big") + bytes(36)):
+                    number = number_of(kind).to_bytes(1 if level == "chunks" else 2, "big") + bytes(level == "chunks")
+                    data = number + (4 + size).to_bytes(2, "big") + value[:size]
+                    if level != "chunks":
+                        data = (b"\x82\0" if level == "parameters" else b"\x09\0") + (4 + len(data)).to_bytes(2, "big") + data
+                    (part,) = davgyuti.chunks(HEADER + data)
+                    if level != "chunks":
+                        (part,) = getattr(part, level)
+                    is_kind = davgyuti.first_fault(HEADER + data, ANY_CHECKSUM) is None
+                    if is_kind or size < 16 or not {"parameters", "causes"} & {it.name for it in fields(kind)}:
+                        is_list = size and {"parameters", "causes"} & {it.name for it in fields(part)}
+                        self.assertTrue(isinstance(part, kind) == is_kind or is_list, (kind, size))
+
+    def parts(self, chunk: dict[str, Any]) -> list[dict[str, Any]]:
+        return [chunk, *chunk.get("parameters", chunk.get("causes", []))]
+
+    def fault(self, data: bytes, policy: Policy, said: tuple[str, int] | None) -> None:
+        found = davgyuti.first_fault(data, policy)
+        wanted = davgyuti.Fault(Result[f"FAULT_{said[0].upper()}"], said[1]) if said else None
+        self.assertEqual(found, wanted, data.hex())
+
+    def packet(self, data: bytes, chunks: tuple[Any, ...], written: str) -> None:
+        packet, text = davgyuti.Packet(data, ANY_CHECKSUM), data.hex()
+        found = packet.chunks()
+        self.assertEqual(found, chunks, text)
+        # (of the same classes, too: a bool isn't a number)
+        self.assertEqual(repr(found), repr(tuple(davgyuti.chunks(data))), text)
+        self.assertEqual([*map(offsets, found)], [*map(offsets, davgyuti.chunks(data))], text)
+        builder, other = PacketBuilder(5000, 5001, 0x01020304), PacketBuilder(5000, 5001, 0x01020304)
+        for chunk, (raw, items) in zip(found, packet.raw_items(), strict=True):
+            builder.add(chunk)
+            by_method(other, chunk)
+            self.assertEqual(davgyuti.read_chunk(bytes(chunk)), chunk, text)
+            self.assertEqual((chunk.offset, chunk.type), (raw.offset, raw.type))
+            self.assertEqual(bytes(raw), data[raw.offset : raw.offset + 4 + len(raw.value)])
+            for part, item in zip(getattr(chunk, "parameters", getattr(chunk, "causes", ())), items, strict=True):
+                again = (davgyuti.parameter if hasattr(part, "type") else davgyuti.cause)(item.type, item.value)
+                self.assertEqual((again, again.offset, item.offset), (part, None, part.offset), text)
+                self.assertEqual(data[part.offset : part.offset + 2], bytes(part)[:2])
+        self.assertEqual(bytes(builder)[12:].hex(), written, text)
+        self.assertEqual(bytes(other), bytes(builder), text)
+        self.assertEqual(davgyuti.Packet(builder.seal()).chunks(), found, text)
+
+
+def of_field(name: str, said: Any) -> Any:
+    """The value that is said of a field of what the library keeps as bytes."""
+    if name in RAW:
+        return tuple(made(name, it) for it in said)
+    if name == "address":
+        return ip_address(bytes.fromhex(said))
+    return bytes.fromhex(said) if isinstance(said, str) else tuple(said) if isinstance(said, list) else said
+
+
+def said_of(it: Any) -> Any:
+    if isinstance(it, IPv4Address | IPv6Address):
+        return it.packed.hex()
+    if isinstance(it, tuple):
+        return [said_of(part) for part in it]
+    if hasattr(it, "offset"):
+        return {"type" if hasattr(it, "type") else "code": number_of(it), "value": it.value.hex()}
+    return it.hex() if isinstance(it, bytes) else it
+
+
+class Registered(unittest.TestCase):
+    KINDS: dict[str, Any] = {"chunk": registered.CHUNKS, "parameter": registered.PARAMETERS, "cause": registered.CAUSES}
+
+    def test_registered(self) -> None:
+        found = set()
+        for it in lines(os.path.join(VECTORS, "registered.jsonl")):
+            with self.subTest(it):
+                level, kind = it["level"], self.KINDS[it["level"]].get(it["type"])
+                values = {name: of_field(name, said) for name, said in (it["fields"] or {}).items()}
+                if "refused" in it:
+                    self.assertRaises(davgyuti.BadValue, bytes, kind(**values))
+                    continue
+                raw, value = RAW[level + "s"](it["type"]), bytes.fromhex(it["value"])
+                raw.value, raw.offset = value, 4
+                by_fields = raw.registered()
+                if it["fields"] is None:
+                    self.assertIsNone(by_fields)
+                    continue
+                found.add(kind)
+                self.assertEqual((type(by_fields), by_fields.offset), (kind, 4))
+                self.assertEqual({name: said_of(part) for name, part in own(by_fields).items()}, it["fields"])
+                items = getattr(by_fields, "parameters", getattr(by_fields, "causes", ()))
+                for part in items:
+                    self.assertEqual(value[part.offset - 8 : part.offset - 6], bytes(part)[:2])
+                written = bytes.fromhex(it.get("written", it["value"]))
+                self.assertEqual((by_fields.value, kind(**values).value), (written, written))
+        self.assertEqual(found, {kind for kinds in self.KINDS.values() for kind in kinds.values()})
+
+
+def init_of(it: dict[str, Any]) -> Any:
+    return davgyuti.Packet(bytes.fromhex(it["packet"]), ANY_CHECKSUM).chunks()[0]
+
+
+def header_of(it: dict[str, Any]) -> Header:
+    return Header(**it["header"], checksum=77)
+
+
+def added(it: dict[str, Any]) -> tuple[str, int | None]:
+    """What is added, and the offset at which the program stops."""
+    builder, numbers = PacketBuilder(5000, 5001, 0x01020304), dict.fromkeys(own(davgyuti.Init(0, 0, 0, 0, 0)), 0)
+    if it["call"] == "add_unrecognized_chunks":
+        stop = builder.unrecognized_chunks(bytes.fromhex(it["packet"]), it["known"])
+        return bytes(builder)[12:].hex(), stop
+    init = init_of(it)
+    if it["call"] == "add_new_addresses":
+        builder.abort().new_addresses(init, bytes.fromhex(it["known"]))
+        return bytes(builder)[12:].hex(), None
+    if it["call"] == "add_unrecognized_parameters":
+        del numbers["parameters"]
+        stop = builder.init_ack(**numbers).unrecognized_parameters(init, it["known"])
+    else:
+        stop = builder.unrecognized_parameters_error(init, it["known"])
+    offset = None if stop is None else init.parameters[stop].offset - init.parameters[0].offset
+    return bytes(builder)[12:].hex(), offset
+
+
+CALLS: dict[str, Callable[[Any], Any]] = {
+    "unrecognized_chunk": lambda it: davgyuti.unrecognized_chunk(it["type"]).name,
+    "unrecognized_parameter": lambda it: davgyuti.unrecognized_parameter(it["type"]).name,
+    "verify_tag": lambda it: davgyuti.verify_tag(
+        bytes.fromhex(it["packet"]), it["own_tag"], it["peer_tag"], awaits_cookie=it["awaits_cookie"]
+    ).name,
+    "out_of_the_blue": lambda it: davgyuti.out_of_the_blue(bytes.fromhex(it["packet"]), is_unicast=it["is_unicast"]).name,
+    "reply": lambda it: davgyuti.reply(header_of(it), Answer[it["answer"]]).hex(),
+    "init_fault": lambda it: davgyuti.init_fault(bytes.fromhex(it["packet"]), is_ack=it["is_ack"]).name,
+    "init_refusal": lambda it: davgyuti.init_refusal(
+        InitFault[it["fault"]], is_ack=it["is_ack"], in_cookie_wait=it["in_cookie_wait"]
+    ).name,
+    "init_abort": lambda it: davgyuti.init_abort(header_of(it), it["initiate_tag"], InitFault[it["fault"]]).hex(),
+    "adds_addresses": lambda it: davgyuti.adds_addresses(init_of(it), bytes.fromhex(it["known"])),
+    "broken_rules": lambda it: [
+        rule.name
+        for rule in davgyuti.broken_rules(
+            bytes.fromhex(it["packet"]), **{name: it[name] for name in ("refuses_zero", "has_data", "has_i_data")}
+        )
+    ],
+}
+
+
+class Calls(unittest.TestCase):
+    def test_calls(self) -> None:
+        for it in lines(os.path.join(VECTORS, "calls.jsonl")):
+            with self.subTest(it):
+                if it["call"] not in CALLS:
+                    self.assertEqual(added(it), (it["returns"], it.get("end")))
+                elif it["returns"] is None:
+                    self.assertRaises(davgyuti.BadValue, CALLS[it["call"]], it)
+                else:
+                    self.assertEqual(CALLS[it["call"]](it), it["returns"])
+
+
+if __name__ == "__main__":
+    unittest.main()
