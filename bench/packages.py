@@ -215,7 +215,7 @@ def rust_program():
     cargo = needed('cargo', (1, 85))
     os.makedirs(folder, exist_ok=True)
     with open(os.path.join(folder, 'Cargo.toml'), 'w', encoding='utf-8') as file:
-        file.write(CARGO % (os.path.join(BENCH, 'plain.rs'), ROOT))
+        file.write(CARGO % (os.path.join(BENCH, 'plain.rs'), os.path.join(ROOT, 'bindings/rust')))
     target = os.path.join(folder, 'target')
     run(cargo, 'build', '--release', '--offline', '--quiet', cwd=folder, env={**os.environ, 'CARGO_TARGET_DIR': target})
     return [os.path.join(target, 'release', 'plain')], {}, 'rustc ' + run('rustc', '--version').split()[1]

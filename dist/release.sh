@@ -72,8 +72,8 @@ pack() {
 make_archive() {
     mkdir "$work/$folder"
     {
-        git ls-files -coz --exclude-standard -- '*.md' ':(glob)*.toml' LICENSE NOTICE bindings ':(glob)crates/test_callers/src/*.rt' dist docs \
-            tests/dump/data examples include ':!dist/*.py' ':!dist/*.sh'
+        git ls-files -coz --exclude-standard -- '*.md' LICENSE NOTICE bindings ':(glob)crates/test_callers/src/*.rt' dist docs \
+            tests/dump/data examples include ':(glob)registry/vectors/*.jsonl' ':!dist/*.py' ':!dist/*.sh'
         git ls-files -z dist/texts.py
     } | xargs -0 cp -P --parents -t "$work/$folder"
     mv "$work/$folder/dist/debian" "$work/$folder/"
@@ -117,7 +117,8 @@ make_archive
 mkdir "$work/user"
 tar -xzf "$to/$folder.tar.gz" -C "$work/user"
 user=$work/user/$folder
-(cd "$user" && CARGO_TARGET_DIR=$work/target cargo package --quiet --offline)
+dist/crate.sh "$work/crate" "$user"
+(cd "$work/crate" && CARGO_TARGET_DIR=$work/target cargo package --quiet --offline --allow-dirty)
 cp "$work/target/package/davgyuti-$version.crate" "$to/"
 (cd "$user/bindings/python" && PYTHONDONTWRITEBYTECODE=1 python3 -c 'import backend, sys
 backend.build_sdist(sys.argv[1])

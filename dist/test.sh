@@ -52,7 +52,8 @@ enter() {
     work=$all/$1
     dist=$work/sources/dist bindings=$work/sources/bindings elf=$work/sources/dist/dcsctp-x86_64-elf.s
     mkdir -p "$work/sources/include"
-    cp -r "$from/bindings" "$examples" "$from"/{Cargo.toml,clippy.toml,LICENSE,NOTICE} "$work/sources/"
+    cp -r "$from/bindings" "$examples" "$from"/{LICENSE,NOTICE} "$work/sources/"
+    mkdir "$work/sources/registry" && cp -r "$from/registry/vectors" "$work/sources/registry/"
     if [ -d "$all/first" ] && [ "$1" != first ]; then
         # (nothing writes into these)
         cp -rl "$all/first/sources/dist" "$work/sources/"
@@ -142,7 +143,7 @@ sums() {
 one_version() {
     local version
     version=$(sed -n 's/^#define DCSCTP_VERSION "\(.*\)"$/\1/p' "$dist/dcsctp.h")
-    grep "^# dcsctp $version;" "$dist/MANIFEST" && grep -x "version = \"$version\"" "$work/sources/Cargo.toml"
+    grep "^# dcsctp $version;" "$dist/MANIFEST" && grep -x "version = \"$version\"" "$bindings/rust/Cargo.toml"
 }
 
 # The program of docs/C.md: to an INIT it prints the answer that `show` prints.
@@ -544,8 +545,9 @@ fuzz() {
 
 # What is published builds by itself, and holds each text. Then it lies unpacked in vendor/, as `cargo vendor` would put it.
 cargo_package() {
-    (cd "$work/sources" && CARGO_TARGET_DIR=$work/target cargo package --offline --allow-dirty &&
-        cargo package --list --allow-dirty >"$work/packaged") || return
+    rm -rf crate && "$root/dist/crate.sh" "$work/crate" "$work/sources" &&
+        (cd crate && CARGO_TARGET_DIR=$work/target cargo package --offline --allow-dirty &&
+            cargo package --list --allow-dirty >"$work/packaged") || return
     diff <(cd "$work/sources" && ls dist/dcsctp-*.s) <(grep '^dist/.*[.]s$' packaged) && rm -rf vendor && mkdir vendor &&
         tar -xzf target/package/davgyuti-*.crate -C vendor && mv vendor/davgyuti-* vendor/davgyuti &&
         echo '{"files": {}}' >vendor/davgyuti/.cargo-checksum.json
@@ -558,7 +560,7 @@ cargo_readme() {
         echo 'fn main() { assert_eq!(davgyuti::version_number(), 0x0100); }' >user/src/main.rs &&
         printf '[package]\nname = "user"\nedition = "2024"\n' >user/Cargo.toml &&
         printf '[source.%s]\n%s\n' crates-io 'replace-with = "vendor"' vendor "directory = '$work/vendor'" >user/.cargo/config.toml
-    grep -o '`cargo [^`]*`' vendor/davgyuti/bindings/rust/README.md | tr -d '`' >commands && [ "$(wc -l <commands)" -eq 3 ] || return
+    grep -o '`cargo [^`]*`' vendor/davgyuti/README.md | tr -d '`' >commands && [ "$(wc -l <commands)" -eq 3 ] || return
     export CARGO_TARGET_DIR=$work/target CARGO_NET_OFFLINE=true
     while read -r command; do
         case $command in
@@ -587,7 +589,7 @@ cargo_tests() {
 
 # Optimized as a whole, so that rustc puts its own code beside the text into one module.
 cargo_show() {
-    (cd "$work/sources" && CARGO_TARGET_DIR=$work/target CARGO_PROFILE_RELEASE_CODEGEN_UNITS=1 cargo build --offline \
+    (cd "$bindings/rust" && CARGO_TARGET_DIR=$work/target CARGO_PROFILE_RELEASE_CODEGEN_UNITS=1 cargo build --offline \
         --release --example show) &&
         all_of target/release/examples/show &&
         # Its objects, which have rustc's code too, aren't said to be fit for IBT.
@@ -611,7 +613,7 @@ name = "user"
 version = "0.1.0"
 edition = "2024"
 [dependencies]
-new = { package = "davgyuti", path = "$work/sources" }
+new = { package = "davgyuti", path = "$bindings/rust" }
 old = { package = "davgyuti", path = "old" }
 C
     ! (cd user && cargo generate-lockfile --offline) 2>refusal && grep 'Only one package in the dependency graph' refusal

@@ -98,7 +98,7 @@ def environment(work):
 
 def has(tool):
     if tool == 'cargo-1.85':
-        return bool(shutil.which('cargo')) and not subprocess.run(['cargo', 'read-manifest'], cwd=ROOT, capture_output=True).returncode
+        return bool(shutil.which('cargo')) and not subprocess.run(['cargo', 'read-manifest'], cwd=os.path.join(ROOT, 'bindings', 'rust'), capture_output=True).returncode
     return bool(importlib.util.find_spec('ensurepip') if tool == 'python3-venv' else shutil.which(tool))
 
 
@@ -135,7 +135,7 @@ def rust(lines, work, variables):
     folder = os.path.join(work, 'user', 'src')
     os.makedirs(folder)
     with open(os.path.join(work, 'user', 'Cargo.toml'), 'w', encoding='utf-8') as file:
-        file.write('[package]\nname = "user"\nversion = "0.1.0"\nedition = "2024"\n[dependencies]\ndavgyuti = { path = ".." }\n')
+        file.write('[package]\nname = "user"\nversion = "0.1.0"\nedition = "2024"\n[dependencies]\ndavgyuti = { path = "../bindings/rust" }\n')
     with open(os.path.join(folder, 'main.rs'), 'w', encoding='utf-8') as file:
         file.write('fn run(bytes: &[u8]) -> Result<(), davgyuti::Fault> {\n%s\nOk(())\n}\n' % '\n'.join(lines))
         file.write('fn main() {\nassert_eq!(run(&[0; 16]).unwrap_err().offset, 8);\n}\n')

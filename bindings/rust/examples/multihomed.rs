@@ -166,11 +166,11 @@ impl Host {
     ) -> Result<(), WriteError> {
         let parameters = Parameters::of(request.as_bytes());
         let (number, refusal) = match request.registered() {
-            Some(RegisteredParameter::AddIpAddress { request: number, address }) => {
+            Some(RegisteredParameter::AddIpAddress { correlation_id: number, address }) => {
                 self.peer.push(address);
                 (number, None)
             }
-            Some(RegisteredParameter::DeleteIpAddress { request: number, address }) => {
+            Some(RegisteredParameter::DeleteIpAddress { correlation_id: number, address }) => {
                 if self.peer.iter().all(|&it| it == address) {
                     let refusal = RegisteredCause::DeleteLastRemainingIpAddress { parameters };
                     (number, Some(refusal))
@@ -181,7 +181,7 @@ impl Host {
                     (number, None)
                 }
             }
-            Some(RegisteredParameter::SetPrimaryAddress { request: number, address })
+            Some(RegisteredParameter::SetPrimaryAddress { correlation_id: number, address })
                 if self.peer.contains(&address) =>
             {
                 self.peer.sort_by_key(|&it| it != address);
@@ -192,12 +192,13 @@ impl Host {
         let mut buffer = [0; 100];
         match refusal {
             None => {
-                let success = RegisteredParameter::SuccessIndication { request: number };
+                let success = RegisteredParameter::SuccessIndication { correlation_id: number };
                 ack.registered_parameter(&success)?;
             }
             Some(cause) => {
                 let causes = Causes::of(cause.write(&mut buffer)?.as_bytes());
-                let refused = RegisteredParameter::ErrorCauseIndication { request: number, causes };
+                let refused =
+                    RegisteredParameter::ErrorCauseIndication { correlation_id: number, causes };
                 ack.registered_parameter(&refused)?;
             }
         }

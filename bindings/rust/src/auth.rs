@@ -103,12 +103,6 @@ pub fn verify_auth(key: &[u8], bytes: &[u8]) -> bool {
 /// authenticate first, and [seal](crate::seal) the packet after this. [`verify_auth`] has an
 /// example.
 ///
-/// ```
-/// // A chunk that isn't AUTH.
-/// let signed = davgyuti::sign_auth(b"key", &mut [11, 0, 0, 4]);
-/// assert_eq!(signed, Err(davgyuti::WriteError::BadPlace));
-/// ```
-///
 /// # Errors
 /// [`WriteError::BadPlace`], and nothing changes, where [`verify_auth`] returns false whatever the
 /// HMAC is.
@@ -122,11 +116,6 @@ pub fn sign_auth(key: &[u8], bytes: &mut [u8]) -> Result<(), WriteError> {
 
 /// What a State Cookie says: what its sender needs to set up the association, and for how long (RFC
 /// 9260 section 5.1.3). *Local* is the end that seals and opens it. [`seal_cookie`] has an example.
-///
-/// ```
-/// let cookie = davgyuti::Cookie { lifespan: 60_000_000, ..Default::default() };
-/// # assert_eq!(cookie.addresses, b"");
-/// ```
 #[derive(Clone, Copy, Default, PartialEq, Eq, Hash, Debug)]
 pub struct Cookie<'a> {
     /// When it was sealed, in microseconds on your clock.
@@ -155,6 +144,22 @@ pub struct Cookie<'a> {
     pub addresses: &'a [u8],
 }
 
+/// What a cookie says, here or in C, with the numbers of the other.
+#[rustfmt::skip]
+macro_rules! same_numbers {
+    ($cookie:path, $other:expr, $($more:tt)*) => {{
+        let it = $other;
+        let (created, lifespan, local_tag, peer_tag) = (it.created, it.lifespan, it.local_tag, it.peer_tag);
+        let (local_initial_tsn, peer_initial_tsn) = (it.local_initial_tsn, it.peer_initial_tsn);
+        let (local_port, peer_port) = (it.local_port, it.peer_port);
+        let (outbound_streams, inbound_streams) = (it.outbound_streams, it.inbound_streams);
+        $cookie {
+            created, lifespan, local_tag, peer_tag, local_initial_tsn, peer_initial_tsn, local_port, peer_port,
+            outbound_streams, inbound_streams, $($more)*
+        }
+    }};
+}
+
 /// Writes a State Cookie to the front of `output`, and returns it: 72 bytes, with an HMAC over what
 /// it says (RFC 9260 section 5.1.3), and the addresses. Let the key be 32 random bytes that nobody
 /// else knows.
@@ -180,19 +185,7 @@ pub fn seal_cookie<'a>(
     key: &[u8],
     cookie: &Cookie,
 ) -> Result<&'a mut [u8], WriteError> {
-    let says = ffi::Cookie {
-        created: cookie.created,
-        lifespan: cookie.lifespan,
-        local_tag: cookie.local_tag,
-        peer_tag: cookie.peer_tag,
-        local_initial_tsn: cookie.local_initial_tsn,
-        peer_initial_tsn: cookie.peer_initial_tsn,
-        local_port: cookie.local_port,
-        peer_port: cookie.peer_port,
-        outbound_streams: cookie.outbound_streams,
-        inbound_streams: cookie.inbound_streams,
-        ..ffi::Cookie::default()
-    };
+    let says = same_numbers!(ffi::Cookie, cookie, ..ffi::Cookie::default());
     let (front, room, mut size) = (output.as_mut_ptr(), output.len(), 0);
     // SAFETY: each pointer with a length is of a slice, and `size` and `says` are values here. The
     // output is borrowed mutably, so nothing overlaps it.
@@ -218,11 +211,6 @@ pub fn seal_cookie<'a>(
 /// That its ports and its local tag are those of the packet is for you to compare.
 /// [`seal_cookie`] has an example.
 ///
-/// ```
-/// let opened = davgyuti::open_cookie(b"key", b"no cookie", 0);
-/// assert_eq!(opened, Err(davgyuti::CookieError::Invalid));
-/// ```
-///
 /// # Errors
 /// [`CookieError::Stale`] of one that is no longer good, and [`CookieError::Invalid`] of all other
 /// bytes.
@@ -242,19 +230,10 @@ pub fn open_cookie<'a>(key: &[u8], bytes: &'a [u8], now: u64) -> Result<Cookie<'
         )
     };
     match state {
-        0 => Ok(Cookie {
-            created: says.created,
-            lifespan: says.lifespan,
-            local_tag: says.local_tag,
-            peer_tag: says.peer_tag,
-            local_initial_tsn: says.local_initial_tsn,
-            peer_initial_tsn: says.peer_initial_tsn,
-            local_port: says.local_port,
-            peer_port: says.peer_port,
-            outbound_streams: says.outbound_streams,
-            inbound_streams: says.inbound_streams,
-            addresses: &bytes[says.addresses_offset..][..says.addresses_size],
-        }),
+        0 => {
+            let addresses = &bytes[says.addresses_offset..][..says.addresses_size];
+            Ok(same_numbers!(Cookie, says, addresses))
+        }
         1 => Err(CookieError::Stale { staleness }),
         _ => Err(CookieError::Invalid),
     }

@@ -14,43 +14,49 @@ mod chunk;
 mod debug;
 mod error;
 mod ffi;
+mod items;
+mod kinds;
 mod list;
 #[cfg(feature = "alloc")]
 mod owned;
 mod packet;
 #[cfg(feature = "processor-crc32c")]
 pub mod processor;
+mod raw;
 mod receive;
 mod registered;
+mod returned;
 mod rule;
+mod rules;
 mod text;
 mod types;
 mod values;
+mod writes;
 
 pub use auth::{Cookie, is_listed, open_cookie, seal_cookie, shared_key, sign_auth, verify_auth};
 pub use builder::{ChunkBuilder, MAX_PACKET, PacketBuilder};
-pub use chunk::{
-    Chunk, Chunks, Content, DuplicateTsns, FIRST_CHUNK, ForwardTsn, GapAckBlocks, Sack,
-    SkippedStreams, TAG_REFLECTED,
-};
+pub use chunk::{Chunk, Chunks, FIRST_CHUNK};
 pub use error::{CookieError, Fault, FaultKind, OutputError, UnknownNumber, WriteError};
-pub use list::{
-    Cause, Causes, MissingParameters, Parameter, Parameters, ResetStreams, ShortNumbers,
+pub use items::{Cause, Causes, Parameter, Parameters};
+pub use kinds::{
+    Content, Data, DuplicateTsns, ForwardTsn, GapAckBlock, GapAckBlocks, Init, MissingParameters,
+    NextTsns, ReConfig, ReConfigResult, ResetStreams, Sack, SkippedStream, SkippedStreams,
+    TAG_REFLECTED,
 };
+pub use list::ShortNumbers;
 #[cfg(feature = "alloc")]
 pub use owned::OwnedChunk;
 pub use packet::{Packet, check, clean_blocks, first_fault, needs_checksum, seal, set_tag, word};
 pub use receive::{
-    Action, Answer, Association, InitFault, Refusal, TagVerdict, adds_addresses, init_fault,
-    init_refusal, out_of_the_blue, unrecognized_chunk, unrecognized_parameter, verify_tag,
+    Association, adds_addresses, init_fault, init_refusal, out_of_the_blue, unrecognized_chunk,
+    unrecognized_parameter, verify_tag,
 };
 pub use registered::{RegisteredCause, RegisteredChunk, RegisteredParameter};
-pub use rule::{Rule, Rules, broken_rules};
+pub use returned::{Action, Answer, InitFault, Refusal, TagVerdict};
+pub use rule::{Known, Rules, broken_rules};
+pub use rules::Rule;
 pub use types::{CauseCode, ChunkType, ParameterType};
-pub use values::{
-    Data, GapAckBlock, Header, Init, Known, NextTsns, Policy, ReConfig, ReConfigResult,
-    SkippedStream,
-};
+pub use values::{Header, Policy};
 
 /// The version of this crate, and of the library in it.
 pub const VERSION: &str = env!("CARGO_PKG_VERSION");

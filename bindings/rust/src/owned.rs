@@ -14,38 +14,16 @@ use core::fmt;
 /// [`PacketBuilder::copy`](crate::PacketBuilder::copy) writes it again.
 ///
 /// ```
-/// use davgyuti::{OwnedChunk, Packet, PacketBuilder};
-///
-/// /// Keeps the user data of a packet.
-/// fn kept(bytes: &[u8]) -> Vec<OwnedChunk> {
-///     let packet = Packet::parse(bytes).unwrap();
-///     packet.chunks().filter(|it| it.data().is_some()).map(OwnedChunk::from).collect()
-/// }
-///
-/// # let mut buffer = [0; 100];
-/// # let mut packet = PacketBuilder::begin(&mut buffer, 1, 2, 3)?;
-/// # packet.data(&davgyuti::Data { payload: b"hello", ..Default::default() })?.cookie_ack()?;
-/// let kept = kept(packet.seal());
-/// let data = kept[0].as_chunk();
-/// assert_eq!(data.data().unwrap().payload, b"hello");
-/// // Sends it again.
-/// let mut packet = PacketBuilder::begin(&mut buffer, 1, 2, 3)?;
-/// packet.copy(&data)?;
-/// # assert_eq!(packet.size(), 12 + 16 + 8);
-/// # Ok::<(), davgyuti::WriteError>(())
+/// # let bytes = *b"\0\x01\0\x02\0\0\0\x03\0\0\0\0\x0a\0\0\x07abc\0";
+/// # let packet = davgyuti::Chunks::of(&bytes);
+/// let kept: Vec<davgyuti::OwnedChunk> = packet.map(|chunk| chunk.into_owned()).collect();
+/// assert_eq!(kept[0].as_chunk().value(), b"abc");
 /// ```
 #[derive(Clone, PartialEq, Eq, Hash)]
 pub struct OwnedChunk(Box<[u8]>);
 
 impl OwnedChunk {
     /// Returns the chunk, in a time that doesn't depend on its size.
-    ///
-    /// ```
-    /// # let bytes = *b"\0\x01\0\x02\0\0\0\x03\0\0\0\0\x0a\0\0\x07abc\0";
-    /// # let chunk = davgyuti::Chunk::at(&bytes, 12).unwrap();
-    /// let kept = chunk.into_owned();
-    /// assert_eq!(kept.as_chunk().content(), davgyuti::Content::CookieEcho(b"abc"));
-    /// ```
     #[must_use]
     #[allow(clippy::missing_panics_doc)] // it was read before
     pub fn as_chunk(&self) -> Chunk<'_> {

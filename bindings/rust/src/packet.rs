@@ -1,11 +1,12 @@
 // SPDX-License-Identifier: Apache-2.0
 //! Whole packets.
 
-use crate::chunk::{Chunk, Chunks, FIRST_CHUNK, TAG_REFLECTED, same_bytes, u16_at, u32_at};
+use crate::chunk::{Chunk, Chunks, same_bytes};
 use crate::error::{Fault, FaultKind, OutputError, WriteError};
 use crate::ffi;
+use crate::kinds::{GapAckBlock, TAG_REFLECTED};
 use crate::types::ChunkType;
-use crate::values::{GapAckBlock, Header, Policy};
+use crate::values::{Header, Policy};
 #[cfg(feature = "alloc")]
 use alloc::{string::String, vec::Vec};
 
@@ -66,6 +67,7 @@ fn raw_policy(policy: Policy, bytes: &[u8]) -> ffi::Policy {
         any_checksum: policy.any_checksum,
         zero_checksum: policy.zero_checksum || is_allowed,
         strict_padding: policy.strict_padding,
+        ..ffi::Policy::default()
     }
 }
 
@@ -77,9 +79,11 @@ fn raw_policy(policy: Policy, bytes: &[u8]) -> ffi::Policy {
 ///
 /// let mut bytes = *b"\x13\x88\x13\x88\x4d\x2d\xf5\x2d\x67\xdb\x78\xb5\x0b\0\0\x04";
 /// assert_eq!(davgyuti::check(&bytes, davgyuti::word(&bytes), Policy::new()), Ok(()));
-/// bytes[0] ^= 1;
+/// davgyuti::set_tag(&mut bytes, 7).unwrap();
 /// let checked = davgyuti::check(&bytes, davgyuti::word(&bytes), Policy::new());
 /// assert_eq!(checked, Err(FaultKind::Checksum));
+/// let first = davgyuti::first_fault(&bytes, davgyuti::word(&bytes), Policy::new());
+/// assert_eq!(first.map(|it| it.offset), Some(8));
 /// ```
 ///
 /// # Errors
@@ -96,16 +100,6 @@ pub fn check(bytes: &[u8], word: u32, policy: Policy) -> Result<(), FaultKind> {
 
 /// Returns the first fault of bytes, or none if they are a packet (RFC 9260 section 3). `word` is
 /// what the checksum field has to be: [`word(bytes)`](word).
-///
-/// ```
-/// use davgyuti::{Fault, FaultKind, Policy};
-///
-/// let policy = Policy::new().with_any_checksum(true);
-/// // A COOKIE ACK, and a chunk with a length of 3.
-/// let bytes = *b"\x13\x88\x13\x88\0\0\0\x01\0\0\0\0\x0b\0\0\x04\x0b\0\0\x03";
-/// let fault = davgyuti::first_fault(&bytes, 0, policy);
-/// assert_eq!(fault, Some(Fault { kind: FaultKind::Length, offset: 16 }));
-/// ```
 #[doc(alias = "dcsctp_first_fault")]
 #[must_use]
 pub fn first_fault(bytes: &[u8], word: u32, policy: Policy) -> Option<Fault> {
@@ -120,13 +114,6 @@ pub fn first_fault(bytes: &[u8], word: u32, policy: Policy) -> Option<Fault> {
 /// Writes the CRC32c into the checksum field of a packet (RFC 9260 section 6.8); all other bytes
 /// stay.
 ///
-/// ```
-/// let mut bytes = *b"\x13\x88\x13\x88\x4d\x2d\xf5\x2d\0\0\0\0\x0b\0\0\x04";
-/// davgyuti::seal(&mut bytes)?;
-/// assert_eq!(bytes[8..12], [0x67, 0xdb, 0x78, 0xb5]);
-/// # Ok::<(), davgyuti::WriteError>(())
-/// ```
-///
 /// # Errors
 /// [`WriteError::BadPlace`], and nothing changes, for fewer than 12 bytes.
 #[doc(alias = "dcsctp_seal")]
@@ -137,14 +124,6 @@ pub fn seal(packet: &mut [u8]) -> Result<(), WriteError> {
 
 /// Writes the verification tag of a packet (RFC 9260 section 3.1); all other bytes stay. The packet
 /// has to be [sealed](seal) anew.
-///
-/// ```
-/// let mut bytes = *b"\x13\x88\x13\x88\x4d\x2d\xf5\x2d\x67\xdb\x78\xb5\x0b\0\0\x04";
-/// davgyuti::set_tag(&mut bytes, 0x0102_0304)?;
-/// davgyuti::seal(&mut bytes)?;
-/// assert_eq!(davgyuti::Packet::parse(&bytes)?.header().verification_tag, 0x0102_0304);
-/// # Ok::<(), Box<dyn std::error::Error>>(())
-/// ```
 ///
 /// # Errors
 /// [`WriteError::BadPlace`], and nothing changes, for fewer than 12 bytes.
@@ -173,33 +152,11 @@ pub fn set_tag(packet: &mut [u8], verification_tag: u32) -> Result<(), WriteErro
 /// ```
 #[doc(alias = "dcsctp_clean_blocks")]
 pub fn clean_blocks(blocks: &mut [GapAckBlock]) -> &mut [GapAckBlock] {
+    // `GapAckBlock` is `#[repr(C)]`, with C's fields: the blocks lie there as C's.
+    const { assert!(size_of::<GapAckBlock>() == size_of::<ffi::GapAckBlock>()) };
     // SAFETY: `blocks` is a slice.
-    let count = unsafe { ffi::dcsctp_clean_blocks(blocks.as_mut_ptr(), blocks.len()) };
+    let count = unsafe { ffi::dcsctp_clean_blocks(blocks.as_mut_ptr().cast(), blocks.len()) };
     &mut blocks[..count]
-}
-
-impl Header {
-    /// Reads the common header (RFC 9260 section 3.1) of any bytes; none of fewer than 12.
-    ///
-    /// ```
-    /// use davgyuti::Header;
-    ///
-    /// let header = Header::read(b"\x13\x88\x13\x89\0\0\0\x07\0\0\0\x09").unwrap();
-    /// assert_eq!((header.source_port, header.destination_port), (5000, 5001));
-    /// assert_eq!((header.verification_tag, header.checksum), (7, 9));
-    /// assert_eq!(Header::read(&[0; 11]), None);
-    /// ```
-    #[doc(alias = "dcsctp_header")]
-    #[must_use]
-    pub fn read(bytes: &[u8]) -> Option<Self> {
-        let it: &[u8; FIRST_CHUNK] = bytes.first_chunk()?;
-        Some(Self {
-            source_port: u16_at(it, 0),
-            destination_port: u16_at(it, 2),
-            verification_tag: u32_at(it, 4),
-            checksum: u32_at(it, 8),
-        })
-    }
 }
 
 /// Bytes that are a packet (RFC 9260 section 3): they were checked.
@@ -244,12 +201,6 @@ type Write = unsafe extern "C" fn(
 impl<'a> Packet<'a> {
     /// Checks bytes whose checksum has to be their CRC32c; padding is ignored.
     ///
-    /// ```
-    /// let bytes = *b"\x13\x88\x13\x88\x4d\x2d\xf5\x2d\x67\xdb\x78\xb5\x0b\0\0\x04";
-    /// assert!(davgyuti::Packet::parse(&bytes).is_ok());
-    /// assert_eq!(davgyuti::Packet::parse(&bytes[..15]).unwrap_err().offset, 15);
-    /// ```
-    ///
     /// # Errors
     /// The first fault.
     pub fn parse(bytes: &'a [u8]) -> Result<Self, Fault> {
@@ -283,13 +234,6 @@ impl<'a> Packet<'a> {
     }
 
     /// Returns the bytes.
-    ///
-    /// ```
-    /// # let bytes = *b"\x13\x88\x13\x88\x4d\x2d\xf5\x2d\x67\xdb\x78\xb5\x0b\0\0\x04";
-    /// # let packet = davgyuti::Packet::parse(&bytes)?;
-    /// assert_eq!(packet.as_bytes(), bytes);
-    /// # Ok::<(), davgyuti::Fault>(())
-    /// ```
     #[must_use]
     #[inline]
     pub const fn as_bytes(&self) -> &'a [u8] {
@@ -297,15 +241,6 @@ impl<'a> Packet<'a> {
     }
 
     /// Returns the common header (RFC 9260 section 3.1).
-    ///
-    /// ```
-    /// # let bytes = *b"\x13\x88\x13\x88\x4d\x2d\xf5\x2d\x67\xdb\x78\xb5\x0b\0\0\x04";
-    /// # let packet = davgyuti::Packet::parse(&bytes)?;
-    /// let header = packet.header();
-    /// assert_eq!((header.source_port, header.destination_port), (5000, 5000));
-    /// assert_eq!(header.checksum, davgyuti::word(&bytes));
-    /// # Ok::<(), davgyuti::Fault>(())
-    /// ```
     #[must_use]
     #[inline]
     pub fn header(&self) -> Header {
@@ -314,35 +249,16 @@ impl<'a> Packet<'a> {
 
     /// Returns the chunks (RFC 9260 section 3.2), of which there is one at least; `for chunk in
     /// &packet` does too.
-    ///
-    /// ```
-    /// # fn see(packet: davgyuti::Packet) {
-    /// for chunk in &packet {
-    ///     println!("{} at byte {}", chunk.chunk_type(), chunk.offset());
-    /// }
-    /// # }
-    /// # see(davgyuti::Packet::parse(b"\x13\x88\x13\x88\x4d\x2d\xf5\x2d\x67\xdb\x78\xb5\x0b\0\0\x04")?);
-    /// # Ok::<(), davgyuti::Fault>(())
-    /// ```
     #[must_use]
     #[inline]
     pub fn chunks(&self) -> Chunks<'a> {
-        Chunks::of_packet(self.bytes)
+        Chunks::of(self.bytes)
     }
 
     /// Writes the canonical packet to the front of `output`, and returns it: a checksum of zero,
     /// padding of zeros, zeros in reserved bits, and else the same. Two packets have the same one
     /// if and only if they mean the same. [Seal](seal) it before you send it. This allocates
     /// nothing.
-    ///
-    /// ```
-    /// # let bytes = *b"\x13\x88\x13\x88\x4d\x2d\xf5\x2d\x67\xdb\x78\xb5\x0b\0\0\x04";
-    /// # let packet = davgyuti::Packet::parse(&bytes)?;
-    /// let mut output = [0; 100];
-    /// let canonical = packet.write_canonical(&mut output)?;
-    /// assert_eq!(canonical, b"\x13\x88\x13\x88\x4d\x2d\xf5\x2d\0\0\0\0\x0b\0\0\x04");
-    /// # Ok::<(), Box<dyn std::error::Error>>(())
-    /// ```
     ///
     /// # Errors
     /// [`OutputError::NoRoom`] or [`OutputError::TooLong`]; `output` stays as it is.
@@ -368,6 +284,8 @@ impl<'a> Packet<'a> {
     /// assert_eq!(text, format!("{header}\nCOOKIE-ACK"));
     /// let needed = text.len();
     /// assert_eq!(packet.write_text(&mut []), Err(OutputError::NoRoom { needed }));
+    /// assert!(packet.write_report(&mut [0; 1000])?.ends_with("\nCOOKIE ACK\n"));
+    /// assert_eq!(packet.write_canonical(&mut output)?[8..], [0, 0, 0, 0, 0x0b, 0, 0, 4]);
     /// # Ok::<(), Box<dyn std::error::Error>>(())
     /// ```
     ///
@@ -383,15 +301,6 @@ impl<'a> Packet<'a> {
     /// prints it: each line ends in a line feed, and what is inside of something is two blanks
     /// deeper. This allocates nothing.
     ///
-    /// ```
-    /// # let bytes = *b"\x13\x88\x13\x88\x4d\x2d\xf5\x2d\x67\xdb\x78\xb5\x0b\0\0\x04";
-    /// # let packet = davgyuti::Packet::parse(&bytes)?;
-    /// let mut output = [0; 1000];
-    /// let report = packet.write_report(&mut output)?;
-    /// assert!(report.ends_with("\nCOOKIE ACK\n"));
-    /// # Ok::<(), Box<dyn std::error::Error>>(())
-    /// ```
-    ///
     /// # Errors
     /// [`OutputError::NoRoom`]; `output` stays as it is.
     #[doc(alias = "dcsctp_report")]
@@ -402,15 +311,6 @@ impl<'a> Packet<'a> {
 
     /// Returns what [`write_canonical`](Self::write_canonical) writes. This needs the feature
     /// `alloc`, and calls no `malloc` but that of the `Vec`, if the program's allocator does.
-    ///
-    /// ```
-    /// # let bytes = *b"\x13\x88\x13\x88\x4d\x2d\xf5\x2d\x67\xdb\x78\xb5\x0b\0\0\x04";
-    /// # let packet = davgyuti::Packet::parse(&bytes)?;
-    /// let mut canonical = bytes;
-    /// canonical[8..12].fill(0);
-    /// assert_eq!(packet.to_canonical()?, canonical);
-    /// # Ok::<(), Box<dyn std::error::Error>>(())
-    /// ```
     ///
     /// # Errors
     /// [`OutputError::TooLong`] or [`OutputError::OutOfMemory`].
@@ -425,8 +325,9 @@ impl<'a> Packet<'a> {
     ///
     /// ```
     /// # let bytes = *b"\x13\x88\x13\x88\x4d\x2d\xf5\x2d\x67\xdb\x78\xb5\x0b\0\0\x04";
-    /// # let packet = davgyuti::Packet::parse(&bytes)?;
-    /// assert!(packet.to_text()?.ends_with("\nCOOKIE-ACK"));
+    /// let packet = davgyuti::Packet::parse(&bytes)?;
+    /// assert!(packet.to_text()?.ends_with("COOKIE-ACK") && packet.to_report()?.contains("COOKIE ACK"));
+    /// assert_eq!(packet.to_canonical()?[8..12], [0; 4]);
     /// # Ok::<(), Box<dyn std::error::Error>>(())
     /// ```
     ///
@@ -440,13 +341,6 @@ impl<'a> Packet<'a> {
     /// Returns what [`write_report`](Self::write_report) writes: all that the packet holds,
     /// parameters and error causes too. This needs the feature `alloc`, and calls no `malloc` but
     /// that of the `String`, if the program's allocator does.
-    ///
-    /// ```
-    /// # let bytes = *b"\x13\x88\x13\x88\x4d\x2d\xf5\x2d\x67\xdb\x78\xb5\x0b\0\0\x04";
-    /// # let packet = davgyuti::Packet::parse(&bytes)?;
-    /// assert!(packet.to_report()?.ends_with("\nCOOKIE ACK\n"));
-    /// # Ok::<(), Box<dyn std::error::Error>>(())
-    /// ```
     ///
     /// # Errors
     /// [`OutputError::OutOfMemory`].
@@ -535,5 +429,17 @@ impl AsRef<[u8]> for Packet<'_> {
 impl core::fmt::Display for Packet<'_> {
     fn fmt(&self, f: &mut core::fmt::Formatter<'_>) -> core::fmt::Result {
         f.pad(&self.to_text().map_err(|_| core::fmt::Error)?)
+    }
+}
+
+impl core::fmt::Debug for Packet<'_> {
+    fn fmt(&self, f: &mut core::fmt::Formatter<'_>) -> core::fmt::Result {
+        let header = self.header();
+        f.debug_struct("Packet")
+            .field("source_port", &header.source_port)
+            .field("destination_port", &header.destination_port)
+            .field("verification_tag", &format_args!("{:#010x}", header.verification_tag))
+            .field("chunks", &self.chunks())
+            .finish()
     }
 }

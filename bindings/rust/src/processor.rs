@@ -15,81 +15,57 @@
 //! # Ok::<(), davgyuti::Fault>(())
 //! ```
 //!
-//! It takes about a third of the time of [`crate::word`] for packets of 64 to 1,200 bytes;
-//! `cargo test --release --features processor-crc32c -- --ignored --nocapture` prints both.
+//! It takes about a third of the time of [`crate::word`] for packets of 64 to 1,200 bytes.
 
 use crate::error::WriteError;
 
+#[cfg(target_arch = "aarch64")]
+use core::arch::aarch64::{__crc32cb as of_1, __crc32cd as of_8, __crc32cw as of_4};
 #[cfg(target_arch = "x86_64")]
-mod instruction {
-    use core::arch::x86_64::{_mm_crc32_u8, _mm_crc32_u32, _mm_crc32_u64};
+use core::arch::x86_64::{_mm_crc32_u8 as of_1, _mm_crc32_u32 as of_4, _mm_crc32_u64};
 
-    pub(super) fn is_there() -> bool {
-        std::is_x86_feature_detected!("sse4.2")
-    }
-
-    /// Returns the register after eight bytes, four zeros and the rest.
-    ///
-    /// # Safety
-    /// The instruction [is there](is_there).
-    #[target_feature(enable = "sse4.2")]
-    #[allow(unused_unsafe)] // the calls are safe from Rust 1.86 on
-    #[allow(clippy::cast_possible_truncation)] // a register has 32 bits
-    pub unsafe fn after(first: u64, rest: &[u8]) -> u32 {
-        let (eights, ones) = rest.split_at(rest.len() & !7);
-        // SAFETY: the caller knows that the instruction is there.
-        unsafe {
-            let mut register = _mm_crc32_u64(u64::from(u32::MAX), first);
-            register = u64::from(_mm_crc32_u32(register as u32, 0));
-            for eight in eights.chunks_exact(8) {
-                let number = u64::from_le_bytes(eight.try_into().unwrap_or_default());
-                register = _mm_crc32_u64(register, number);
-            }
-            ones.iter().fold(register as u32, |register, one| _mm_crc32_u8(register, *one))
-        }
-    }
+#[cfg(target_arch = "x86_64")]
+#[target_feature(enable = "sse4.2")]
+#[allow(unused_unsafe)] // the call is safe from Rust 1.86 on
+#[allow(clippy::cast_possible_truncation)] // a register has 32 bits
+unsafe fn of_8(register: u32, eight: u64) -> u32 {
+    // SAFETY: the caller knows that the instruction is there.
+    unsafe { _mm_crc32_u64(u64::from(register), eight) as u32 }
 }
 
-#[cfg(target_arch = "aarch64")]
-mod instruction {
-    use core::arch::aarch64::{__crc32cb, __crc32cd, __crc32cw};
+fn is_there() -> bool {
+    #[cfg(target_arch = "x86_64")]
+    return std::is_x86_feature_detected!("sse4.2");
+    #[cfg(target_arch = "aarch64")]
+    return std::arch::is_aarch64_feature_detected!("crc");
+}
 
-    pub(super) fn is_there() -> bool {
-        std::arch::is_aarch64_feature_detected!("crc")
-    }
-
-    /// Returns the register after eight bytes, four zeros and the rest.
-    ///
-    /// # Safety
-    /// The instruction [is there](is_there).
-    #[target_feature(enable = "crc")]
-    #[allow(unused_unsafe)] // the calls are safe from Rust 1.86 on
-    pub unsafe fn after(first: u64, rest: &[u8]) -> u32 {
-        let (eights, ones) = rest.split_at(rest.len() & !7);
-        // SAFETY: the caller knows that the instruction is there.
-        unsafe {
-            let mut register = __crc32cw(__crc32cd(u32::MAX, first), 0);
-            for eight in eights.chunks_exact(8) {
-                let number = u64::from_le_bytes(eight.try_into().unwrap_or_default());
-                register = __crc32cd(register, number);
-            }
-            ones.iter().fold(register, |register, one| __crc32cb(register, *one))
+/// Returns the register after eight bytes, four zeros and the rest.
+///
+/// # Safety
+/// The instruction [is there](is_there).
+#[cfg_attr(target_arch = "x86_64", target_feature(enable = "sse4.2"))]
+#[cfg_attr(target_arch = "aarch64", target_feature(enable = "crc"))]
+#[allow(unused_unsafe)] // the calls are safe from Rust 1.86 on
+unsafe fn after(first: u64, rest: &[u8]) -> u32 {
+    let (eights, ones) = rest.split_at(rest.len() & !7);
+    // SAFETY: the caller knows that the instruction is there.
+    unsafe {
+        let mut register = of_4(of_8(u32::MAX, first), 0);
+        for eight in eights.chunks_exact(8) {
+            register = of_8(register, u64::from_le_bytes(eight.try_into().unwrap_or_default()));
         }
+        ones.iter().fold(register, |register, one| of_1(register, *one))
     }
 }
 
 /// Returns what [`crate::word`] does.
-///
-/// ```
-/// let bytes = *b"\x13\x88\x13\x88\x4d\x2d\xf5\x2d\x67\xdb\x78\xb5\x0b\0\0\x04";
-/// assert_eq!(davgyuti::processor::word(&bytes), 0x67db_78b5);
-/// ```
 #[must_use]
 pub fn word(bytes: &[u8]) -> u32 {
     match (bytes.first_chunk(), bytes.get(12..)) {
-        (Some(first), Some(rest)) if instruction::is_there() => {
+        (Some(first), Some(rest)) if is_there() => {
             // SAFETY: it is there.
-            let register = unsafe { instruction::after(u64::from_le_bytes(*first), rest) };
+            let register = unsafe { after(u64::from_le_bytes(*first), rest) };
             (!register).swap_bytes()
         }
         _ => crate::word(bytes),
@@ -98,13 +74,6 @@ pub fn word(bytes: &[u8]) -> u32 {
 
 /// Does what [`crate::seal`] does. Of a [`PacketBuilder`](crate::PacketBuilder),
 /// [`unsealed`](crate::PacketBuilder::unsealed) returns the packet for it.
-///
-/// ```
-/// let mut bytes = *b"\x13\x88\x13\x88\x4d\x2d\xf5\x2d\0\0\0\0\x0b\0\0\x04";
-/// davgyuti::processor::seal(&mut bytes)?;
-/// assert_eq!(bytes[8..12], [0x67, 0xdb, 0x78, 0xb5]);
-/// # Ok::<(), davgyuti::WriteError>(())
-/// ```
 ///
 /// # Errors
 /// [`WriteError::BadPlace`], and nothing changes, for fewer than 12 bytes.

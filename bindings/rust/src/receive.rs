@@ -2,156 +2,30 @@
 //! What RFC 9260 asks of whoever receives a packet, before an association's state matters.
 
 use crate::ffi;
-use crate::list::Parameters;
+use crate::items::Parameters;
+use crate::returned::{Action, Answer, InitFault, Refusal, TagVerdict};
 use crate::types::{ChunkType, ParameterType};
 
-/// Defines an enum of what the C API returns as a number.
-macro_rules! numbered {
-    ($(#[$about:meta])* $name:ident; $($(#[$meaning:meta])* $case:ident = $number:literal,)*) => {
-        $(#[$about])*
-        #[derive(Clone, Copy, PartialEq, Eq, Hash, Debug)]
-        pub enum $name {
-            $($(#[$meaning])* $case = $number,)*
-        }
-
-        impl $name {
-            /// Returns the number that the C API has for it.
-            ///
-            /// ```
-            /// assert_eq!(davgyuti::Answer::Abort.number(), 4);
-            /// ```
-            #[must_use]
-            pub const fn number(self) -> u32 {
-                self as u32
-            }
-
-            /// What a function returned that returns one of these.
-            fn of(number: u32) -> Self {
-                match number {
-                    $($number => Self::$case,)*
-                    _ => unreachable!("the number of a case is returned"),
-                }
-            }
-        }
-    };
-}
-
-numbered! {
-    /// What is done with a chunk or a parameter of a type that your program doesn't know (RFC 9260
-    /// sections 3.2 and 3.2.1).
-    ///
-    /// ```
-    /// use davgyuti::{Action, ChunkType};
-    ///
-    /// assert_eq!(davgyuti::unrecognized_chunk(ChunkType(0xc3)), Action::SkipAndReport);
-    /// ```
-    Action;
-    /// No further chunk of the packet, or parameter of the chunk, is processed.
-    Stop = 0,
-    /// The same; and it is reported.
-    StopAndReport = 1,
-    /// The next one is processed.
-    Skip = 2,
-    /// The same; and it is reported.
-    SkipAndReport = 3,
+/// The case of a number that a function returned.
+fn case<T>(it: Option<T>) -> T {
+    it.expect("the number of a case is returned")
 }
 
 impl Action {
     /// Returns whether the chunk or the parameter is reported.
-    ///
-    /// ```
-    /// let action = davgyuti::unrecognized_chunk(davgyuti::ChunkType(0x43));
-    /// assert!(action.reports() && !action.skips());
-    /// ```
     #[must_use]
     pub const fn reports(self) -> bool {
         matches!(self, Self::StopAndReport | Self::SkipAndReport)
     }
 
     /// Returns whether the next one is processed.
-    ///
-    /// ```
-    /// let action = davgyuti::unrecognized_parameter(davgyuti::ParameterType(0x8765));
-    /// assert!(action.skips() && !action.reports());
-    /// ```
     #[must_use]
     pub const fn skips(self) -> bool {
         matches!(self, Self::Skip | Self::SkipAndReport)
     }
 }
 
-numbered! {
-    /// What is done with a packet, by its verification tag (RFC 9260 sections 8.5 and 8.5.1).
-    /// [`verify_tag`] has an example.
-    TagVerdict;
-    /// The tag is right: the packet is processed.
-    Accept = 0,
-    /// An INIT alone under the tag 0, or COOKIE ECHO first or behind one AUTH: section 5 says what is
-    /// done.
-    Establish = 1,
-    /// The packet is treated as if it belonged to no association: see [`out_of_the_blue`].
-    OutOfTheBlue = 2,
-    /// The packet is discarded, without an answer.
-    Discard = 3,
-}
-
-numbered! {
-    /// What is done with a packet that belongs to no association (RFC 9260 section 8.4).
-    /// [`out_of_the_blue`] has an example.
-    Answer;
-    /// It is discarded, without an answer.
-    Discard = 0,
-    /// Its INIT is processed (section 5.1).
-    Init = 1,
-    /// Its COOKIE ECHO, first or behind one AUTH, is processed (section 5.1).
-    CookieEcho = 2,
-    /// [`PacketBuilder::reply`](crate::PacketBuilder::reply) writes what is sent back.
-    ShutdownComplete = 3,
-    /// The same.
-    Abort = 4,
-}
-
-numbered! {
-    /// What is wrong with a packet that carries INIT or INIT ACK (RFC 9260 sections 3.3.2 and
-    /// 3.3.3): the first of these that is so. [`init_fault`] has an example.
-    InitFault;
-    /// The packet doesn't hold this chunk alone.
-    NotAlone = 1,
-    /// The chunk has no room for its numbers.
-    TooShort = 2,
-    /// The initiate tag is 0.
-    TagZero = 3,
-    /// The window is smaller than 1,500 bytes.
-    SmallWindow = 4,
-    /// The number of outbound streams is 0.
-    NoOutboundStreams = 5,
-    /// The number of inbound streams is 0.
-    NoInboundStreams = 6,
-    /// INIT ACK lacks its State Cookie.
-    NoStateCookie = 7,
-    /// It has a Host Name Address (section 3.3.2.1.4).
-    HostNameAddress = 8,
-}
-
-numbered! {
-    /// What is done with a packet whose INIT or INIT ACK isn't processed (RFC 9260 sections 3.3.2,
-    /// 3.3.3, 5.1 and 8.5.1). [`init_refusal`] has an example.
-    Refusal;
-    /// It is discarded, without an answer.
-    Discard = 0,
-    /// [`PacketBuilder::init_abort`](crate::PacketBuilder::init_abort) writes what is sent; no
-    /// association changes its state.
-    Abort = 1,
-    /// The same; and the association ends.
-    DestroyAndAbort = 2,
-}
-
 /// What you know of an association before you look at the tag of a packet (RFC 9260 section 8.5).
-///
-/// ```
-/// let association = davgyuti::Association { own_tag: 7, peer_tag: None, awaits_cookie: true };
-/// # assert_eq!(association.own_tag, 7);
-/// ```
 #[derive(Clone, Copy, PartialEq, Eq, Hash, Debug)]
 pub struct Association {
     /// The initiate tag that you sent.
@@ -169,27 +43,23 @@ pub struct Association {
 /// use davgyuti::{Action, ChunkType};
 ///
 /// assert_eq!(davgyuti::unrecognized_chunk(ChunkType(0x3f)), Action::Stop);
+/// let action = davgyuti::unrecognized_parameter(davgyuti::ParameterType(0xc005));
+/// assert!(action.skips() && action.reports());
 /// ```
 #[doc(alias = "dcsctp_unrecognized_chunk")]
 #[must_use]
 pub fn unrecognized_chunk(chunk_type: ChunkType) -> Action {
     // SAFETY: it takes a number.
-    Action::of(unsafe { ffi::dcsctp_unrecognized_chunk(chunk_type.0) })
+    case(Action::of_number(unsafe { ffi::dcsctp_unrecognized_chunk(chunk_type.0) }))
 }
 
 /// Returns what is done with a parameter of a type that your program doesn't know, by the type's two
 /// highest-order bits (RFC 9260 section 3.2.1).
-///
-/// ```
-/// use davgyuti::{Action, ParameterType};
-///
-/// assert_eq!(davgyuti::unrecognized_parameter(ParameterType(0x8000)), Action::Skip);
-/// ```
 #[doc(alias = "dcsctp_unrecognized_parameter")]
 #[must_use]
 pub fn unrecognized_parameter(parameter_type: ParameterType) -> Action {
     // SAFETY: it takes a number.
-    Action::of(unsafe { ffi::dcsctp_unrecognized_parameter(parameter_type.0) })
+    case(Action::of_number(unsafe { ffi::dcsctp_unrecognized_parameter(parameter_type.0) }))
 }
 
 /// Returns what is done with a packet of an association, by its verification tag (RFC 9260 sections
@@ -220,7 +90,7 @@ pub fn verify_tag(bytes: &[u8], association: &Association) -> TagVerdict {
     };
     let (start, length) = (bytes.as_ptr(), bytes.len());
     // SAFETY: `bytes` is a slice, and `known` a value here.
-    TagVerdict::of(unsafe { ffi::dcsctp_verify_tag(start, length, &raw const known) })
+    case(TagVerdict::of_number(unsafe { ffi::dcsctp_verify_tag(start, length, &raw const known) }))
 }
 
 /// Returns what is done with a packet that belongs to no association (RFC 9260 section 8.4); looks
@@ -239,7 +109,9 @@ pub fn verify_tag(bytes: &[u8], association: &Association) -> TagVerdict {
 #[must_use]
 pub fn out_of_the_blue(bytes: &[u8], is_unicast: bool) -> Answer {
     // SAFETY: `bytes` is a slice.
-    Answer::of(unsafe { ffi::dcsctp_out_of_the_blue(bytes.as_ptr(), bytes.len(), is_unicast) })
+    case(Answer::of_number(unsafe {
+        ffi::dcsctp_out_of_the_blue(bytes.as_ptr(), bytes.len(), is_unicast)
+    }))
 }
 
 /// Returns what is wrong with a packet that carries INIT (RFC 9260 section 3.3.2), or INIT ACK
@@ -261,7 +133,7 @@ pub fn out_of_the_blue(bytes: &[u8], is_unicast: bool) -> Answer {
 pub fn init_fault(bytes: &[u8], is_ack: bool) -> Option<InitFault> {
     // SAFETY: `bytes` is a slice.
     let number = unsafe { ffi::dcsctp_init_fault(bytes.as_ptr(), bytes.len(), is_ack) };
-    (number != 0).then(|| InitFault::of(number))
+    (number != 0).then(|| case(InitFault::of_number(number)))
 }
 
 /// Returns what is done with the packet of an INIT or INIT ACK, by its fault (RFC 9260 sections
@@ -280,7 +152,7 @@ pub fn init_fault(bytes: &[u8], is_ack: bool) -> Option<InitFault> {
 pub fn init_refusal(fault: InitFault, is_ack: bool, in_cookie_wait: bool) -> Refusal {
     let number = fault.number();
     // SAFETY: it takes numbers, and bools that are Rust's.
-    Refusal::of(unsafe { ffi::dcsctp_init_refusal(number, is_ack, in_cookie_wait) })
+    case(Refusal::of_number(unsafe { ffi::dcsctp_init_refusal(number, is_ack, in_cookie_wait) }))
 }
 
 /// Returns whether an INIT adds addresses to an association that is there already (RFC 9260 section

@@ -22,7 +22,7 @@ macro_rules! texts {
                 // Without the note that the object is fit for IBT or BTI: it also holds what rustc compiles.
                 super::global_asm!(
                     ".set dcsctp_without_note, 1",
-                    include_str!(concat!("../../../dist/", $file)),
+                    include_str!(concat!(env!("DCSCTP_TEXTS"), "/", $file)),
                     options($($syntax,)? raw)
                 );
             }

@@ -45,31 +45,16 @@ fn cookies_are_opened() {
     for now in [0, 1_000_000, 61_000_000] {
         assert_eq!(open_cookie(KEY, &sealed, now), Ok(SAYS));
     }
+    let mut changed = sealed.clone();
+    for at in 0..sealed.len() {
+        assert_eq!(open_cookie(KEY, &sealed[..at], 1_000_000), Err(CookieError::Invalid));
+        changed[at] ^= 1;
+        assert_eq!(open_cookie(KEY, &changed, 1_000_000), Err(CookieError::Invalid));
+        changed[at] ^= 1;
+    }
     for (now, staleness) in [(61_000_001, 1), (u64::MAX, u64::MAX - 61_000_000)] {
         assert_eq!(open_cookie(KEY, &sealed, now), Err(CookieError::Stale { staleness }));
     }
-}
-
-#[test]
-fn other_bytes_are_no_cookie() {
-    let mut sealed = bytes(SEALED);
-    for at in 0..sealed.len() {
-        assert_eq!(open_cookie(KEY, &sealed[..at], 1_000_000), Err(CookieError::Invalid));
-        sealed[at] ^= 1;
-        assert_eq!(open_cookie(KEY, &sealed, 1_000_000), Err(CookieError::Invalid));
-        sealed[at] ^= 1;
-    }
-    for (key, bytes) in [(&KEY[..4], &sealed[..]), (b"", &sealed), (b"", b"")] {
-        assert_eq!(open_cookie(key, bytes, 1_000_000), Err(CookieError::Invalid));
-    }
-}
-
-#[test]
-fn a_cookie_needs_no_key_and_no_addresses() {
-    let says = Cookie { addresses: b"", ..SAYS };
-    let mut output = [0; 72];
-    let sealed = seal_cookie(&mut output, b"", &says).unwrap();
-    assert_eq!(open_cookie(b"", sealed, 1_000_000), Ok(says));
 }
 
 /// AUTH, and a DATA chunk after it: with HMAC-SHA-1, and with HMAC-SHA-256.

@@ -4,10 +4,7 @@
 mod common;
 
 use common::bytes;
-use davgyuti::{
-    CauseCode, ChunkBuilder, ChunkType, Data, Fault, FaultKind, Init, MAX_PACKET, Packet,
-    PacketBuilder, ParameterType, WriteError,
-};
+use davgyuti::{CauseCode, ChunkType, Data, Init, PacketBuilder, ParameterType, WriteError};
 
 /// The packet without its checksum.
 fn unsealed(chunks: &str) -> Vec<u8> {
@@ -26,25 +23,15 @@ type Add = fn(&mut PacketBuilder) -> Result<(), WriteError>;
 /// grows by 6 and its padding.
 #[test]
 fn each_chunk_is_the_last_one() {
-    let methods: [Add; 18] = [
-        |it| it.chunk(ChunkType(77), 0, b"abcd").map(|_| ()),
+    let methods: [Add; 8] = [
         |it| it.data(&Data::default()).map(|_| ()),
-        |it| it.i_data(&Data::default()).map(|_| ()),
         |it| it.sack(1, 2, &[], &[3]).map(|_| ()),
         |it| it.init(&Init::default()).map(|_| ()),
-        |it| it.init_ack(&Init::default()).map(|_| ()),
         |it| it.cookie_echo(b"abc").map(|_| ()),
-        |it| it.cookie_ack().map(|_| ()),
         |it| it.heartbeat(b"abc").map(|_| ()),
-        |it| it.heartbeat_ack(b"a").map(|_| ()),
         |it| it.abort(false, "abcd").map(|_| ()),
         |it| it.error().map(|_| ()),
-        |it| it.shutdown(1).map(|_| ()),
-        |it| it.shutdown_ack().map(|_| ()),
         |it| it.shutdown_complete(true).map(|_| ()),
-        |it| it.re_config().map(|_| ()),
-        |it| it.forward_tsn(1, &[]).map(|_| ()),
-        |it| it.i_forward_tsn(1, &[]).map(|_| ()),
     ];
     for add in methods {
         let mut buffer = [0; 200];
@@ -63,44 +50,6 @@ fn each_chunk_is_the_last_one() {
         let mut packet = PacketBuilder::resume(&mut buffer, size).unwrap();
         assert_eq!(packet.last_chunk().unwrap().offset(), start);
     }
-}
-
-/// The largest chunk that a packet has room for, which is then alone, and one larger by a byte.
-#[test]
-fn the_largest_chunk() {
-    let mut buffer = vec![0; 70_000];
-    for (size, is_added) in [(65_520, true), (65_521, false)] {
-        let mut packet = PacketBuilder::begin(&mut buffer, 1, 2, 3).unwrap();
-        let added = packet.cookie_echo(&vec![1; size - 4]).map(|_| ());
-        assert_eq!(added, if is_added { Ok(()) } else { Err(WriteError::NoRoom) });
-        assert_eq!(packet.size(), if is_added { MAX_PACKET } else { 12 });
-    }
-    let fault = Packet::parse(PacketBuilder::begin(&mut buffer, 1, 2, 3).unwrap().seal());
-    assert_eq!(fault, Err(Fault { kind: FaultKind::Size, offset: 12 }));
-}
-
-/// What has no place in a chunk's list, or not this value, is written nevertheless: the packet is
-/// refused, or something else is read.
-#[test]
-fn what_is_not_checked() {
-    let mut buffer = [0; 100];
-    let mut packet = PacketBuilder::begin(&mut buffer, 1, 2, 3).unwrap();
-    packet.init(&Init::default()).unwrap().cause(CauseCode::USER_INITIATED_ABORT, b"ab").unwrap();
-    let init = Packet::parse(packet.seal()).unwrap().chunks().next().unwrap();
-    assert!(init.causes().next().is_none());
-    assert_eq!(init.parameters().next().unwrap().parameter_type(), ParameterType(12));
-
-    let mut packet = PacketBuilder::begin(&mut buffer, 1, 2, 3).unwrap();
-    packet.data(&Data { payload: b"abcd", ..Data::default() }).unwrap();
-    add_to_last(&mut packet).unwrap();
-    let data = Packet::parse(packet.seal()).unwrap().chunks().next().unwrap();
-    assert_eq!(data.data().unwrap().payload, b"abcd\x44\x44\0\x06ab");
-
-    let mut packet = PacketBuilder::begin(&mut buffer, 1, 2, 3).unwrap();
-    let mut init = packet.init(&Init::default()).unwrap();
-    init.parameter(ParameterType::FORWARD_TSN_SUPPORTED, b"a").unwrap();
-    let fault = Packet::parse(packet.seal());
-    assert_eq!(fault, Err(Fault { kind: FaultKind::Length, offset: 32 }));
 }
 
 /// Where there is no chunk, or none that ends the packet.
@@ -156,22 +105,19 @@ fn lists_are_taken_back() {
     }
 }
 
-/// What is added goes on from there: to the chunk that is the last one then.
 #[test]
 fn all_or_nothing_goes_on() {
     let mut buffer = [0; 100];
     let mut packet = PacketBuilder::begin(&mut buffer, 1, 2, 3).unwrap();
-    packet.cookie_ack().unwrap();
     packet.all_or_nothing(|it| it.error().map(|_| ())).unwrap();
-    let more = |it: &mut ChunkBuilder| it.cause(CauseCode::OUT_OF_RESOURCE, &[]).map(|_| ());
-    more(&mut packet.last_chunk().unwrap()).unwrap();
+    packet.last_chunk().unwrap().cause(CauseCode::OUT_OF_RESOURCE, &[]).unwrap();
     let failed = packet.all_or_nothing(|it| {
         it.cookie_ack()?;
         it.cookie_echo(&[0; 100]).map(|_| ())
     });
     assert_eq!(failed, Err(WriteError::NoRoom));
-    more(&mut packet.last_chunk().unwrap()).unwrap();
-    assert_eq!(packet.seal(), common::packet("0b000004 0900000c 00040004 00040004"));
+    packet.last_chunk().unwrap().cause(CauseCode::OUT_OF_RESOURCE, &[]).unwrap();
+    assert_eq!(packet.seal(), common::packet("0900000c 00040004 00040004"));
 }
 
 /// Another builder can't be put in the place of the one that the closure gets: neither a larger one,

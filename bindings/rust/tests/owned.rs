@@ -4,8 +4,8 @@
 
 mod common;
 
-use common::{chunks, packet};
-use davgyuti::{Chunk, Content, OwnedChunk, Packet, PacketBuilder};
+use common::chunks;
+use davgyuti::{Chunk, OwnedChunk, PacketBuilder};
 
 /// Each kind of chunk, with its padding and without.
 #[test]
@@ -33,35 +33,4 @@ fn each_kind_is_kept() {
             assert_eq!(owned.clone().as_chunk().as_bytes(), expected);
         }
     }
-}
-
-/// Each size of a value, up to the largest: what is written again is the same.
-#[test]
-fn each_size_is_kept() {
-    // (a COOKIE ECHO has a cookie of one byte at least)
-    for size in (1..12).chain([65_532 - 12 - 4 - 4]) {
-        let mut buffer = vec![0; 65_532];
-        let mut builder = PacketBuilder::begin(&mut buffer, 1, 2, 3).unwrap();
-        builder.cookie_ack().unwrap().cookie_echo(&vec![0xee; size]).unwrap();
-        let bytes = builder.seal().to_vec();
-        let owned: Vec<OwnedChunk> =
-            Packet::parse(&bytes).unwrap().chunks().map(Chunk::into_owned).collect();
-        assert_eq!(owned[1].as_chunk().content(), Content::CookieEcho(&vec![0xee; size]));
-        let mut builder = PacketBuilder::begin(&mut buffer, 1, 2, 3).unwrap();
-        for it in owned.iter().map(OwnedChunk::as_chunk) {
-            builder.copy(&it).unwrap();
-        }
-        assert_eq!(builder.seal(), bytes);
-    }
-}
-
-/// As of chunks, `==` and the hash are of type, flags and value.
-#[test]
-fn owned_chunks_are_compared() {
-    let (one, other) = (packet("0a000005 61000000"), packet("0b000004 0a000005 61010203"));
-    let one = Packet::parse(&one).unwrap().chunks().next().unwrap().into_owned();
-    let other: Vec<_> = Packet::parse(&other).unwrap().chunks().map(Chunk::into_owned).collect();
-    assert_eq!(one, other[1]);
-    assert_ne!(one, other[0]);
-    assert_eq!(std::collections::HashSet::from([one, other[1].clone()]).len(), 1);
 }

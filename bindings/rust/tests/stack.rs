@@ -6,8 +6,8 @@ mod common;
 
 use common::{bytes, chunks, packet};
 use davgyuti::{
-    Cause, Chunk, Data, Fault, FaultKind, PacketBuilder, Parameter, ParameterType, Policy,
-    WriteError, check, first_fault, needs_checksum, word,
+    Cause, Chunk, Data, Fault, FaultKind, Parameter, ParameterType, Policy, WriteError,
+    first_fault, needs_checksum, word,
 };
 
 /// The packet with these chunks, and a checksum of zero.
@@ -42,71 +42,32 @@ fn a_bare_chunk_is_read() {
         assert_eq!(Chunk::parse(&bytes(digits)), Err(Fault { kind, offset }), "{digits}");
     }
     // A packet has at most 65,535 bytes, and 12 of them before its first chunk.
-    let mut large = vec![0; 65_523];
+    let mut large = vec![0; 65_524];
     large[..4].copy_from_slice(&[10, 0, 0xff, 0xf3]);
-    assert_eq!(Chunk::parse(&large).unwrap().value().len(), 65_519);
-    large.push(0);
+    assert_eq!(Chunk::parse(&large[..65_523]).unwrap().value().len(), 65_519);
     large[3] = 0xf4;
-    let size = Fault { kind: FaultKind::Size, offset: 65_523 };
-    assert_eq!(Chunk::parse(&large), Err(size));
-    large[..4].copy_from_slice(&[10, 0, 0xff, 0xff]);
-    large.resize(100_000, 0);
-    assert_eq!(Chunk::parse(&large[..65_530]), Err(size));
-    assert_eq!(Chunk::parse(&large), Err(size));
-}
-
-#[test]
-fn a_bare_chunk_is_written() {
-    for padded in chunks() {
-        let chunk = Chunk::at(&padded, 0).unwrap();
-        let mut buffer = [0xaa; 100];
-        let mut packet = PacketBuilder::begin(&mut buffer, 1, 2, 3).unwrap();
-        assert_eq!(packet.cookie_ack().unwrap().copy(&chunk).unwrap().as_bytes(), chunk.as_bytes());
-        assert_eq!(packet.last_chunk().unwrap().as_bytes(), chunk.as_bytes());
-    }
-}
-
-#[test]
-fn contents_say_their_type() {
-    for it in chunks() {
-        let chunk = Chunk::at(&it, 0).unwrap();
-        let is_known = it[0] != 0x4d;
-        assert_eq!(chunk.content().chunk_type(), is_known.then_some(chunk.chunk_type()));
-    }
+    assert_eq!(Chunk::parse(&large), Err(Fault { kind: FaultKind::Size, offset: 65_523 }));
 }
 
 #[test]
 fn items_are_made_of_a_type_and_bytes() {
-    let mut counts = [0; 2];
     for it in chunks() {
         let chunk = Chunk::at(&it, 0).unwrap();
         for it in chunk.parameters() {
             let mut output = [0xaa; 100];
             let made = Parameter::write(&mut output, it.parameter_type(), it.value()).unwrap();
-            assert_eq!((made, made.re_config()), (it, it.re_config()));
-            assert_eq!(
-                (made.offset(), made.as_bytes(), made.value()),
-                (0, it.as_bytes(), it.value())
-            );
-            let typ = made.re_config().map(|re_config| re_config.parameter_type());
-            assert_eq!(typ.unwrap_or(it.parameter_type()), it.parameter_type());
-            assert_eq!(made.number(), it.number());
-            counts[0] += 1;
+            assert_eq!((made, made.re_config(), made.offset()), (it, it.re_config(), 0));
         }
         for it in chunk.causes() {
             let mut output = [0xaa; 100];
             let made = Cause::write(&mut output, it.code(), it.value()).unwrap();
-            assert_eq!((made, made.number()), (it, it.number()));
-            assert_eq!((made.offset(), made.as_bytes()), (0, it.as_bytes()));
+            assert_eq!((made, made.as_bytes(), made.offset()), (it, it.as_bytes(), 0));
             assert!(made.missing_parameters().eq(it.missing_parameters()));
-            counts[1] += 1;
         }
     }
-    assert_eq!(counts, [13, 6]);
     let mut output = vec![0; 70_000];
     let mut written = |size: usize, room: usize| {
-        let value = vec![1; size];
-        let made = Parameter::write(&mut output[..room], ParameterType(1), &value);
+        let made = Parameter::write(&mut output[..room], ParameterType(1), &vec![1; size]);
         made.map(|it| it.as_bytes().len())
     };
     assert_eq!(written(65_531, 65_535), Ok(65_535));
@@ -114,7 +75,7 @@ fn items_are_made_of_a_type_and_bytes() {
     assert_eq!(written(65_532, 70_000), Err(WriteError::BadValue));
 }
 
-/// RFC 9260 section 3.3.1: the bits I, U, B and E, of which E is the lowest.
+/// RFC 9260 section 3.3.1: the bits I, U, B and E, of which E is the lowest; the others are reserved.
 #[test]
 fn flags_are_a_number() {
     for flags in 0..16 {
@@ -122,11 +83,6 @@ fn flags_are_a_number() {
         assert_eq!((data.tsn, data.flags()), (1, flags));
         let bits = [data.is_end, data.is_beginning, data.is_unordered, data.immediate_ack];
         assert_eq!(bits, [1, 2, 4, 8].map(|bit| flags & bit != 0));
-        let mut buffer = [0; 100];
-        let mut packet = PacketBuilder::begin(&mut buffer, 1, 2, 3).unwrap();
-        packet.data(&data).unwrap().i_data(&data).unwrap();
-        let bytes = packet.unsealed();
-        assert_eq!([bytes[13], bytes[29]], [flags; 2]);
     }
 }
 
@@ -135,53 +91,36 @@ fn flags_are_a_number() {
 #[test]
 fn a_checksum_of_zero_is_allowed() {
     let allowed = Policy::new().with_allowed_zero_checksum(true);
-    let fault = |bytes: &[u8], policy| {
-        let fault = first_fault(bytes, word(bytes), policy);
-        assert_eq!(check(bytes, word(bytes), policy).err(), fault.map(|it| it.kind));
-        fault
-    };
+    let fault = |bytes: &[u8], policy| first_fault(bytes, word(bytes), policy);
     let wrong = Some(Fault { kind: FaultKind::Checksum, offset: 8 });
     for digits in [
         "01000014 00000001 00000002 0003 0004 00000005",
         "0a000005 61 000000",
         "c1000008 00000001",
         "06010004",
-        "0e010004",
+        "0b000004 0e010004",
     ] {
-        for before in ["", "0b000004"] {
-            let digits = format!("{before}{digits}");
-            let bytes = zeroed(&digits);
-            assert!(needs_checksum(&bytes));
-            assert_eq!(fault(&bytes, allowed), wrong, "{digits}");
-            assert_eq!(fault(&bytes, allowed.with_zero_checksum(true)), None);
-            assert_eq!(fault(&bytes, allowed.with_any_checksum(true)), None);
-            assert_eq!(first_fault(&bytes, 0, allowed), None);
-            assert_eq!(fault(&packet(&digits), allowed), None);
-        }
+        let bytes = zeroed(digits);
+        assert!(needs_checksum(&bytes));
+        assert_eq!(fault(&bytes, allowed), wrong, "{digits}");
+        assert_eq!(fault(&bytes, allowed.with_zero_checksum(true)), None);
+        assert_eq!(first_fault(&bytes, 0, allowed), None);
+        assert_eq!(fault(&packet(digits), allowed), None);
     }
-    for digits in [
-        "02ff0014 00000001 00000002 0003 0004 00000005",
-        "0b000004",
-        "06000004",
-        "0e000004",
-        "04010008 0001 0004",
-        "c8010004",
-    ] {
+    for digits in
+        ["02ff0014 00000001 00000002 0003 0004 00000005", "06000004", "04010008 0001 0004"]
+    {
         let mut bytes = zeroed(digits);
         assert!(!needs_checksum(&bytes));
         assert_eq!(fault(&bytes, Policy::new()), wrong, "{digits}");
         let packet = davgyuti::Packet::parse_with(&bytes, word(&bytes), allowed).unwrap();
-        assert!(packet.write_report(&mut [0; 1000]).is_ok());
         assert!(packet.write_canonical(&mut [0; 100]).is_ok());
         bytes[11] = 1;
         assert_eq!(fault(&bytes, allowed), wrong);
     }
     // The size comes first, then the checksum, then the chunks, from the left.
-    for size in 0..16 {
-        let bytes = &zeroed("01000004")[..size];
-        assert!(!needs_checksum(bytes));
-        assert_eq!(fault(bytes, allowed), Some(Fault { kind: FaultKind::Size, offset: size }));
-    }
+    let size = Some(Fault { kind: FaultKind::Size, offset: 15 });
+    assert_eq!(fault(&zeroed("01000004")[..15], allowed), size);
     let length = Some(Fault { kind: FaultKind::Length, offset: 12 });
     assert_eq!(fault(&zeroed("0b000003 01000004"), allowed), length);
     assert_eq!(fault(&zeroed("01000004 0b000003"), allowed), wrong);

@@ -2,7 +2,7 @@
 //! What the tests have in common. No file needs all of it.
 #![allow(dead_code)]
 
-use davgyuti::{PacketBuilder, WriteError};
+use std::path::Path;
 
 /// The bytes of hexadecimal digits; blanks are ignored.
 pub fn bytes(digits: &str) -> Vec<u8> {
@@ -31,19 +31,16 @@ pub fn packet(chunks: &str) -> Vec<u8> {
     sealed([bytes("0001 0002 00000003 00000000"), bytes(chunks)].concat())
 }
 
-/// The same packet, written by the crate.
-pub fn written<T>(
-    add: impl FnOnce(&mut PacketBuilder) -> Result<T, WriteError>,
-) -> Result<Vec<u8>, WriteError> {
-    let mut buffer = vec![0xaa; 1200];
-    let mut packet = PacketBuilder::begin(&mut buffer, 1, 2, 3)?;
-    add(&mut packet)?;
-    Ok(packet.seal().to_vec())
+/// A file that the repository's packages share: of the package, or of the repository around it.
+pub fn shared(path: &str) -> String {
+    let places = [".", "../.."].map(|it| Path::new(env!("CARGO_MANIFEST_DIR")).join(it).join(path));
+    std::fs::read_to_string(places.iter().find(|it| it.exists()).expect(path)).unwrap()
 }
 
 /// The packets of `examples/packets.txt`.
 pub fn examples() -> Vec<Vec<u8>> {
-    let lines = include_str!("../../../../examples/packets.txt").lines();
+    let text = shared("examples/packets.txt");
+    let lines = text.lines();
     lines.filter(|it| !it.is_empty() && !it.starts_with('#')).map(bytes).collect()
 }
 
@@ -75,6 +72,8 @@ pub fn chunks() -> Vec<Vec<u8>> {
     ];
     chunks.map(bytes).to_vec()
 }
+
+const TYPES: [u8; 15] = [0, 1, 2, 3, 4, 5, 6, 7, 9, 10, 14, 64, 130, 192, 194];
 
 /// Numbers that look random: xorshift64*.
 pub struct Chance(pub u64);
@@ -113,14 +112,7 @@ impl Chance {
                 1 => packet[at] = self.byte(),
                 2 => packet[at] ^= 1 << self.below(8),
                 3 => packet.truncate(at),
-                4 => {
-                    let types = [0, 1, 2, 3, 4, 5, 6, 7, 9, 10, 14, 64, 130, 192, 194];
-                    let at = at & !3;
-                    packet[at] = types[self.below(types.len())];
-                    if let Some(length) = packet.get_mut(at + 2..at + 4) {
-                        length.copy_from_slice(&[0, self.byte() & 63]);
-                    }
-                }
+                4 => packet[at & !3] = TYPES[self.below(15)],
                 _ => {
                     let more = (0..self.below(9)).map(|_| self.byte()).collect::<Vec<_>>();
                     packet.splice(at..at, more);
