@@ -6,8 +6,8 @@ set -u
 usage='usage: dist/test.sh [--library] [FOLDER]
 
 Tries the texts with each compiler and package tool that is there, in folders of their own, with no toolchain on PATH. Each
-program has to print examples/expected.txt, and on all systems the same for 4,000 packets made at random. What is not
-installed is left out, and named. The last line is: dist: N passed, M failed, K left out.
+program has to print examples/expected.txt, and on all systems the same for 4,000 packets made at random. All packages read and
+write 5,000 vectors made at random. What is not installed is left out, and named. The last line is: dist: N passed, M failed, K left out.
 
 FOLDER has dist/ and bindings/, as an unpacked release; without it, this checkout has. The examples are the checkout'\''s.
 --library leaves out what runs sctp_dump over captures.
@@ -749,10 +749,16 @@ random() {
     "$root/dist/packets.py" 4000 1 <"$examples/packets.txt" >packets.txt
 }
 
+# What all packages read and write, beside the vectors: others for each commit.
+random_vectors() {
+    "$root/registry/vectors/vectors.py" --random 5000 "$((16#0$(git -C "$root" rev-parse --short=8 HEAD)))" >vectors.jsonl
+}
+
 # ---- what is tried, in groups that run side by side
 
 first() {
     with python-3.10 '4,000 packets are made at random' random
+    with 'python-3.10 git-checkout' '5,000 vectors are made at random' random_vectors
     try 'no toolchain is on PATH' no_toolchain
     try 'the sums of MANIFEST' sums
     with python-3.10 'the copies in the packages' "$root/dist/make.py" --copies --compare
@@ -849,6 +855,7 @@ run_group() {
 }
 
 run_group first
+[ ! -s "$all/first/vectors.jsonl" ] || export VECTORS=$all/first/vectors.jsonl
 groups=(texts cmake_and_cpp rust python_and_javascript go_and_release)
 [ "$library" ] || groups+=(programs programs_elsewhere)
 for group in "${groups[@]}"; do

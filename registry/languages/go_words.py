@@ -25,6 +25,7 @@ NUMBERS = {
 }
 """Of what is numbered its type, the receiver of its methods, how its constants begin, and what is said of it."""
 
+
 # ---- names and comments
 
 def camel(name):
