@@ -77,15 +77,8 @@ def read(*path):
 
 
 def version():
-    found = re.search(r'^#define DCSCTP_VERSION "(.*)"', read(LIBRARY, "dcsctp.h").decode(), re.M)
-    return found[1] if found else give_up("dist/dcsctp.h says no version")
-
-
-def version_module():
     found = re.findall(r"^#define DCSCTP_VERSION_(?:MAJOR|MINOR|PATCH) (\d+)$", read(LIBRARY, "dcsctp.h").decode(), re.M)
-    if len(found) != 3:
-        give_up("dist/dcsctp.h doesn't say the version in numbers")
-    return f"VERSION = ({', '.join(found)})\n".encode()
+    return ".".join(found) if len(found) == 3 else give_up("dist/dcsctp.h doesn't say the version in numbers")
 
 
 def metadata():
@@ -153,7 +146,7 @@ def tags(module):
 
 def made():
     """What the package has beside the files in src/."""
-    return {VERSION: version_module(), MODULE: module()}
+    return {VERSION: f"VERSION = ({version().replace('.', ', ')})\n".encode(), MODULE: module()}
 
 
 def write_wheel(folder, files, module):

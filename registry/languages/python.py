@@ -416,8 +416,9 @@ def tables(table):
     for row in rows:
         steps = [f'{{{what}, {size}, {more}, "{name}"}}' for what, size, more, name in c_steps(row, table)]
         size, step, most = c_sizes(row.layout, table)
+        end = f'}}, {len(steps)}}},' if row.level == 'record' else '}},'
         text = wrapped(f'[{names[id(row)]}] = {{"{class_of(row)}", {getattr(row, "number", 0)}, {size}, {step}, {most}, {{'.replace(' ', NO_BREAK),
-                       [*steps, '{END, 0, 0, ""}'], '}},', '    ', '        ')
+                       [*steps, '{END, 0, 0, ""}'], end, '    ', '        ')
         lines.append(text.replace(NO_BREAK, ' '))
     first = [next(row for row in rows if row.level == level) for level in (*LEVELS, 'record')]
     lines += [C_RAW, '/* The first kind of each level. */',

@@ -35,12 +35,13 @@ class Cookies(unittest.TestCase):
     def refused(self, key: bytes, data: bytes, now: int) -> tuple[CookieState, int, str]:
         with self.assertRaises(CookieError) as caught:
             davgyuti.open_cookie(key, data, now)
+        self.assertEqual(caught.exception.cookie, SAYS if caught.exception.code == CookieState.STALE else None)
+        self.assertTrue(isinstance(caught.exception, davgyuti.Error) and isinstance(caught.exception, ValueError))
         return caught.exception.code, caught.exception.staleness, str(caught.exception)
 
     def test_seal(self) -> None:
         self.assertEqual(davgyuti.seal_cookie(KEY, SAYS), SEALED)
         self.assertEqual(SEALED[:32], hmac.digest(KEY, SEALED[32:], "sha256"))
-        self.assertEqual(davgyuti.seal_cookie(bytearray(KEY), SAYS), SEALED)
 
     def test_open(self) -> None:
         # good to the end of its life, and on a clock that was set back
@@ -52,9 +53,6 @@ class Cookies(unittest.TestCase):
         self.assertEqual(self.refused(KEY, SEALED, 61000001), (CookieState.STALE, 1, "stale cookie, for 1 microseconds"))
         code, staleness, _ = self.refused(KEY, SEALED, 2**64 - 1)
         self.assertEqual((code, staleness), (CookieState.STALE, 2**64 - 1 - 61000000))
-        with self.assertRaises(davgyuti.CookieError) as caught:
-            davgyuti.open_cookie(KEY, SEALED, 61000001)
-        self.assertEqual(caught.exception.cookie, davgyuti.open_cookie(KEY, SEALED, 0))
 
     def test_invalid(self) -> None:
         """Cut off, with a byte changed, or under another key."""
@@ -87,12 +85,6 @@ class Cookies(unittest.TestCase):
         for now in (-1, 2**64):
             self.assertRaises(ValueError, davgyuti.open_cookie, KEY, SEALED, now)
 
-    def test_errors(self) -> None:
-        error = CookieError(CookieState.STALE, 5)
-        self.assertIsInstance(error, davgyuti.Error)
-        self.assertIsInstance(error, ValueError)
-        self.assertEqual([it.text for it in CookieState], ["good cookie", "stale cookie", "invalid cookie"])
-
 
 # AUTH, and a DATA chunk after it, by its HMAC identifier; as tests/c/auth.c has them.
 SIGNED = {
@@ -108,14 +100,10 @@ SIZES = {1: 20, 3: 32}
 
 
 class Auth(unittest.TestCase):
-    def test_hmacs(self) -> None:
-        for identifier, data in SIGNED.items():
-            end = 8 + SIZES[identifier]
-            zeroed = data[:8] + bytes(SIZES[identifier]) + data[end:]
-            self.assertEqual(data[8:end], hmac.digest(KEY, zeroed, {1: "sha1", 3: "sha256"}[identifier]))
-
     def test_verify(self) -> None:
-        for data in SIGNED.values():
+        for identifier, data in SIGNED.items():
+            zeroed = data[:8] + bytes(SIZES[identifier]) + data[8 + SIZES[identifier] :]
+            self.assertEqual(data[8 : 8 + SIZES[identifier]], hmac.digest(KEY, zeroed, {1: "sha1", 3: "sha256"}[identifier]))
             self.assertIs(davgyuti.verify_auth(KEY, data), True)
             self.assertIs(davgyuti.verify_auth(KEY[:4], data), False)
             for at in range(len(data)):

@@ -1,37 +1,22 @@
 # SPDX-License-Identifier: Apache-2.0
 """The limits of a packet that is written, and what is refused: nothing is changed then."""
 
+import typing
 import unittest
 from collections.abc import Callable
-from functools import partial
+from dataclasses import MISSING, fields, replace
 from typing import Any
 
 import davgyuti
 from davgyuti import PacketBuilder, Result
 from support import of_hex
+from test_vectors import HINTS, RAW
+
+SHORT = {"stream", "ssn", "outbound_streams", "inbound_streams", "new_streams", "type", "code"}
 
 
 class Number(int):
     pass
-
-
-# Numbers of four bytes are 1 here, and those of two 2.
-INIT = {"initiate_tag": 1, "a_rwnd": 1, "outbound_streams": 2, "inbound_streams": 2, "initial_tsn": 1}
-NUMBERS: list[tuple[Any, dict[str, Any]]] = [
-    (davgyuti.Init, INIT),
-    (davgyuti.InitAck, INIT),
-    (partial(davgyuti.Data, payload=b"a"), {"tsn": 1, "stream": 2, "ssn": 2, "ppid": 1}),
-    (partial(davgyuti.IData, payload=b"a"), {"tsn": 1, "stream": 2, "mid": 1, "ppid": 1, "fsn": 1}),
-    (davgyuti.Sack, {"cumulative_tsn_ack": 1, "a_rwnd": 1}),
-    (davgyuti.Shutdown, {"cumulative_tsn_ack": 1}),
-    (davgyuti.ForwardTsn, {"new_cumulative_tsn": 1}),
-    (davgyuti.RawParameter, {"type": 2}),
-    (davgyuti.RawCause, {"code": 2}),
-    (davgyuti.ZeroChecksumAcceptable, {"method": 1}),
-    (davgyuti.OutgoingSsnReset, {"request_number": 1, "response_number": 1, "last_tsn": 1}),
-    (davgyuti.AddOutgoingStreams, {"request_number": 1, "new_streams": 2}),
-    (davgyuti.NoUserData, {"tsn": 1}),
-]
 
 
 class Limits(unittest.TestCase):
@@ -149,27 +134,19 @@ class Lists(unittest.TestCase):
             builder.add(davgyuti.OperationError((davgyuti.ProtocolViolation(bytes(100)),)))
         with self.assertRaises(davgyuti.NoRoom):
             builder.cookie_echo(bytes(100))
+        with self.assertRaises(ValueError):
+            builder.add(davgyuti.Heartbeat((davgyuti.HeartbeatInfo(b""), davgyuti.RawParameter(65536))))
         error.cause(davgyuti.NoUserData(7))
         self.assertEqual(bytes(builder)[16:], of_hex("09 00 000c  0009 0008 00000007"))
 
-    def test_value_of_a_list_is_all_or_nothing(self) -> None:
-        builder = self.builder()
-        before = bytes(builder)
-        causes = (davgyuti.NoUserData(7), davgyuti.ProtocolViolation(bytes(100)))
-        with self.assertRaises(davgyuti.NoRoom):
-            builder.add(davgyuti.OperationError(causes))
-        with self.assertRaises(ValueError):
-            builder.add(davgyuti.Heartbeat((davgyuti.HeartbeatInfo(b""), davgyuti.RawParameter(65536))))
-        self.assertEqual(bytes(builder), before)
-
 
 class Refused(unittest.TestCase):
-    def refused(self, error: type[Exception], write: Callable[[PacketBuilder], object], text: str = "") -> None:
-        builder = PacketBuilder(1, 2, 3)
-        builder.cookie_ack()
-        self.refused_by(builder, error, write, text)
-
-    def refused_by(self, builder: PacketBuilder, error: type[Exception], write: Callable[[Any], object], text: str = "") -> None:
+    def refused(
+        self, error: type[Exception], write: Callable[[Any], object], text: str = "", builder: PacketBuilder | None = None
+    ) -> None:
+        if builder is None:
+            builder = PacketBuilder(1, 2, 3)
+            builder.cookie_ack()
         before = bytes(builder)
         with self.assertRaises(error) as caught:
             write(builder)
@@ -178,16 +155,19 @@ class Refused(unittest.TestCase):
 
     def test_numbers(self) -> None:
         """Each field of each kind, beside its least and its largest number; the error names it."""
-        for kind, values in NUMBERS:
-            for name, value in values.items():
-                most = 2**32 - 1 if value == 1 else 2**16 - 1
+        values: dict[Any, Any] = {int: 1, bytes: b"a", davgyuti.ReConfigResult: davgyuti.ReConfigResult(0)}
+        for kind in (*HINTS, *RAW.values()):
+            hints = typing.get_type_hints(kind)
+            part = kind(**{it.name: values.get(hints[it.name], ()) for it in fields(kind) if it.default is MISSING})
+            for name in [it.name for it in fields(kind) if hints[it.name] is int]:
+                most = 2 ** (8 if kind is davgyuti.RawChunk else 16 if name in SHORT else 32) - 1
                 for number in (0, most, True, Number(most)):
-                    bytes(kind(**{**values, name: number}))
+                    bytes(replace(part, **{name: number}))
                 for number in (-1, most + 1, 2**64):
                     with self.assertRaisesRegex(ValueError, f"^{name} has to be 0 to {most}, and is {number}$"):
-                        bytes(kind(**{**values, name: number}))
+                        bytes(replace(part, **{name: number}))
                 for wrong in (1.0, None, "1"):
-                    self.assertRaises(TypeError, bytes, kind(**{**values, name: wrong}))
+                    self.assertRaises(TypeError, bytes, replace(part, **{name: wrong}))
         for ports in ((65536, 1, 1), (1, 65536, 1), (1, 1, 2**32), (-1, 1, 1)):
             with self.assertRaises(ValueError):
                 PacketBuilder(*ports)
@@ -229,17 +209,17 @@ class Refused(unittest.TestCase):
         self.assertEqual(davgyuti.Packet(builder.seal()).chunks(), (davgyuti.CookieAck(), davgyuti.Shutdown(7)))
 
     def test_subclasses(self) -> None:
-        class Mine(davgyuti.Shutdown):
-            pass
-
-        self.assertEqual(bytes(Mine(7)), bytes(davgyuti.Shutdown(7)))
+        self.assertEqual(bytes(type("Mine", (davgyuti.Shutdown,), {})(7)), bytes(davgyuti.Shutdown(7)))
 
     def test_not_begun(self) -> None:
         builder = PacketBuilder.__new__(PacketBuilder)
-        self.refused_by(builder, davgyuti.NoRoom, lambda it: it.cookie_ack())
-        self.refused_by(builder, davgyuti.NoRoom, lambda it: it.reset(1, 2, 3))
+        self.refused(davgyuti.NoRoom, lambda it: it.cookie_ack(), builder=builder)
+        self.refused(davgyuti.NoRoom, lambda it: it.reset(1, 2, 3), builder=builder)
 
     def test_values(self) -> None:
+        builder = PacketBuilder(1, 2, 3)
+        builder.abort("zu sp\u00e4t")
+        self.assertEqual(bytes(builder)[16:], b"\0\x0c\0\x0czu sp\xc3\xa4t")
         self.refused(davgyuti.BadValue, lambda it: it.abort(b"\xff"))
         self.refused(davgyuti.BadValue, lambda it: it.abort("\ud800"))
         unknown = davgyuti.ReConfigResponse(0, 7)  # type: ignore[arg-type]
@@ -249,15 +229,7 @@ class Refused(unittest.TestCase):
 
     def test_texts(self) -> None:
         self.refused(davgyuti.NoRoom, lambda it: it.cookie_echo(bytes(65513)), "no room: 65520 bytes more, after 16 of at most 65532")
-        self.refused(davgyuti.BadPlace, lambda it: davgyuti.seal(b""), "fewer than 12 bytes: 0")
-        self.refused(davgyuti.BadPlace, lambda it: davgyuti.set_tag(bytes(11), 1), "fewer than 12 bytes: 11")
         self.refused(TypeError, lambda it: it.cookie_echo("abc"))  # type: ignore[arg-type]
-
-    def test_text_of_a_reason(self) -> None:
-        builder = PacketBuilder(1, 2, 3)
-        builder.abort("zu spät")
-        packet = davgyuti.Packet(builder.seal())
-        self.assertEqual(packet.chunks(), (davgyuti.Abort((davgyuti.UserInitiatedAbort("zu spät".encode()),)),))
 
 
 class Reset(unittest.TestCase):
@@ -273,17 +245,12 @@ class Reset(unittest.TestCase):
         other = davgyuti.PacketBuilder(4, 5, 6)
         other.cookie_ack()
         self.assertEqual(builder.seal(), other.seal())
-        with self.assertRaises(ValueError):
-            builder.reset(65536, 1, 1)
-        self.assertEqual(builder.seal(), other.seal())
 
     def test_header_alone(self) -> None:
         builder = davgyuti.PacketBuilder(1, 2, 3)
         builder.cookie_echo(bytes(3000))
         # (the checksum is in what was sealed alone)
         self.assertEqual((davgyuti.seal(bytes(builder)), bytes(builder)[8:12]), (builder.seal(), bytes(4)))
-        builder.reset(4, 5, 6)
-        self.assertEqual((len(builder), len(builder.seal())), (12, 12))
         for wrong in ((7, 65536, 8), (7, 8, 2**32), (7, "a", 8)):
             builder.reset(7, 8, 9)
             with self.assertRaises((ValueError, TypeError)):

@@ -1,8 +1,8 @@
 # SPDX-License-Identifier: Apache-2.0
 """What a stack needs besides packets: bare chunks, typed values of a type and bytes, checksums of zero."""
 
-import base64
 import unittest
+from dataclasses import replace
 
 import davgyuti
 from davgyuti import Policy, Result
@@ -13,18 +13,12 @@ ALLOWED = Policy(allowed_zero_checksum=True)
 
 
 class Bare(unittest.TestCase):
-    def test_sctp_init(self) -> None:
-        # (of Chromium's SDP; the last parameter has no padding)
-        data = base64.b64decode("AQAAHlWEEnUAUAAA/////0Dg60LAAAAEgAgABoLA")
-        self.assertEqual(data, of_hex("0100001e 55841275 00500000 ffff ffff 40e0eb42 c0000004 80080006 82c0"))
-        extensions = davgyuti.SupportedExtensions(bytes([davgyuti.ChunkType.RE_CONFIG, davgyuti.ChunkType.FORWARD_TSN]))
-        init = davgyuti.Init(
-            0x55841275, 0x500000, 65535, 65535, 0x40E0EB42, (davgyuti.ForwardTsnSupported(), extensions)
-        )
+    def test_offsets(self) -> None:
+        # (an INIT as in SDP, whose last parameter has no padding)
+        data = of_hex("0100001e 55841275 00500000 ffff ffff 40e0eb42 c0000004 80080006 82c0")
         chunk = davgyuti.read_chunk(data)
-        self.assertEqual((chunk, bytes(chunk)), (init, data))
         assert isinstance(chunk, davgyuti.Init)
-        self.assertEqual([chunk.offset, *(it.offset for it in chunk.parameters)], [0, 20, 24])
+        self.assertEqual((bytes(chunk), [chunk.offset, *(it.offset for it in chunk.parameters)]), (data, [0, 20, 24]))
 
     def test_faults(self) -> None:
         for text, code, offset in (
@@ -45,12 +39,10 @@ class Bare(unittest.TestCase):
             self.assertEqual(caught.exception, davgyuti.Fault(code, offset))
         # (a packet has at most 65,535 bytes, and 12 of them before its first chunk)
         self.assertEqual(davgyuti.read_chunk(of_hex("0a 00 fff3") + bytes(65519)), davgyuti.CookieEcho(bytes(65519)))
-        with self.assertRaises(davgyuti.Fault) as caught:
-            davgyuti.read_chunk(of_hex("0a 00 fff4") + bytes(65520))
-        self.assertEqual(caught.exception, davgyuti.Fault(Result.FAULT_SIZE, 65523))
-        with self.assertRaises(davgyuti.Fault) as caught:
-            davgyuti.read_chunk(of_hex("0a 00 ffff") + bytes(65530))
-        self.assertEqual(caught.exception, davgyuti.Fault(Result.FAULT_SIZE, 65523))
+        for data in (of_hex("0a 00 fff4") + bytes(65520), of_hex("0a 00 ffff") + bytes(65530)):
+            with self.assertRaises(davgyuti.Fault) as caught:
+                davgyuti.read_chunk(data)
+            self.assertEqual(caught.exception, davgyuti.Fault(Result.FAULT_SIZE, 65523))
         # Any bytes are a chunk if they are a packet's only one.
         found = 0
         for data in mutated(4000, seed=9):
@@ -67,30 +59,20 @@ class Bare(unittest.TestCase):
 
 class TypedValues(unittest.TestCase):
     def test_values_of_no_kind(self) -> None:
-        for type, value in ((13, b"abc"), (16, of_hex("00000001 00000007")), (0x8001, b"\0"), (0xC000, b"a")):
-            self.assertEqual(davgyuti.parameter(type, value), davgyuti.RawParameter(type, value))
-        for code, value in ((2, of_hex("00000002 0007")), (9, b""), (10, b"a")):
-            self.assertEqual(davgyuti.cause(code, value), davgyuti.RawCause(code, value))
         # (a count of more than there are; what has no room in a value)
         self.assertEqual(davgyuti.cause(2, of_hex("9b49137b")), davgyuti.RawCause(2, of_hex("9b49137b")))
         self.assertEqual(davgyuti.parameter(1, bytes(65532)), davgyuti.RawParameter(1, bytes(65532)))
-        for type in (davgyuti.ChunkType.COOKIE_ECHO, davgyuti.ChunkType.ERROR):
-            self.assertEqual([*davgyuti.chunks(HEADER + bytes((type, 0, 0, 4)))], [davgyuti.RawChunk(type)])
         self.assertEqual(davgyuti.parameter(1), davgyuti.HeartbeatInfo(b""))
         self.assertIsNone(davgyuti.parameter(1, bytearray(b"a")).offset)
         # reserved bytes
         self.assertEqual(davgyuti.parameter(17, of_hex("00000001 0002 ffff")).value, of_hex("00000001 0002 0000"))
         for make in (davgyuti.parameter, davgyuti.cause):
-            with self.assertRaises(ValueError):
-                make(65536)
+            self.assertRaises(ValueError, make, 65536)
 
     def test_flags(self) -> None:
         # RFC 9260 section 3.3.1 and RFC 8260 section 2.1: the bits I, U, B and E, of which E is the lowest.
-        values: list[davgyuti.Data | davgyuti.IData] = [
-            davgyuti.Data(tsn=1, stream=2, ssn=3, ppid=4, payload=b"abc"),
-            davgyuti.IData(tsn=1, stream=2, mid=3, ppid=4, payload=b"abc"),
-        ]
-        for value in values:
+        numbers = {"tsn": 1, "stream": 2, "ppid": 4}
+        for value in (davgyuti.Data(**numbers, ssn=3, payload=b"abc"), davgyuti.IData(**numbers, mid=3, payload=b"abc")):
             self.assertEqual(value.flags, 3)
             for flags in range(16):
                 it = value.with_flags(flags)
@@ -122,8 +104,8 @@ class ZeroChecksums(unittest.TestCase):
             data = HEADER + of_hex(text)
             self.assertEqual(davgyuti.first_fault(data, ALLOWED), wrong)
             self.assertIsNone(davgyuti.first_fault(davgyuti.seal(data), ALLOWED))
-            self.assertIsNone(davgyuti.first_fault(data, Policy(zero_checksum=True, allowed_zero_checksum=True)))
-            self.assertIsNone(davgyuti.first_fault(data, Policy(any_checksum=True, allowed_zero_checksum=True)))
+            for more in ("zero_checksum", "any_checksum"):
+                self.assertIsNone(davgyuti.first_fault(data, replace(ALLOWED, **{more: True})))
             # (a word of 0 is right where the field is)
             self.assertIsNone(davgyuti.first_fault(data, ALLOWED, word=0))
         for text in self.OTHERS:

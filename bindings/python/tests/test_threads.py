@@ -47,20 +47,6 @@ class Threads(unittest.TestCase):
 
         self.assertEqual(at_once(work), [])
 
-    def test_one_builder(self) -> None:
-        builder = davgyuti.PacketBuilder(1, 2, 3)
-
-        def work(number: int) -> None:
-            for _ in range(100):
-                builder.add(davgyuti.OperationError((davgyuti.NoUserData(number), davgyuti.NoUserData(number))))
-
-        self.assertEqual(at_once(work), [])
-        chunks = davgyuti.Packet(builder.seal()).chunks()
-        self.assertEqual(len(chunks), 100 * THREADS)
-        for number in range(THREADS):
-            chunk = davgyuti.OperationError((davgyuti.NoUserData(number), davgyuti.NoUserData(number)))
-            self.assertEqual(chunks.count(chunk), 100)
-
     def test_list_of_one_builder(self) -> None:
         builder, added = davgyuti.PacketBuilder(1, 2, 3), threading.Event()
         begun, kept = threading.Barrier(2), davgyuti.Shutdown(7)

@@ -4,9 +4,10 @@
 import copy
 import pickle
 import unittest
+from functools import partial
 
 import davgyuti
-from support import ANY_CHECKSUM, of_hex, packets
+from support import ANY_CHECKSUM, of_hex
 
 COOKIE_ACK = of_hex("1388 1388 4d2df52d 67db78b5  0b 00 0004")
 
@@ -33,10 +34,6 @@ class Check(unittest.TestCase):
                 function(data, policy)
             self.assertEqual((caught.exception.code, caught.exception.offset), (fault.code, fault.offset))
         return fault.code, fault.offset
-
-    def test_packets(self) -> None:
-        for data in packets()[:15]:
-            self.assertIsNone(self.fault(data))
 
     def test_checksum(self) -> None:
         data = COOKIE_ACK[:8] + bytes(4) + COOKIE_ACK[12:]
@@ -68,29 +65,11 @@ class Check(unittest.TestCase):
                 davgyuti.check(COOKIE_ACK, word=outside)
 
     def test_fault_offset(self) -> None:
-        strict, length = davgyuti.Policy(any_checksum=True, strict_padding=True), davgyuti.Result.FAULT_LENGTH
-        value, padding, size = davgyuti.Result.FAULT_VALUE, davgyuti.Result.FAULT_PADDING, davgyuti.Result.FAULT_SIZE
-        for text, code, offset in (
-            ("", size, 12),
-            (65524 * "00", size, 65535),
-            ("0b000004 03000005", length, 16),
-            ("0600000c 000c0003 00000000", length, 16),
-            ("82000010 0010000c 00000001 00000007", value, 16),
-            ("0a000005 61000100", padding, 18),
-            ("0a000005 6100", padding, 18),
-        ):
-            fault = davgyuti.first_fault(bytes(12) + bytes.fromhex(text), strict)
-            self.assertEqual(fault, davgyuti.Fault(code, offset))
+        # (the vectors have those of all other faults)
+        for size in (12, 65536):
+            fault = davgyuti.Fault(davgyuti.Result.FAULT_SIZE, min(size, 65535))
+            self.assertEqual(davgyuti.first_fault(bytes(size), ANY_CHECKSUM), fault)
         self.assertEqual(davgyuti.first_fault(bytes(8) + b"none" + COOKIE_ACK[12:]), davgyuti.Fault(davgyuti.Result.FAULT_CHECKSUM, 8))
-
-    def test_fault_says_what_and_where(self) -> None:
-        with self.assertRaises(davgyuti.Error) as caught:
-            davgyuti.Packet(b"abc")
-        fault = caught.exception
-        self.assertEqual(str(fault), "not the size of a packet at byte 3")
-        self.assertEqual(fault.text, "not the size of a packet")
-        for again in (pickle.loads(pickle.dumps(fault)), copy.copy(fault)):
-            self.assertEqual((type(again), str(again), again.code, again.offset), (type(fault), str(fault), 1, 3))
 
     def test_kinds_of_bytes(self) -> None:
         for data in (bytearray(COOKIE_ACK), memoryview(COOKIE_ACK), memoryview(COOKIE_ACK * 2)[:16]):
@@ -101,8 +80,7 @@ class Check(unittest.TestCase):
         for wrong in ("abc", 16, None, [1, 2]):
             with self.assertRaises(TypeError):
                 davgyuti.check(wrong)  # type: ignore[arg-type]
-
-    def test_bytes_are_copied(self) -> None:
+        # (they are copied)
         data = bytearray(COOKIE_ACK)
         packet = davgyuti.Packet(data)
         data[:] = bytes(16)
@@ -110,16 +88,6 @@ class Check(unittest.TestCase):
 
 
 class Text(unittest.TestCase):
-    def test_text(self) -> None:
-        expected = "source=5000 destination=5000 tag=1294857517 checksum=1742436533\nCOOKIE-ACK"
-        self.assertEqual(davgyuti.text(COOKIE_ACK), expected)
-        self.assertEqual(davgyuti.Packet(COOKIE_ACK).text(), expected)
-
-    def test_report(self) -> None:
-        expected = "source 5000, destination 5000, tag 0x4d2df52d\nchecksum 0x67db78b5: right\nCOOKIE ACK\n"
-        self.assertEqual(davgyuti.report(COOKIE_ACK), expected)
-        self.assertEqual(davgyuti.Packet(COOKIE_ACK).report(), expected)
-
     def test_long(self) -> None:
         builder = davgyuti.PacketBuilder(1, 2, 3)
         for _ in range(3000):
@@ -127,13 +95,6 @@ class Text(unittest.TestCase):
         data = builder.seal()
         self.assertEqual(davgyuti.text(data).count("\n"), 3000)
         self.assertEqual(davgyuti.report(data).count("\n"), 3002)
-
-    def test_policy_is_kept(self) -> None:
-        data = COOKIE_ACK[:8] + bytes(4) + COOKIE_ACK[12:]
-        packet = davgyuti.Packet(data, ANY_CHECKSUM)
-        self.assertTrue(packet.text().startswith("source=5000"))
-        self.assertEqual(packet.report().splitlines()[1], "checksum 0x00000000: zero")
-        self.assertEqual(packet.canonical(), data)
 
 
 class Canonical(unittest.TestCase):
@@ -145,11 +106,7 @@ class Canonical(unittest.TestCase):
         self.assertEqual(davgyuti.canonical(one), expected)
         self.assertEqual(davgyuti.Packet(other).canonical(), expected)
         self.assertNotEqual(davgyuti.Packet(one), davgyuti.Packet(other))
-
-    def test_padding_is_completed(self) -> None:
-        data = davgyuti.seal(COOKIE_ACK[:12] + of_hex("0a 00 0005  61"))
-        self.assertEqual(len(data), 17)
-        self.assertEqual(len(davgyuti.canonical(data)), 20)
+        self.assertEqual(davgyuti.canonical(davgyuti.seal(one[:17])), expected)  # (padding is completed)
 
     def test_too_long(self) -> None:
         chunk = of_hex("c8 00 fff3") + bytes(65519)
@@ -163,10 +120,7 @@ class Canonical(unittest.TestCase):
 
 class Change(unittest.TestCase):
     def test_seal(self) -> None:
-        data = bytearray(COOKIE_ACK)
-        data[8:12] = b"abcd"
-        self.assertEqual(davgyuti.seal(data), COOKIE_ACK)
-        self.assertEqual(data[8:12], b"abcd")
+        self.assertEqual(davgyuti.seal(bytearray(COOKIE_ACK[:8] + b"abcd" + COOKIE_ACK[12:])), COOKIE_ACK)
 
     def test_set_tag(self) -> None:
         data = davgyuti.set_tag(COOKIE_ACK, 0x01020304)
@@ -177,12 +131,9 @@ class Change(unittest.TestCase):
                 davgyuti.set_tag(COOKIE_ACK, wrong)
 
     def test_too_short(self) -> None:
-        for data in (b"", COOKIE_ACK[:11]):
-            with self.assertRaises(davgyuti.BadPlace) as caught:
-                davgyuti.seal(data)
-            self.assertEqual(caught.exception.code, davgyuti.Result.BAD_PLACE)
-            with self.assertRaises(davgyuti.WriteError):
-                davgyuti.set_tag(data, 1)
+        for size in (0, 11):
+            for change in (davgyuti.seal, partial(davgyuti.set_tag, verification_tag=1)):
+                self.assertRaisesRegex(davgyuti.BadPlace, f"^fewer than 12 bytes: {size}$", change, bytes(size))
         self.assertEqual(len(davgyuti.seal(bytes(12))), 12)
 
 
@@ -191,8 +142,6 @@ class Errors(unittest.TestCase):
         for error in (davgyuti.Fault, davgyuti.TooLong, davgyuti.BadValue, davgyuti.BadPlace):
             self.assertTrue(issubclass(error, davgyuti.Error) and issubclass(error, ValueError), error)
         self.assertTrue(issubclass(davgyuti.NoRoom, davgyuti.WriteError) and issubclass(davgyuti.NoRoom, BufferError))
-        with self.assertRaises(ValueError):
-            davgyuti.Packet(b"")
 
     def test_faults_are_values(self) -> None:
         fault = davgyuti.Fault(davgyuti.Result.FAULT_SIZE, 3)
@@ -200,8 +149,10 @@ class Errors(unittest.TestCase):
         self.assertEqual(davgyuti.first_fault(b"abc"), fault)
         self.assertNotEqual(davgyuti.first_fault(b"ab"), fault)
         self.assertNotEqual(davgyuti.Fault(davgyuti.Result.FAULT_LENGTH, 3), fault)
+        self.assertEqual((str(fault), fault.text), ("not the size of a packet at byte 3", "not the size of a packet"))
         for error in (fault, davgyuti.NoRoom(davgyuti.Result.NO_ROOM, "why")):
-            self.assertEqual(str(pickle.loads(pickle.dumps(error))), str(error))
+            for again in (pickle.loads(pickle.dumps(error)), copy.copy(error)):
+                self.assertEqual((type(again), str(again), vars(again)), (type(error), str(error), vars(error)))
 
     def test_policy(self) -> None:
         with self.assertRaisesRegex(TypeError, "^any_checksum has to be a bool, and is 'no'$"):
@@ -228,6 +179,8 @@ class Value(unittest.TestCase):
     def test_no_checksum_is_computed_where_any_is_accepted(self) -> None:
         packet = davgyuti.Packet(COOKIE_ACK[:8] + bytes(4) + COOKIE_ACK[12:], ANY_CHECKSUM)
         self.assertIsNone(packet._word)
+        # (the policy is kept)
+        self.assertEqual((packet.canonical(), packet.text()[:12]), (bytes(packet), "source=5000 "))
         self.assertEqual((packet.word, packet.report().splitlines()[1]), (0x67DB78B5, "checksum 0x00000000: zero"))
 
     def test_iteration(self) -> None:
@@ -246,20 +199,13 @@ class Value(unittest.TestCase):
         self.assertEqual(davgyuti.Result.OK.__doc__, "The bytes are a packet; what was asked for is written.")
 
     def test_match(self) -> None:
-        match davgyuti.Data(tsn=1, stream=2, ssn=3, ppid=4, payload=b"abc"):
-            case davgyuti.Data(1, 2, 3, 4, payload):
-                self.assertEqual(payload, b"abc")
-            case _:
-                self.fail()
+        self.assertEqual(davgyuti.Data.__match_args__, ("tsn", "stream", "ssn", "ppid", "payload"))
 
     def test_values_have_slots(self) -> None:
-        chunk = davgyuti.Shutdown(7)
-        chunk.cumulative_tsn_ack = 8
-        self.assertEqual(chunk, davgyuti.Shutdown(8))
+        chunk = davgyuti.Shutdown(8)
         chunk.cumulative_tsn_ack = 7
         with self.assertRaises(AttributeError):
             chunk.tsn = 8  # type: ignore[attr-defined]
-        self.assertFalse(hasattr(chunk, "__dict__"))
         self.assertEqual(hash(chunk), hash(davgyuti.Shutdown(7)))
         self.assertEqual(pickle.loads(pickle.dumps(chunk)), chunk)
 

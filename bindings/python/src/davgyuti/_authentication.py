@@ -1,17 +1,17 @@
 # SPDX-License-Identifier: Apache-2.0
 """What is authenticated, under keys of the caller: chunks after AUTH (RFC 4895), and State Cookies (RFC 9260 section 5.1.3)."""
 
-from ctypes import byref, c_uint64, sizeof
+from ctypes import byref, c_uint64
 from dataclasses import dataclass
 from itertools import chain
 
 from . import _header as c
-from ._library import functions, number, sized, written
+from ._library import functions, number, sized, struct_of, written
 from ._numbers import CookieState
 from ._values import Buffer, CookieError
 
-# The fields of a cookie, but for the place of its addresses.
-_NUMBERS = c.Cookie._fields_[:-2]
+# Before the place of a cookie's addresses are its numbers.
+_PLACE = -2
 
 
 def is_listed(chunk_list: Buffer, type: int) -> bool:
@@ -65,12 +65,9 @@ class Cookie:
 def seal_cookie(key: Buffer, cookie: Cookie) -> bytes:
     """Returns a State Cookie with an HMAC over what it says (RFC 9260 section 5.1.3): 72 bytes, and the addresses. Let the key be
     32 random bytes that nobody else knows."""
-    says = c.Cookie()
-    for name, kind, *_ in _NUMBERS:
-        setattr(says, name, number(getattr(cookie, name), 8 * sizeof(kind), name))
     addresses, count = sized(cookie.addresses)
-    room = 72 + len(addresses)
-    return written(functions.dcsctp_seal_cookie, room, *sized(key), byref(says), addresses, count)
+    says = struct_of(c.Cookie, cookie, _PLACE)
+    return written(functions.dcsctp_seal_cookie, 72 + count, *sized(key), byref(says), addresses, count)
 
 
 def open_cookie(key: Buffer, cookie: Buffer, now: int) -> Cookie:
@@ -86,7 +83,7 @@ def open_cookie(key: Buffer, cookie: Buffer, now: int) -> Cookie:
     if state == CookieState.INVALID:
         raise CookieError(CookieState.INVALID)
     start, size = out.addresses_offset, out.addresses_size
-    says = Cookie(**{name: getattr(out, name) for name, *_ in _NUMBERS}, addresses=data[start : start + size])
+    says = Cookie(**{name: getattr(out, name) for name, _ in c.Cookie._fields_[:_PLACE]}, addresses=data[start : start + size])
     if state == CookieState.STALE:
         raise CookieError(CookieState.STALE, staleness.value, says)
     return says

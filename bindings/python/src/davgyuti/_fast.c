@@ -26,6 +26,7 @@ struct layout {
     uint16_t number;
     uint16_t size, step, most; /* a value has `size` bytes, and at most `most` times `step` more; a step of 0: as its counts say */
     struct step steps[MOST_STEPS];
+    uint8_t fields; /* of a record: how many it has */
 };
 #include "_kinds.h"
 
@@ -91,18 +92,10 @@ static inline bool set(const struct state *state, PyObject *slot, PyObject *it, 
     return is_set;
 }
 
-/* How many fields a record has. */
-static Py_ssize_t fields_of(int kind)
-{
-    Py_ssize_t count = 0;
-    while (LAYOUTS[kind].steps[count].what)
-        count++;
-    return count;
-}
-
 /* A record: a tuple of its numbers, after which come its bits. */
-static PyObject *record_at(const struct state *state, int kind, const uint8_t *at, Py_ssize_t count)
+static PyObject *record_at(const struct state *state, int kind, const uint8_t *at)
 {
+    const Py_ssize_t count = LAYOUTS[kind].fields;
     const struct step *const steps = LAYOUTS[kind].steps;
     Py_ssize_t place = 0;
     PyObject *it = PyType_GenericAlloc(state->types[kind], count);
@@ -123,9 +116,8 @@ static PyObject *record_at(const struct state *state, int kind, const uint8_t *a
 static PyObject *list_at(const struct state *state, const struct step *step, const uint8_t *at, size_t count)
 {
     PyObject *list = PyTuple_New((Py_ssize_t)count);
-    const Py_ssize_t fields = step->what == LIST ? 0 : fields_of(step->more);
     for (size_t i = 0; list && i < count; i++, at += step->size) {
-        PyObject *it = fields ? record_at(state, step->more, at, fields) : PyLong_FromUnsignedLong(number_at(at, step->size));
+        PyObject *it = step->what == RECORDS ? record_at(state, step->more, at) : PyLong_FromUnsignedLong(number_at(at, step->size));
         if (!it || PyTuple_SetItem(list, (Py_ssize_t)i, it) < 0)
             Py_CLEAR(list);
     }
@@ -175,7 +167,7 @@ static PyObject *value_at(const struct state *state, int kind, const struct byte
         case HEAD: value = PyLong_FromUnsignedLong(number_at(header + step->more, step->size)); break;
         case REST: value = PyBytes_FromStringAndSize((const char *)from, (Py_ssize_t)(end - at)); break;
         case ITEMS: value = parts_at(state, bytes, at, end, step->more, false, LARGEST_CHUNK); break;
-        case OPTIONAL: value = more ? record_at(state, step->more, from, fields_of(step->more)) : Py_NewRef(Py_None); break;
+        case OPTIONAL: value = more ? record_at(state, step->more, from) : Py_NewRef(Py_None); break;
         case LIST:
         case RECORDS:
             if (counted && !used && !fill(step, counts, more))
@@ -326,9 +318,10 @@ static bool put_bytes(struct out *out, PyObject *object)
     return at;
 }
 
-/* Writes a record of as many fields, which a list has at an index. */
-static bool put_record(const struct state *state, uint8_t *at, PyObject *object, const struct step *list, size_t index, Py_ssize_t count)
+/* Writes a record, which a list has at an index. */
+static bool put_record(const struct state *state, uint8_t *at, PyObject *object, const struct step *list, size_t index)
 {
+    const Py_ssize_t count = LAYOUTS[list->more].fields;
     const struct step *const steps = LAYOUTS[list->more].steps;
     const bool is_plain = Py_TYPE(object) == state->types[list->more] || PyTuple_CheckExact(object);
     PyObject *const fields = is_plain ? object : PySequence_Tuple(object);
@@ -365,7 +358,7 @@ static bool put_list(struct out *out, PyObject *list, const struct step *step, c
     } else if (is_put) {
         uint8_t *at = count > LARGEST_CHUNK ? (uint8_t *)too_long(out->state) : place_for(out, count * step->size);
         is_put = at != NULL;
-        const Py_ssize_t fields = step->what == LIST ? 0 : fields_of(step->more);
+        const Py_ssize_t fields = step->what == LIST ? 0 : LAYOUTS[step->more].fields;
         for (size_t i = 0; is_put && i < count; i++, at += step->size) {
             PyObject *const item = PyTuple_GetItem(items, (Py_ssize_t)i);
             /* (most records are pairs of shorts) */
@@ -376,7 +369,7 @@ static bool put_list(struct out *out, PyObject *list, const struct step *step, c
             if (one >= 0 && other >= 0)
                 put(at, (uint32_t)(one << 16 | other), 4);
             else if (fields)
-                is_put = put_record(out->state, at, item, step, i, fields);
+                is_put = put_record(out->state, at, item, step, i);
             else if (plainly >= 0 || (is_put = index_of(item, most_of(step->size), &number, "", step->name, i)))
                 put(at, number, step->size);
         }
@@ -423,7 +416,7 @@ static bool put_value(struct out *out, PyObject *part, int kind)
         case RESERVED: number = 0; break;
         case REST: is_put = put_bytes(out, value); break;
         case OPTIONAL:
-            is_put = value == Py_None || ((at = place_for(out, step->size)) && put_record(state, at, value, step, 0, fields_of(step->more)));
+            is_put = value == Py_None || ((at = place_for(out, step->size)) && put_record(state, at, value, step, 0));
             break;
         case ITEMS:
         case LIST:
@@ -578,24 +571,26 @@ static bool append(struct builder *it, const struct out *out)
     return true;
 }
 
-/* Adds a chunk, and returns the number by which its list is written after it. */
-static PyObject *builder_list(struct builder *it, PyObject *chunk)
+/* Adds a chunk, to whose list the next number leads. */
+static bool add(struct builder *it, PyObject *chunk)
 {
     struct out out;
     const bool is_added = put_part(begun(&out, it->state), chunk, CHUNK) && append(it, &out);
-    if (is_added) {
-        it->start = it->size - padded(out.size);
-        it->last = ++it->chunks;
-    }
-    return ended(&out, is_added) ? PyLong_FromUnsignedLongLong(it->last) : NULL;
+    if (is_added)
+        it->start = it->size - padded(out.size), it->last = ++it->chunks;
+    return ended(&out, is_added);
+}
+
+static PyObject *builder_list(struct builder *it, PyObject *chunk)
+{
+    return add(it, chunk) ? PyLong_FromUnsignedLongLong(it->last) : NULL;
 }
 
 static PyObject *builder_add(struct builder *it, PyObject *chunk)
 {
-    struct out out;
-    const bool is_added = put_part(begun(&out, it->state), chunk, CHUNK) && append(it, &out);
+    const bool is_added = add(it, chunk);
     it->last = is_added ? 0 : it->last;
-    return ended(&out, is_added) ? Py_NewRef(Py_None) : NULL;
+    return is_added ? Py_NewRef(Py_None) : NULL;
 }
 
 /* Where the chunk with a number begins, which has to be the last one; 0 where it isn't any more, or with an exception. */

@@ -42,6 +42,11 @@ def number(value: int, bits: int, name: str) -> int:
     return index
 
 
+def struct_of(kind: Any, it: Any, end: int | None = None) -> Any:
+    """A struct of C with the numbers that an object has by the same names."""
+    return kind(*[number(getattr(it, name), 8 * ctypes.sizeof(form), name) for name, form in kind._fields_[:end]])
+
+
 def array(kind: Any, items: Sequence[Any]) -> tuple[Any, int]:
     """The two arguments of C for a list."""
     return ((kind * len(items))(*items) if items else None), len(items)

@@ -6,7 +6,7 @@ from typing import Any
 
 from . import _header as c
 from ._kinds import Init
-from ._library import functions, number, sized, written
+from ._library import functions, number, sized, struct_of, written
 from ._numbers import Action, Answer, InitFault, Refusal, Rule, TagVerdict
 from ._values import Buffer, Header
 from ._writing import listed, seal
@@ -101,10 +101,4 @@ def broken_rules(data: Buffer, *, refuses_zero: bool = False, has_data: bool = F
 
 def _sealed(function: Any, room: int, header: Header, *arguments: int) -> bytes:
     """What a function writes to the sender of a packet with this header, with its CRC32c."""
-    received = c.Header(
-        number(header.source_port, 16, "source_port"),
-        number(header.destination_port, 16, "destination_port"),
-        number(header.verification_tag, 32, "verification_tag"),
-        number(header.checksum, 32, "checksum"),
-    )
-    return seal(written(function, room, byref(received), *arguments))
+    return seal(written(function, room, byref(struct_of(c.Header, header)), *arguments))
