@@ -2,7 +2,7 @@
 //! What is authenticated, under keys of the caller: chunks after AUTH (RFC 4895), and State Cookies
 //! (RFC 9260 section 5.1.3).
 
-use crate::error::{CookieError, WriteError};
+use crate::error::{CookieError, WriteError, call};
 use crate::ffi;
 use crate::types::ChunkType;
 
@@ -20,8 +20,7 @@ use crate::types::ChunkType;
 #[doc(alias = "dcsctp_is_listed")]
 #[must_use]
 pub fn is_listed(chunk_list: &[u8], chunk_type: ChunkType) -> bool {
-    // SAFETY: `chunk_list` is a slice.
-    unsafe { ffi::dcsctp_is_listed(chunk_list.as_ptr(), chunk_list.len(), chunk_type.0) }
+    call!(dcsctp_is_listed, [chunk_list], chunk_type.0)
 }
 
 /// Writes an association shared key to the front of `output`, and returns it (RFC 4895 section
@@ -46,22 +45,9 @@ pub fn shared_key<'a>(
     one: &[u8],
     other: &[u8],
 ) -> Result<&'a mut [u8], WriteError> {
-    let (front, room, mut size) = (output.as_mut_ptr(), output.len(), 0);
-    // SAFETY: each pointer with a length is of a slice, and `size` a value here. The output is
-    // borrowed mutably, so nothing overlaps it.
-    WriteError::check(unsafe {
-        ffi::dcsctp_shared_key(
-            front,
-            room,
-            &raw mut size,
-            pair_key.as_ptr(),
-            pair_key.len(),
-            one.as_ptr(),
-            one.len(),
-            other.as_ptr(),
-            other.len(),
-        )
-    })?;
+    let mut size = 0;
+    let at = &raw mut size;
+    WriteError::check(call!(dcsctp_shared_key, mut [output], at, [pair_key], [one], [other]))?;
     Ok(&mut output[..size])
 }
 
@@ -92,8 +78,7 @@ pub fn shared_key<'a>(
 #[doc(alias = "dcsctp_verify_auth")]
 #[must_use]
 pub fn verify_auth(key: &[u8], bytes: &[u8]) -> bool {
-    // SAFETY: both are slices.
-    unsafe { ffi::dcsctp_verify_auth(key.as_ptr(), key.len(), bytes.as_ptr(), bytes.len()) }
+    call!(dcsctp_verify_auth, [key], [bytes])
 }
 
 /// Writes the HMAC into an AUTH chunk, whose field has to be as long, under an association shared
@@ -108,9 +93,7 @@ pub fn verify_auth(key: &[u8], bytes: &[u8]) -> bool {
 /// HMAC is.
 #[doc(alias = "dcsctp_sign_auth")]
 pub fn sign_auth(key: &[u8], bytes: &mut [u8]) -> Result<(), WriteError> {
-    let (front, length) = (bytes.as_mut_ptr(), bytes.len());
-    // SAFETY: both are slices; `bytes` is borrowed mutably, so `key` doesn't overlap it.
-    let is_signed = unsafe { ffi::dcsctp_sign_auth(key.as_ptr(), key.len(), front, length) };
+    let is_signed = call!(dcsctp_sign_auth, [key], mut [bytes]);
     if is_signed { Ok(()) } else { Err(WriteError::BadPlace) }
 }
 
@@ -186,21 +169,9 @@ pub fn seal_cookie<'a>(
     cookie: &Cookie,
 ) -> Result<&'a mut [u8], WriteError> {
     let says = same_numbers!(ffi::Cookie, cookie, ..ffi::Cookie::default());
-    let (front, room, mut size) = (output.as_mut_ptr(), output.len(), 0);
-    // SAFETY: each pointer with a length is of a slice, and `size` and `says` are values here. The
-    // output is borrowed mutably, so nothing overlaps it.
-    WriteError::check(unsafe {
-        ffi::dcsctp_seal_cookie(
-            front,
-            room,
-            &raw mut size,
-            key.as_ptr(),
-            key.len(),
-            &raw const says,
-            cookie.addresses.as_ptr(),
-            cookie.addresses.len(),
-        )
-    })?;
+    let (mut size, says, addresses) = (0, &raw const says, cookie.addresses);
+    let at = &raw mut size;
+    WriteError::check(call!(dcsctp_seal_cookie, mut [output], at, [key], says, [addresses]))?;
     Ok(&mut output[..size])
 }
 
@@ -217,19 +188,8 @@ pub fn seal_cookie<'a>(
 #[doc(alias = "dcsctp_open_cookie")]
 pub fn open_cookie<'a>(key: &[u8], bytes: &'a [u8], now: u64) -> Result<Cookie<'a>, CookieError> {
     let (mut says, mut staleness) = (ffi::Cookie::default(), 0);
-    // SAFETY: `key` and `bytes` are slices, and `says` and `staleness` values here.
-    let state = unsafe {
-        ffi::dcsctp_open_cookie(
-            key.as_ptr(),
-            key.len(),
-            bytes.as_ptr(),
-            bytes.len(),
-            now,
-            &raw mut says,
-            &raw mut staleness,
-        )
-    };
-    match state {
+    let (at, late) = (&raw mut says, &raw mut staleness);
+    match call!(dcsctp_open_cookie, [key], [bytes], now, at, late) {
         0 => {
             let addresses = &bytes[says.addresses_offset..][..says.addresses_size];
             Ok(same_numbers!(Cookie, says, addresses))

@@ -3,7 +3,6 @@
 
 use crate::chunk::{Chunk, Chunks, FIRST_CHUNK, HEADER};
 use crate::error::WriteError;
-use crate::ffi;
 use crate::items::Parameters;
 use crate::packet::seal;
 use crate::registered::{RegisteredChunk, RegisteredParameter};
@@ -64,13 +63,9 @@ pub struct PacketBuilder<'a> {
 
 /// Calls a function that adds to a packet: the packet's arguments come first.
 macro_rules! add {
-    ($packet:expr, $function:ident $(, $argument:expr)*) => {{
-        let (front, room) = ($packet.buffer.as_mut_ptr(), $packet.buffer.len());
-        // SAFETY: `buffer` and each pointer with a length are of slices, and `size` and each other
-        // pointer are references. The buffer is borrowed mutably, so nothing overlaps it.
-        WriteError::check(unsafe {
-            ffi::$function(front, room, &raw mut $packet.size $(, $argument)*)
-        })
+    ($packet:expr, $function:ident, $($rest:tt)*) => {{
+        let (buffer, size) = (&mut *$packet.buffer, &raw mut $packet.size);
+        WriteError::check(crate::error::call!($function, mut [buffer], size, $($rest)*))
     }};
 }
 pub(crate) use add;
@@ -374,14 +369,13 @@ impl<'a> PacketBuilder<'a> {
         bytes: &[u8],
         known: &[ChunkType],
     ) -> Result<Option<usize>, WriteError> {
-        let (start, first, count, mut end) = (self.size, bytes.as_ptr(), bytes.len(), 0);
         // `ChunkType` is `#[repr(transparent)]`: the types lie there as bytes.
-        let (types, types_count) = (known.as_ptr().cast(), known.len());
-        add!(self, dcsctp_add_unrecognized_chunks, first, count, types, types_count, &raw mut end)?;
+        let (start, types, count, mut end) = (self.size, known.as_ptr().cast(), known.len(), 0);
+        add!(self, dcsctp_add_unrecognized_chunks, [bytes], types, count, &raw mut end)?;
         if self.size > start {
             self.last = start;
         }
-        Ok((end < count).then_some(end))
+        Ok((end < bytes.len()).then_some(end))
     }
 
     /// Adds an ERROR with a cause Unrecognized Parameters (RFC 9260 section 3.3.10.8) for each
@@ -412,22 +406,14 @@ impl<'a> PacketBuilder<'a> {
         known: &[ParameterType],
     ) -> Result<Option<usize>, WriteError> {
         let (list, offset) = parameters.placed();
-        let (start, first, count, mut end) = (self.size, list.as_ptr(), list.len(), 0);
         // `ParameterType` is `#[repr(transparent)]`: the types lie there as numbers of two bytes.
-        let (types, types_count) = (known.as_ptr().cast(), known.len());
-        add!(
-            self,
-            dcsctp_add_unrecognized_parameters_error,
-            first,
-            count,
-            types,
-            types_count,
-            &raw mut end
-        )?;
+        let (start, types, count, mut end) = (self.size, known.as_ptr().cast(), known.len(), 0);
+        let stop = &raw mut end;
+        add!(self, dcsctp_add_unrecognized_parameters_error, [list], types, count, stop)?;
         if self.size > start {
             self.last = start;
         }
-        Ok((end < count).then_some(offset + end))
+        Ok((end < list.len()).then_some(offset + end))
     }
 
     /// Adds a chunk of the rest of IANA's registry by its fields, without flags, and zeros in what is
@@ -444,9 +430,8 @@ impl<'a> PacketBuilder<'a> {
         let (raw, number) = (chunk.raw(), chunk.chunk_type().0);
         self.all_or_nothing(|packet| {
             let (fields, bytes, list) = raw.parts();
-            let (first, count) = (bytes.as_ptr(), bytes.len());
             let (start, fields) = (packet.size, &raw const fields);
-            add!(packet, dcsctp_add_registered_chunk, number, fields, first, count)?;
+            add!(packet, dcsctp_add_registered_chunk, number, fields, [bytes])?;
             packet.last = start;
             // (those after an address, which C would ask for in one slice with it)
             let mut list = Parameters::of(list);
@@ -544,20 +529,12 @@ impl ChunkBuilder<'_, '_> {
         known: &[ParameterType],
     ) -> Result<Option<usize>, WriteError> {
         let (list, offset) = parameters.placed();
-        let ((first, count), mut end) = ((list.as_ptr(), list.len()), 0);
         // `ParameterType` is `#[repr(transparent)]`: the types lie there as numbers of two bytes.
-        let (types, types_count) = (known.as_ptr().cast(), known.len());
-        add!(
-            self.packet,
-            dcsctp_add_unrecognized_parameters,
-            self.packet.last,
-            first,
-            count,
-            types,
-            types_count,
-            &raw mut end
-        )?;
-        Ok((end < count).then_some(offset + end))
+        let (types, count, mut end) = (known.as_ptr().cast(), known.len(), 0);
+        let (packet, stop) = (&mut *self.packet, &raw mut end);
+        let start = packet.last;
+        add!(packet, dcsctp_add_unrecognized_parameters, start, [list], types, count, stop)?;
+        Ok((end < list.len()).then_some(offset + end))
     }
 
     /// Adds to an ABORT the cause Restart of an Association with New Addresses (RFC 9260 section
@@ -584,10 +561,8 @@ impl ChunkBuilder<'_, '_> {
         known: &[u8],
     ) -> Result<&mut Self, WriteError> {
         let (list, _) = parameters.placed();
-        let ((first, count), (bytes, size)) =
-            ((list.as_ptr(), list.len()), (known.as_ptr(), known.len()));
         let start = self.packet.last;
-        add!(self.packet, dcsctp_add_new_addresses, start, first, count, bytes, size)?;
+        add!(self.packet, dcsctp_add_new_addresses, start, [list], [known])?;
         Ok(self)
     }
 

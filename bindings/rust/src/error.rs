@@ -5,6 +5,27 @@ pub use crate::returned::{FaultKind, WriteError};
 use core::error::Error;
 use core::fmt;
 
+/// Calls a function of C. Of a slice in brackets it takes the pointer and the length, as of all others
+/// what is passed: a number, or a pointer to a value that is there.
+macro_rules! call {
+    (@ $function:ident [$($done:expr),*]) => {
+        // SAFETY: a pointer with a length is of a slice, and another of a value of the caller. What is
+        // written is borrowed mutably, so nothing overlaps it.
+        unsafe { crate::ffi::$function($($done),*) }
+    };
+    (@ $function:ident [$($done:expr),*] mut [$it:expr] $(, $($rest:tt)*)?) => {
+        crate::error::call!(@ $function [$($done,)* $it.as_mut_ptr(), $it.len()] $($($rest)*)?)
+    };
+    (@ $function:ident [$($done:expr),*] [$it:expr] $(, $($rest:tt)*)?) => {
+        crate::error::call!(@ $function [$($done,)* $it.as_ptr(), $it.len()] $($($rest)*)?)
+    };
+    (@ $function:ident [$($done:expr),*] $it:expr $(, $($rest:tt)*)?) => {
+        crate::error::call!(@ $function [$($done,)* $it] $($($rest)*)?)
+    };
+    ($function:ident, $($rest:tt)*) => { crate::error::call!(@ $function [] $($rest)*) };
+}
+pub(crate) use call;
+
 impl FaultKind {
     /// The kind of a code that a check returned; none for 0.
     #[inline]

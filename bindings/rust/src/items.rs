@@ -6,7 +6,6 @@ use crate::builder::{ChunkBuilder, PacketBuilder, add};
 use crate::chunk::{Chunk, FIRST_CHUNK, read, same_bytes};
 use crate::debug::list_of_items;
 use crate::error::WriteError;
-use crate::ffi;
 use crate::list::{Item, Items};
 use crate::registered::{RegisteredCause, RegisteredParameter};
 use crate::types::{CauseCode, ParameterType};

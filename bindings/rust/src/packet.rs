@@ -2,7 +2,7 @@
 //! Whole packets.
 
 use crate::chunk::{Chunk, Chunks, same_bytes};
-use crate::error::{Fault, FaultKind, OutputError, WriteError};
+use crate::error::{Fault, FaultKind, OutputError, WriteError, call};
 use crate::ffi;
 use crate::kinds::{GapAckBlock, TAG_REFLECTED};
 use crate::types::ChunkType;
@@ -24,8 +24,7 @@ use alloc::{string::String, vec::Vec};
 #[doc(alias = "dcsctp_word")]
 #[must_use]
 pub fn word(bytes: &[u8]) -> u32 {
-    // SAFETY: `bytes` is a slice.
-    unsafe { ffi::dcsctp_word(bytes.as_ptr(), bytes.len()) }
+    call!(dcsctp_word, [bytes])
 }
 
 /// Returns whether a packet has to have its CRC32c also where a checksum of zero was negotiated (RFC
@@ -91,10 +90,8 @@ fn raw_policy(policy: Policy, bytes: &[u8]) -> ffi::Policy {
 #[doc(alias = "dcsctp_check")]
 #[inline]
 pub fn check(bytes: &[u8], word: u32, policy: Policy) -> Result<(), FaultKind> {
-    let (start, length) = (bytes.as_ptr(), bytes.len());
     let policy = raw_policy(policy, bytes);
-    // SAFETY: `bytes` is a slice, and `policy` is a value here.
-    let code = unsafe { ffi::dcsctp_check(start, length, word, &raw const policy) };
+    let code = call!(dcsctp_check, [bytes], word, &raw const policy);
     FaultKind::of(code).map_or(Ok(()), Err)
 }
 
@@ -104,10 +101,8 @@ pub fn check(bytes: &[u8], word: u32, policy: Policy) -> Result<(), FaultKind> {
 #[must_use]
 pub fn first_fault(bytes: &[u8], word: u32, policy: Policy) -> Option<Fault> {
     let (mut offset, policy) = (0, raw_policy(policy, bytes));
-    let (start, length) = (bytes.as_ptr(), bytes.len());
     let (policy, offset_at) = (&raw const policy, &raw mut offset);
-    // SAFETY: `bytes` is a slice, and `policy` and `offset` are values here.
-    let code = unsafe { ffi::dcsctp_first_fault(start, length, word, policy, offset_at) };
+    let code = call!(dcsctp_first_fault, [bytes], word, policy, offset_at);
     FaultKind::of(code).map(|kind| Fault { kind, offset })
 }
 
@@ -118,8 +113,7 @@ pub fn first_fault(bytes: &[u8], word: u32, policy: Policy) -> Option<Fault> {
 /// [`WriteError::BadPlace`], and nothing changes, for fewer than 12 bytes.
 #[doc(alias = "dcsctp_seal")]
 pub fn seal(packet: &mut [u8]) -> Result<(), WriteError> {
-    // SAFETY: `packet` is a slice.
-    WriteError::check(unsafe { ffi::dcsctp_seal(packet.as_mut_ptr(), packet.len()) })
+    WriteError::check(call!(dcsctp_seal, mut [packet]))
 }
 
 /// Writes the verification tag of a packet (RFC 9260 section 3.1); all other bytes stay. The packet
@@ -129,9 +123,7 @@ pub fn seal(packet: &mut [u8]) -> Result<(), WriteError> {
 /// [`WriteError::BadPlace`], and nothing changes, for fewer than 12 bytes.
 #[doc(alias = "dcsctp_set_tag")]
 pub fn set_tag(packet: &mut [u8], verification_tag: u32) -> Result<(), WriteError> {
-    let (start, length) = (packet.as_mut_ptr(), packet.len());
-    // SAFETY: `packet` is a slice.
-    WriteError::check(unsafe { ffi::dcsctp_set_tag(start, length, verification_tag) })
+    WriteError::check(call!(dcsctp_set_tag, mut [packet], verification_tag))
 }
 
 /// Brings gap ack blocks of a SACK that is to be sent into order (RFC 9260 section 3.3.4), joins

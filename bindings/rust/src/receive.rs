@@ -1,6 +1,7 @@
 // SPDX-License-Identifier: Apache-2.0
 //! What RFC 9260 asks of whoever receives a packet, before an association's state matters.
 
+use crate::error::call;
 use crate::ffi;
 use crate::items::Parameters;
 use crate::returned::{Action, Answer, InitFault, Refusal, TagVerdict};
@@ -49,8 +50,7 @@ pub struct Association {
 #[doc(alias = "dcsctp_unrecognized_chunk")]
 #[must_use]
 pub fn unrecognized_chunk(chunk_type: ChunkType) -> Action {
-    // SAFETY: it takes a number.
-    case(Action::of_number(unsafe { ffi::dcsctp_unrecognized_chunk(chunk_type.0) }))
+    case(Action::of_number(call!(dcsctp_unrecognized_chunk, chunk_type.0)))
 }
 
 /// Returns what is done with a parameter of a type that your program doesn't know, by the type's two
@@ -58,8 +58,7 @@ pub fn unrecognized_chunk(chunk_type: ChunkType) -> Action {
 #[doc(alias = "dcsctp_unrecognized_parameter")]
 #[must_use]
 pub fn unrecognized_parameter(parameter_type: ParameterType) -> Action {
-    // SAFETY: it takes a number.
-    case(Action::of_number(unsafe { ffi::dcsctp_unrecognized_parameter(parameter_type.0) }))
+    case(Action::of_number(call!(dcsctp_unrecognized_parameter, parameter_type.0)))
 }
 
 /// Returns what is done with a packet of an association, by its verification tag (RFC 9260 sections
@@ -88,9 +87,7 @@ pub fn verify_tag(bytes: &[u8], association: &Association) -> TagVerdict {
         has_peer_tag: association.peer_tag.is_some(),
         awaits_cookie: association.awaits_cookie,
     };
-    let (start, length) = (bytes.as_ptr(), bytes.len());
-    // SAFETY: `bytes` is a slice, and `known` a value here.
-    case(TagVerdict::of_number(unsafe { ffi::dcsctp_verify_tag(start, length, &raw const known) }))
+    case(TagVerdict::of_number(call!(dcsctp_verify_tag, [bytes], &raw const known)))
 }
 
 /// Returns what is done with a packet that belongs to no association (RFC 9260 section 8.4); looks
@@ -108,10 +105,7 @@ pub fn verify_tag(bytes: &[u8], association: &Association) -> TagVerdict {
 #[doc(alias = "dcsctp_out_of_the_blue")]
 #[must_use]
 pub fn out_of_the_blue(bytes: &[u8], is_unicast: bool) -> Answer {
-    // SAFETY: `bytes` is a slice.
-    case(Answer::of_number(unsafe {
-        ffi::dcsctp_out_of_the_blue(bytes.as_ptr(), bytes.len(), is_unicast)
-    }))
+    case(Answer::of_number(call!(dcsctp_out_of_the_blue, [bytes], is_unicast)))
 }
 
 /// Returns what is wrong with a packet that carries INIT (RFC 9260 section 3.3.2), or INIT ACK
@@ -131,8 +125,7 @@ pub fn out_of_the_blue(bytes: &[u8], is_unicast: bool) -> Answer {
 #[doc(alias = "dcsctp_init_fault")]
 #[must_use]
 pub fn init_fault(bytes: &[u8], is_ack: bool) -> Option<InitFault> {
-    // SAFETY: `bytes` is a slice.
-    let number = unsafe { ffi::dcsctp_init_fault(bytes.as_ptr(), bytes.len(), is_ack) };
+    let number = call!(dcsctp_init_fault, [bytes], is_ack);
     (number != 0).then(|| case(InitFault::of_number(number)))
 }
 
@@ -151,8 +144,7 @@ pub fn init_fault(bytes: &[u8], is_ack: bool) -> Option<InitFault> {
 #[must_use]
 pub fn init_refusal(fault: InitFault, is_ack: bool, in_cookie_wait: bool) -> Refusal {
     let number = fault.number();
-    // SAFETY: it takes numbers, and bools that are Rust's.
-    case(Refusal::of_number(unsafe { ffi::dcsctp_init_refusal(number, is_ack, in_cookie_wait) }))
+    case(Refusal::of_number(call!(dcsctp_init_refusal, number, is_ack, in_cookie_wait)))
 }
 
 /// Returns whether an INIT adds addresses to an association that is there already (RFC 9260 section
@@ -179,8 +171,5 @@ pub fn init_refusal(fault: InitFault, is_ack: bool, in_cookie_wait: bool) -> Ref
 #[must_use]
 pub fn adds_addresses(parameters: &Parameters, known: &[u8]) -> bool {
     let (list, _) = parameters.placed();
-    let ((first, count), (start, length)) =
-        ((list.as_ptr(), list.len()), (known.as_ptr(), known.len()));
-    // SAFETY: `list` and `known` are slices.
-    unsafe { ffi::dcsctp_adds_addresses(first, count, start, length) }
+    call!(dcsctp_adds_addresses, [list], [known])
 }

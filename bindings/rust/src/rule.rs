@@ -1,6 +1,7 @@
 // SPDX-License-Identifier: Apache-2.0
 //! Which rules a packet breaks.
 
+use crate::error::call;
 use crate::ffi;
 use crate::rules::Rule;
 use core::fmt;
@@ -102,12 +103,10 @@ pub struct Known {
 #[doc(alias = "dcsctp_broken_rules")]
 #[must_use]
 pub fn broken_rules(bytes: &[u8], known: &Known) -> Rules {
-    let (start, length) = (bytes.as_ptr(), bytes.len());
     let known = ffi::Known {
         refuses_zero: known.refuses_zero,
         has_data: known.has_data,
         has_i_data: known.has_i_data,
     };
-    // SAFETY: `bytes` is a slice, and `known` a value here.
-    Rules(unsafe { ffi::dcsctp_broken_rules(start, length, &raw const known) })
+    Rules(call!(dcsctp_broken_rules, [bytes], &raw const known))
 }

@@ -7,8 +7,7 @@ mod common;
 
 use common::bytes;
 use davgyuti::{
-    ChunkType, Cookie, CookieError, WriteError, is_listed, open_cookie, seal_cookie, shared_key,
-    sign_auth, verify_auth,
+    Cookie, CookieError, WriteError, open_cookie, seal_cookie, shared_key, sign_auth, verify_auth,
 };
 
 const KEY: &[u8] = b"a key";
@@ -57,86 +56,47 @@ fn cookies_are_opened() {
     }
 }
 
-/// AUTH, and a DATA chunk after it: with HMAC-SHA-1, and with HMAC-SHA-256.
+/// AUTH with HMAC-SHA-1 and with HMAC-SHA-256, the size of the HMAC, and a DATA chunk after it.
 const SIGNED: [(&str, usize); 2] = [
-    (
-        "0f00001c 00000001 c7495116c0ef32e9165201fbb044c4bb612e9d0e
-        00030014 00000001 00020003 00000033 61620000",
-        20,
-    ),
-    (
-        "0f000028 00000003 e95e27d95bf24d454ec42d0f7ae79c824a09c532620996ed19b3d3a3d9ec3d35
-        00030014 00000001 00020003 00000033 61620000",
-        32,
-    ),
+    ("0f00001c 00000001 c7495116c0ef32e9165201fbb044c4bb612e9d0e", 20),
+    ("0f000028 00000003 e95e27d95bf24d454ec42d0f7ae79c824a09c532620996ed19b3d3a3d9ec3d35", 32),
 ];
+const DATA: &str = "00030014 00000001 00020003 00000033 61620000";
 
 #[test]
-fn auth_is_verified() {
-    for (digits, _) in SIGNED {
-        let mut signed = bytes(digits);
+fn auth_is_verified_and_signed() {
+    for (auth, size) in SIGNED {
+        let mut signed = bytes(&(auth.to_string() + DATA));
         assert!(verify_auth(KEY, &signed) && !verify_auth(&KEY[..4], &signed));
+        let mut written = signed.clone();
+        written[8..8 + size].fill(0xa5);
+        assert_eq!(sign_auth(KEY, &mut written), Ok(()));
+        assert_eq!(written, signed);
+        assert_eq!(sign_auth(KEY, &mut written[..7 + size]), Err(WriteError::BadPlace));
         for at in 0..signed.len() {
-            signed[at] ^= 1;
+            signed[at] ^= 4;
             assert!(!verify_auth(KEY, &signed), "{at}");
-            signed[at] ^= 1;
+            // No AUTH, another length, another identifier: nothing is written.
+            if [0, 3, 7].contains(&at) {
+                let before = signed.clone();
+                assert_eq!(sign_auth(KEY, &mut signed), Err(WriteError::BadPlace));
+                assert_eq!(signed, before);
+            }
+            signed[at] ^= 4;
             assert!(!verify_auth(KEY, &signed[..at]), "{at}");
         }
     }
 }
 
-#[test]
-fn auth_is_signed() {
-    for (digits, size) in SIGNED {
-        let signed = bytes(digits);
-        let mut written = signed.clone();
-        written[8..8 + size].fill(0xa5);
-        assert!(!verify_auth(KEY, &written));
-        assert_eq!(sign_auth(KEY, &mut written), Ok(()));
-        assert_eq!(written, signed);
-        // No AUTH, another length, another identifier: nothing is written.
-        for at in [0, 3, 7] {
-            let mut changed = signed.clone();
-            changed[at] ^= 4;
-            let before = changed.clone();
-            assert_eq!(sign_auth(KEY, &mut changed), Err(WriteError::BadPlace));
-            assert_eq!(changed, before);
-        }
-        assert_eq!(sign_auth(KEY, &mut written[..7 + size]), Err(WriteError::BadPlace));
-    }
-    assert_eq!(sign_auth(b"", &mut []), Err(WriteError::BadPlace));
-}
-
-/// RFC 4895 section 3.2.
-#[test]
-fn types_are_listed() {
-    let list = [0xc1, 0x80, 1, 2, 14, 15];
-    for number in 0..=255 {
-        let expected = number == 0xc1 || number == 0x80;
-        assert_eq!(is_listed(&list, ChunkType(number)), expected);
-    }
-    assert!(!is_listed(&[], ChunkType::ASCONF));
-}
-
 /// RFC 4895 section 6.1: the smaller number first; of two that are equal, the shorter.
 #[test]
 fn keys_are_shared() {
-    for (one, other, expected) in [
-        ("0102", "0103", "70 0102 0103"),
-        ("0103", "02", "70 02 0103"),
-        ("0005", "05", "70 05 0005"),
-        ("000101", "0102", "70 000101 0102"),
-        ("07", "07", "70 07 07"),
-    ] {
-        let (one, other, expected) = (bytes(one), bytes(other), bytes(expected));
-        for (first, second) in [(&one, &other), (&other, &one)] {
-            let mut output = [0x5a; 8];
-            let small = &mut output[..expected.len() - 1];
-            assert_eq!(shared_key(small, b"p", first, second), Err(WriteError::NoRoom));
-            assert_eq!(output, [0x5a; 8]);
-            assert_eq!(shared_key(&mut output, b"p", first, second).unwrap(), expected);
-            assert!(output[expected.len()..].iter().all(|&it| it == 0x5a));
-        }
+    let (one, other, expected) = (bytes("000101"), bytes("0102"), bytes("70 000101 0102"));
+    for (first, second) in [(&one, &other), (&other, &one)] {
+        let mut output = [0x5a; 8];
+        assert_eq!(shared_key(&mut output[..5], b"p", first, second), Err(WriteError::NoRoom));
+        assert_eq!(output, [0x5a; 8]);
+        assert_eq!(shared_key(&mut output, b"p", first, second).unwrap(), expected);
+        assert_eq!(output[6..], [0x5a; 2]);
     }
-    assert_eq!(shared_key(&mut [], b"", b"", b"").unwrap(), b"");
 }

@@ -71,31 +71,6 @@ fn chunks_of_any_bytes() {
     assert!(Chunk::at(&packet, usize::MAX).is_none());
 }
 
-/// In bytes that weren't checked a chunk may be what its type doesn't allow: shorter or longer than
-/// RFC 9260 section 3.3 has it, or RFC 3758 and RFC 8260.
-#[test]
-fn contents_of_any_bytes() {
-    for chunk in [
-        "0000000f 00000000 00000000 000000",
-        "01000013 00000000 00000000 00000000 000000",
-        "0300000f 00000000 00000000 000000",
-        "07000004",
-        "07000009 00000000 00",
-        "08000005 00",
-        "0b000008 00000000",
-        "09000004",
-        "0a000004",
-        "0e010005 00",
-        "40000013 00000000 00000000 00000000 000000",
-        "c000000a 00000000 0000",
-        "c200000c 00000000 00000000",
-    ] {
-        let packet = packet(chunk);
-        assert!(Packet::parse(&packet).is_err(), "{chunk}");
-        assert!(matches!(Chunk::at(&packet, 12).unwrap().content(), Content::Other), "{chunk}");
-    }
-}
-
 #[cfg(feature = "alloc")]
 #[test]
 fn texts() {
@@ -204,21 +179,6 @@ fn places() {
     let mut long = vec![0; 70_000];
     assert!(PacketBuilder::resume(&mut long, MAX_PACKET).is_ok());
     assert!(PacketBuilder::resume(&mut long, MAX_PACKET + 4).is_err());
-}
-
-#[test]
-fn blocks_are_cleaned() {
-    let new = |(start, end)| GapAckBlock::new(start, end);
-    for (blocks, cleaned) in [
-        (vec![], vec![]),
-        (vec![(5, 6), (2, 3)], vec![(2, 3), (5, 6)]),
-        (vec![(5, 6), (2, 4)], vec![(2, 6)]),
-        (vec![(9, 9), (9, 9), (11, 12)], vec![(9, 9), (11, 12)]),
-    ] {
-        let mut blocks: Vec<GapAckBlock> = blocks.into_iter().map(new).collect();
-        let expected: Vec<GapAckBlock> = cleaned.into_iter().map(new).collect();
-        assert_eq!(davgyuti::clean_blocks(&mut blocks), expected);
-    }
 }
 
 /// They can be sent to another thread, and shared.

@@ -54,12 +54,12 @@ fn items_are_made_of_a_type_and_bytes() {
     for it in chunks() {
         let chunk = Chunk::at(&it, 0).unwrap();
         for it in chunk.parameters() {
-            let mut output = [0xaa; 100];
+            let mut output = [0xaa; 1500];
             let made = Parameter::write(&mut output, it.parameter_type(), it.value()).unwrap();
             assert_eq!((made, made.re_config(), made.offset()), (it, it.re_config(), 0));
         }
         for it in chunk.causes() {
-            let mut output = [0xaa; 100];
+            let mut output = [0xaa; 1500];
             let made = Cause::write(&mut output, it.code(), it.value()).unwrap();
             assert_eq!((made, made.as_bytes(), made.offset()), (it, it.as_bytes(), 0));
             assert!(made.missing_parameters().eq(it.missing_parameters()));

@@ -44,33 +44,15 @@ pub fn examples() -> Vec<Vec<u8>> {
     lines.filter(|it| !it.is_empty() && !it.starts_with('#')).map(bytes).collect()
 }
 
-/// A chunk of each kind, and of each parameter and error cause that has a kind of its own.
+/// The chunks of registry/vectors that are alone in their packet, with their padding.
 pub fn chunks() -> Vec<Vec<u8>> {
-    let chunks = [
-        "000a0015 01020304 05060708 090a0b0c 68656c6c 6f000000",
-        "40020016 01020304 05060000 0708090a 0b0c0d0e 61620000",
-        "0300001c 01020304 05060708 00020001 00020006 00080102 090a0b0c",
-        "01000028 01020304 05060708 090a0b0c 0d0e0f10 80080006 82c00000 c0000004 80010008 00000001",
-        "0200001b 01020304 05060708 090a0b0c 0d0e0f10 00070007 61626300",
-        "0400000b 00010007 61626300",
-        "05000008 00010004",
-        "06010009 000c0005 21000000",
-        "07000008 01020304",
-        "08000004",
-        "0900002e 0002000c 00000002 00078008 0006000a 4d000006 01020000 00090008 01020304 \
-         000a0004 000d0006 61620000",
-        "0a000007 61626300",
-        "0b000004",
-        "0e010004",
-        "82000024 000d0014 01020304 05060708 090a0b0c 00010203 0010000c 05060708 00000006",
-        "82000018 00100014 05060708 00000001 090a0b0c 0d0e0f10",
-        "82000018 000e000a 01020304 00070000 000f0008 01020304",
-        "8200001c 0011000c 01020304 05060000 0012000c 01020304 05060000",
-        "c0000010 01020304 00010002 00030405",
-        "c2000018 01020304 00010001 00000002 00030000 04050607",
-        "4d050006 01020000",
-    ];
-    chunks.map(bytes).to_vec()
+    let lines = shared("registry/vectors/kinds.jsonl");
+    let accepted = lines.lines().filter(|it| !it.contains("\"fault\""));
+    let found = accepted.map(|it| bytes(it.split('"').nth(3).unwrap()));
+    let is_alone = |it: &Vec<u8>| {
+        it.len() == usize::from(u16::from_be_bytes([it[2], it[3]])).next_multiple_of(4)
+    };
+    found.filter(is_alone).collect()
 }
 
 const TYPES: [u8; 15] = [0, 1, 2, 3, 4, 5, 6, 7, 9, 10, 14, 64, 130, 192, 194];

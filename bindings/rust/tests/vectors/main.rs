@@ -4,8 +4,6 @@
 
 #[path = "../common/mod.rs"]
 mod common;
-#[path = "../../src/ffi.rs"]
-mod ffi;
 mod json;
 #[rustfmt::skip]
 mod kinds;
@@ -86,7 +84,16 @@ fn compare_kinds(text: &str) {
         let chunks = line.bytes("bytes");
         let packet = [&bytes("1388 1389 01020304 00000000"), &chunks[..]].concat();
         assert_eq!(fault(&packet, Policy::new()).as_ref(), line.get("fault"), "line {at}");
-        if line.get("fault").is_some() {
+        if let Some(Json::List(fault)) = line.get("fault") {
+            // (what isn't whole isn't read)
+            let at: usize = fault[1].as_number();
+            for it in Chunks::of(&packet) {
+                let parameter = it.parameters().find(|it| it.offset() == at);
+                let cause = it.causes().find(|it| it.offset() == at).map(|it| kinds::cause(&it));
+                let chunk = (it.offset() == at).then(|| kinds::content(&it));
+                let found = chunk.or(cause).or(parameter.map(|it| kinds::parameter(&it)));
+                assert!(found.is_none_or(|it| it.kind().is_empty()), "{}", line.text("bytes"));
+            }
             continue;
         }
         let strict = fault(&packet, Policy::new().with_strict_padding(true));

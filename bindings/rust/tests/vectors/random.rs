@@ -1,142 +1,10 @@
 // SPDX-License-Identifier: Apache-2.0
-//! Packets made at random, with changes made at random, and bytes: what the crate reads by itself is
-//! what C reads, at every offset; and what is accepted means the same when it is written anew.
+//! Packets made at random, with changes made at random, and bytes: what is accepted means the same when it
+//! is written anew; and what is of a kind is what a check accepts as one, whatever its size.
 
 use super::common::{Chance, chunks, examples, sealed};
-use super::{ffi, kinds};
-use davgyuti::{
-    Cause, Chunk, ChunkType, Chunks, Data, GapAckBlock, Header, Init, NextTsns, Packet,
-    PacketBuilder, Parameter, ParameterType, Policy, ReConfig, ReConfigResult, SkippedStream,
-};
-
-/// A function that reads one thing, of a chunk or an item.
-type Read<R, T> = unsafe extern "C" fn(*const u8, usize, *const R, *mut T) -> bool;
-
-/// A function that reads the items of a list.
-type List<R, T> = unsafe extern "C" fn(*const u8, usize, *const R, *mut T, usize) -> usize;
-
-fn read<R, T: Default>(bytes: &[u8], raw: &R, function: Read<R, T>) -> Option<T> {
-    // SAFETY: `bytes` is a slice, and the others are references.
-    ffi::read(|found| unsafe { function(bytes.as_ptr(), bytes.len(), raw, found) })
-}
-
-fn list<R, T: Clone + Default>(bytes: &[u8], raw: &R, function: List<R, T>) -> Vec<T> {
-    let mut items = vec![T::default(); bytes.len()];
-    let (start, first) = (bytes.as_ptr(), items.as_mut_ptr());
-    // SAFETY: `bytes` and `items` are slices, and `raw` is a reference.
-    items.truncate(unsafe { function(start, bytes.len(), raw, first, items.len()) });
-    items
-}
-
-fn re_config(bytes: &[u8], raw: &ffi::Parameter) -> Option<ReConfig<Vec<u16>>> {
-    let it = read(bytes, raw, ffi::dcsctp_re_config)?;
-    let ffi::ReConfig { request_number, response_number, last_tsn, new_streams, .. } = it;
-    let streams = list(bytes, raw, ffi::dcsctp_reset_streams);
-    let next = NextTsns::new(it.sender_next_tsn, it.receiver_next_tsn);
-    let (result, next_tsns) = (ReConfigResult::of(it.result), it.has_next_tsns.then_some(next));
-    Some(match it.r#type {
-        13 => ReConfig::OutgoingSsnReset { request_number, response_number, last_tsn, streams },
-        14 => ReConfig::IncomingSsnReset { request_number, streams },
-        15 => ReConfig::SsnTsnReset { request_number },
-        16 => ReConfig::Response { response_number, result: result.unwrap(), next_tsns },
-        17 => ReConfig::AddOutgoingStreams { request_number, new_streams },
-        18 => ReConfig::AddIncomingStreams { request_number, new_streams },
-        other => panic!("{other}"),
-    })
-}
-
-fn compare_parameter(bytes: &[u8], raw: &ffi::Parameter, it: &Parameter) {
-    let value = &bytes[raw.value_offset..][..raw.value_size];
-    assert_eq!((it.parameter_type().0, it.value()), (raw.r#type, value));
-    assert_eq!(it.offset() + 4, raw.value_offset);
-    assert_eq!(it.as_bytes(), &bytes[it.offset()..raw.value_offset + raw.value_size]);
-    assert_eq!(it.number(), read(bytes, raw, ffi::dcsctp_number));
-    assert_eq!(it.re_config().map(|it| it.map_streams(Vec::from_iter)), re_config(bytes, raw));
-}
-
-fn compare_cause(bytes: &[u8], raw: &ffi::Parameter, it: &Cause) {
-    let value = &bytes[raw.value_offset..][..raw.value_size];
-    assert_eq!((it.code().0, it.value()), (raw.r#type, value));
-    assert_eq!(it.offset() + 4, raw.value_offset);
-    assert_eq!(it.as_bytes(), &bytes[it.offset()..raw.value_offset + raw.value_size]);
-    assert_eq!(it.number(), read(bytes, raw, ffi::dcsctp_number));
-    let types = list(bytes, raw, ffi::dcsctp_missing_parameters).into_iter();
-    assert!(it.missing_parameters().eq(types.map(ParameterType)));
-}
-
-fn compare_fields(bytes: &[u8], raw: &ffi::Chunk, chunk: &Chunk) {
-    let data = read(bytes, raw, ffi::dcsctp_data).map(|it| Data {
-        tsn: it.tsn,
-        stream: it.stream,
-        ssn: it.ssn,
-        mid: it.mid,
-        fsn: it.fsn,
-        ppid: it.ppid,
-        is_unordered: it.is_unordered,
-        is_beginning: it.is_beginning,
-        is_end: it.is_end,
-        immediate_ack: it.immediate_ack,
-        payload: &bytes[it.payload_offset..][..it.payload_size],
-    });
-    assert_eq!(chunk.data(), data);
-    let init = read(bytes, raw, ffi::dcsctp_init).map(|it| Init {
-        initiate_tag: it.initiate_tag,
-        a_rwnd: it.a_rwnd,
-        outbound_streams: it.outbound_streams,
-        inbound_streams: it.inbound_streams,
-        initial_tsn: it.initial_tsn,
-    });
-    assert_eq!(chunk.init(), init);
-    assert_eq!(chunk.shutdown(), read(bytes, raw, ffi::dcsctp_shutdown));
-    let (sack, found) = (chunk.sack(), read(bytes, raw, ffi::dcsctp_sack));
-    assert_eq!(
-        sack.map(|it| (it.cumulative_tsn_ack, it.a_rwnd)),
-        found.map(|it| (it.cumulative_tsn_ack, it.a_rwnd))
-    );
-    if let Some(sack) = sack {
-        let blocks = list(bytes, raw, ffi::dcsctp_gap_ack_blocks).into_iter();
-        assert!(sack.gap_ack_blocks().eq(blocks.map(|it| GapAckBlock::new(it.start, it.end))));
-        assert!(sack.duplicate_tsns().eq(list(bytes, raw, ffi::dcsctp_duplicate_tsns)));
-        // SAFETY: `bytes` is a slice, and `raw` a reference.
-        let is_valid = unsafe { ffi::dcsctp_validate_sack(bytes.as_ptr(), bytes.len(), raw) };
-        assert_eq!(sack.is_valid(), is_valid);
-    }
-    let (skip, found) = (chunk.forward_tsn(), read(bytes, raw, ffi::dcsctp_forward_tsn));
-    let tsn = skip.map(|it| it.new_cumulative_tsn);
-    assert_eq!(tsn, found.map(|it| it.new_cumulative_tsn));
-    let streams = list(bytes, raw, ffi::dcsctp_skipped_streams).into_iter();
-    let streams = streams.map(|it| SkippedStream {
-        stream: it.stream,
-        ssn: it.ssn,
-        mid: it.mid,
-        is_unordered: it.is_unordered,
-    });
-    assert!(skip.iter().flat_map(davgyuti::ForwardTsn::skipped_streams).eq(streams));
-}
-
-/// Compares what is read of a chunk with what C reads.
-fn compare(bytes: &[u8], chunk: &Chunk) {
-    let (start, length, at) = (bytes.as_ptr(), bytes.len(), chunk.offset());
-    // SAFETY: `bytes` is a slice, and `it` a reference.
-    let raw = ffi::read(|it| unsafe { ffi::dcsctp_chunk_at(start, length, at, it) }).unwrap();
-    let end = raw.value_offset + raw.value_size;
-    let read_here = (chunk.chunk_type().0, chunk.flags(), chunk.next_offset());
-    assert_eq!(read_here, (raw.r#type, raw.flags, raw.next));
-    assert_eq!(chunk.value(), &bytes[raw.value_offset..end]);
-    assert_eq!(chunk.as_bytes(), &bytes[at..end]);
-    compare_fields(bytes, &raw, chunk);
-    let items = list(bytes, &raw, ffi::dcsctp_parameters);
-    let (parameters, causes) = (chunk.parameters(), chunk.causes());
-    if matches!(chunk.chunk_type(), ChunkType::ABORT | ChunkType::ERROR) {
-        assert_eq!((parameters.count(), causes.clone().count()), (0, items.len()));
-        items.iter().zip(causes).for_each(|(raw, it)| compare_cause(bytes, raw, &it));
-    } else {
-        assert_eq!((parameters.clone().count(), causes.count()), (items.len(), 0));
-        items.iter().zip(parameters).for_each(|(raw, it)| compare_parameter(bytes, raw, &it));
-    }
-    // (what is shown looks at all)
-    assert!(!format!("{chunk:?}").is_empty());
-}
+use super::kinds;
+use davgyuti::{Chunk, Chunks, Header, Packet, PacketBuilder, Policy, first_fault};
 
 /// The packet, written anew from what it holds.
 fn rewritten(packet: &Packet) -> Vec<u8> {
@@ -159,23 +27,21 @@ const POLICIES: [Policy; 3] = [
 /// Reads all that there is in bytes, also where no chunk begins, and writes a packet anew; returns
 /// whether it is one.
 fn check(bytes: &[u8]) -> bool {
-    let (start, length) = (bytes.as_ptr(), bytes.len());
-    // SAFETY: `bytes` is a slice, and `it` a reference.
-    let header = ffi::read(|it| unsafe { ffi::dcsctp_header(start, length, it) });
-    let header = header.map(|it: ffi::Header| Header {
-        source_port: it.source_port,
-        destination_port: it.destination_port,
-        verification_tag: it.verification_tag,
-        checksum: it.checksum,
-    });
-    assert_eq!(Header::read(bytes), header);
+    let length = bytes.len();
     for at in 0..length + 2 {
         let chunk = Chunk::at(bytes, at);
-        // SAFETY: `bytes` is a slice, and `it` a reference.
-        let found = ffi::read(|it| unsafe { ffi::dcsctp_chunk_at(start, length, at, it) });
-        assert_eq!(chunk.is_some(), found.is_some());
-        if let Some(it) = chunk {
-            compare(bytes, &it);
+        let header = bytes.get(at..).and_then(|it| it.first_chunk());
+        let size = header.map(|&[_, _, high, low]| usize::from(u16::from_be_bytes([high, low])));
+        let whole = size.filter(|&it| it >= 4).and_then(|it| bytes.get(at..at + it));
+        assert_eq!(chunk.map(|it| it.as_bytes()), whole);
+        if let (Some(it), Some(size)) = (chunk, size) {
+            let next = (at + size.next_multiple_of(4)).min(length);
+            assert_eq!(
+                (it.offset(), it.next_offset(), it.value()),
+                (at, next, &it.as_bytes()[4..])
+            );
+            // (what is shown looks at all)
+            assert!(!format!("{it:?}").is_empty());
         }
     }
     let word = davgyuti::word(bytes);
@@ -218,17 +84,31 @@ fn changed_packets() {
     assert!((2000..5000).contains(&accepted), "{accepted}");
 }
 
+/// What is of a kind in some size is one where a check accepts it, and only there; but a list may end too early.
 #[test]
-fn each_type_with_each_length() {
-    for chunk_type in 0..=u8::MAX {
-        for length in 0..40 {
-            let mut bytes = vec![0; 12 + 40];
-            (bytes[12], bytes[15]) = (chunk_type, length);
-            for (at, byte) in bytes[16..].iter_mut().enumerate() {
-                *byte = if at % 4 == 3 { 8 } else { 0 };
-            }
-            bytes.truncate(12 + usize::from(length.max(4)).next_multiple_of(4));
-            check(&sealed(bytes));
+fn sizes() {
+    for number in (0..=255).chain(0x8000..0x8010).chain(0xc000..0xc010) {
+        for around in [0, 0x82, 0x09] {
+            let said = (0..41).filter_map(|size| {
+                let value: Vec<u8> = (0..size).map(|at| if at % 4 == 3 { 4 } else { 0 }).collect();
+                let header = |number: u16, size: u16| [number.to_be_bytes(), size.to_be_bytes()];
+                let (own, size) = (header(number << (8 * u16::from(around == 0)), 4 + size), size);
+                let outer = header(around << 8, 8 + size);
+                let outer = if around == 0 { &[][..] } else { outer.as_flattened() };
+                let packet = [&[0; 12], outer, own.as_flattened(), &value].concat();
+                let chunk = Chunk::at(&packet, 12).unwrap();
+                let it = match around {
+                    0 => kinds::content(&chunk),
+                    0x82 => kinds::parameter(&chunk.parameters().next().unwrap()),
+                    _ => kinds::cause(&chunk.causes().next().unwrap()),
+                };
+                let is_list = it.get("parameters").or(it.get("causes")).is_some();
+                let is_accepted = first_fault(&packet, 0, POLICIES[2]).is_none();
+                (size % 4 == 0 || !is_list).then_some((!it.kind().is_empty(), is_accepted))
+            });
+            let said: Vec<_> = said.collect();
+            let is_kind = said.iter().any(|it| it.0);
+            assert!(!is_kind || said.iter().all(|it| it.0 == it.1), "{around} {number} {said:?}");
         }
     }
 }
