@@ -53,6 +53,19 @@ static inline struct go_result go_first_fault(struct go_packet packet)
     return result;
 }
 
+/* What is written of a packet: by which function, and how many bytes. */
+enum { GO_PRINT, GO_REPORT, GO_CANONICAL };
+
+static inline struct go_result go_write(int what, struct go_packet packet, uint8_t *to, size_t room)
+{
+    struct go_result result = {0, 0};
+    const uint32_t word = go_word(&packet);
+    result.code = (what == GO_PRINT    ? dcsctp_print
+                   : what == GO_REPORT ? dcsctp_report
+                                       : dcsctp_canonical)(packet.bytes, packet.length, word, &packet.policy, to, room, &result.size);
+    return result;
+}
+
 /* Some packets; and which of the first ones are packets: a bit for each. */
 enum { GO_BATCH = 16 };
 struct go_batch {

@@ -14,42 +14,6 @@ import (
 	"davgyuti.example/davgyuti"
 )
 
-func numbersOf(chunk davgyuti.Chunk) (all []interface{}) {
-	data, isData := chunk.Data()
-	sack, isSACK := chunk.SACK()
-	init, isInit := chunk.Init()
-	shutdown, isShutdown := chunk.Shutdown()
-	forwardTSN, isForwardTSN := chunk.ForwardTSN()
-	return append(all, data, isData, sack, isSACK, init, isInit, shutdown, isShutdown, forwardTSN, isForwardTSN)
-}
-
-func numbersAt(parsed *davgyuti.Parsed, i int) (all []interface{}) {
-	data, isData := parsed.Data(i)
-	sack, isSACK := parsed.SACK(i)
-	init, isInit := parsed.Init(i)
-	shutdown, isShutdown := parsed.Shutdown(i)
-	forwardTSN, isForwardTSN := parsed.ForwardTSN(i)
-	return append(all, data, isData, sack, isSACK, init, isInit, shutdown, isShutdown, forwardTSN, isForwardTSN)
-}
-
-func listsOf(chunk davgyuti.Chunk) (all []interface{}) {
-	return append(all, chunk.GapAckBlocks().Slice(), chunk.DuplicateTSNs().Slice(), chunk.SkippedStreams().Slice(),
-		chunk.Parameters().Slice(), chunk.Causes().Slice())
-}
-
-func listsAt(parsed *davgyuti.Parsed, i int) (all []interface{}) {
-	var parameters []davgyuti.Parameter
-	for k := 0; k < parsed.ParameterCount(i); k++ {
-		parameters = append(parameters, parsed.Parameter(i, k))
-	}
-	var causes []davgyuti.Cause
-	for k := 0; k < parsed.CauseCount(i); k++ {
-		causes = append(causes, parsed.Cause(i, k))
-	}
-	return append(all, append([]davgyuti.GapAckBlock(nil), parsed.GapAckBlocks(i)...), append([]uint32(nil), parsed.DuplicateTSNs(i)...),
-		append([]davgyuti.SkippedStream(nil), parsed.SkippedStreams(i)...), parameters, causes)
-}
-
 var policies = []davgyuti.Policy{{}, {AnyChecksum: true}, {ZeroChecksum: true}, {AllowedZeroChecksum: true}, {StrictPadding: true}}
 
 // A batch is what its packets are one by one: the vectors, which have the rest of what a Parsed reads.
@@ -68,8 +32,7 @@ func TestReadBatch(t *testing.T) {
 			equal(t, what, one.Read(packet, policy), packet.Check(policy))
 			equal(t, what, []interface{}{batch[i].Len(), batch[i].Header}, []interface{}{one.Len(), one.Header})
 			for k := 0; k < one.Len(); k++ {
-				equal(t, what, append(append(numbersAt(&batch[i], k), batch[i].Chunk(k), batch[i].Type(k)), listsAt(&batch[i], k)...),
-					append(append(numbersAt(&one, k), one.Chunk(k), one.Chunk(k).Type), listsAt(&one, k)...))
+				equal(t, what, append(readsAt(&batch[i], k), itemsAt(&batch[i], k)...), append(readsAt(&one, k), itemsAt(&one, k)...))
 			}
 		}
 	}
@@ -97,8 +60,7 @@ func TestParsedChanged(t *testing.T) {
 				chunk.Type, chunk.Value = davgyuti.ChunkType(random.Intn(16)*random.Intn(14)), chunk.Value[:random.Intn(len(chunk.Value)+1)]
 				chunk.Offset += random.Intn(100) - 50
 			}
-			_, _ = append(numbersOf(chunk), listsOf(chunk)...), chunk.Bytes()
-			_ = numbersAt(&parsed, i)
+			_, _, _ = readsOf(chunk), readsAt(&parsed, i), chunk.Bytes()
 			for _, parameter := range chunk.Parameters().Slice() {
 				_, _ = parameter.ReConfig()
 				_, _ = parameter.Registered()
@@ -228,12 +190,12 @@ func TestConn(t *testing.T) {
 }
 
 // Each request of the library for memory is refused in turn, in a copy of the package: its text calls what
-// testdata/refusing has.
+// testdata/tests/refusing has.
 func TestNoMemory(t *testing.T) {
 	if runtime.GOOS != "linux" || runtime.GOARCH != "amd64" {
 		t.Skip("the text that is changed is that of Linux on x86-64")
 	}
-	command := exec.Command("sh", "-c", `mkdir -p "$0/internal/direct" && cp *.h go.mod *_linux_amd64.s testdata/refusing/* "$0" &&
+	command := exec.Command("sh", "-c", `mkdir -p "$0/internal/direct" && cp *.h go.mod *_linux_amd64.s testdata/tests/refusing/* "$0" &&
 		cp internal/direct/*.* "$0/internal/direct" && rm -f "$0"/internal/direct/*_test.go && for file in *.go; do
 			case $file in *_test.go) ;; *) cp "$file" "$0" ;; esac; done &&
 		sed -i 's/\t\(malloc@PLT\|realloc@PLT\)/\trefusing_\1/' "$0"/dcsctp_linux_amd64.s && cd "$0" && go test .`, t.TempDir())

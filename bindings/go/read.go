@@ -157,18 +157,14 @@ func (p Packet) NeedsChecksum() bool {
 // Print returns the packet's text: a line for the header and one for each chunk, with no line feed at the end. The error is
 // that of Check, or ErrNoMemory.
 func (p Packet) Print(policy Policy) (string, error) {
-	text, err := p.write(policy, func(word C.uint32_t, it *C.struct_dcsctp_policy, to *C.uint8_t, size *C.size_t) C.uint32_t {
-		return C.dcsctp_print(bytesOf(p), C.size_t(len(p)), word, it, to, *size, size)
-	})
+	text, err := p.write(policy, C.GO_PRINT)
 	return string(text), err
 }
 
 // Report returns all that the packet holds, as `sctp_dump --payload` prints it: each line ends in a line feed, and what is
 // inside of something is two blanks deeper. The error is that of Check.
 func (p Packet) Report(policy Policy) (string, error) {
-	text, err := p.write(policy, func(word C.uint32_t, it *C.struct_dcsctp_policy, to *C.uint8_t, size *C.size_t) C.uint32_t {
-		return C.dcsctp_report(bytesOf(p), C.size_t(len(p)), word, it, to, *size, size)
-	})
+	text, err := p.write(policy, C.GO_REPORT)
 	return string(text), err
 }
 
@@ -186,28 +182,24 @@ func (p Packet) String() string {
 // Canonical returns the canonical packet, in memory of its own: two packets have the same one if and only if they mean the
 // same. Its checksum is 0. The error is that of Check, or ErrTooLong.
 func (p Packet) Canonical(policy Policy) ([]byte, error) {
-	return p.write(policy, func(word C.uint32_t, it *C.struct_dcsctp_policy, to *C.uint8_t, size *C.size_t) C.uint32_t {
-		return C.dcsctp_canonical(bytesOf(p), C.size_t(len(p)), word, it, to, *size, size)
-	})
+	return p.write(policy, C.GO_CANONICAL)
 }
 
-// write calls a function for the size that it needs, and then for what it writes.
-func (p Packet) write(policy Policy,
-	call func(C.uint32_t, *C.struct_dcsctp_policy, *C.uint8_t, *C.size_t) C.uint32_t) ([]byte, error) {
+// write calls C for the size that it needs, and then for what it writes.
+func (p Packet) write(policy Policy, what C.int) ([]byte, error) {
 	var packet C.struct_go_packet
 	p.fill(&packet, policy)
-	word, size := policy.word(p), C.size_t(0)
-	code := call(word, &packet.policy, nil, &size)
-	if code == C.DCSCTP_NO_ROOM {
-		output := make([]byte, size)
-		if code = call(word, &packet.policy, bytesOf(output), &size); code == C.DCSCTP_OK {
-			return output[:size], nil
+	result := C.go_write(what, packet, nil, 0)
+	if result.code == C.DCSCTP_NO_ROOM {
+		output := make([]byte, result.size)
+		if result = C.go_write(what, packet, bytesOf(output), result.size); result.code == C.DCSCTP_OK {
+			return output[:result.size], nil
 		}
 	}
 	if err := p.Check(policy); err != nil {
 		return nil, err
 	}
-	return nil, errorOf(code)
+	return nil, errorOf(result.code)
 }
 
 // Header reads the common header; false for fewer than 12 bytes.

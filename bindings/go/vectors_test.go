@@ -4,12 +4,12 @@ package davgyuti_test
 
 import (
 	"bytes"
+	"encoding/base64"
 	"encoding/hex"
 	"encoding/json"
 	"fmt"
 	"net/netip"
 	"os"
-	"reflect"
 	"regexp"
 	"strings"
 	"testing"
@@ -18,12 +18,15 @@ import (
 )
 
 // The vectors of the repository's registry/vectors, whose README.md has their form: all packages read and write the same.
+// kinds_gen_test.go has what reads and writes chunks.
 
-// An object has the fields of a vector, a chunk, a parameter, an error cause or a record.
+const vectors = "../../registry/vectors/"
+
+// An object has the fields of a parameter or an error cause.
 type object = map[string]interface{}
 
-// names are of fields, whose underscores are left out.
-var names = regexp.MustCompile(`"[a-z_]+":`)
+// names are of fields, whose underscores are left out, and values are bytes, which encoding/json has in base64.
+var names, values = regexp.MustCompile(`"[a-z_]+":`), regexp.MustCompile(`:"[0-9a-f]*"`)
 
 // vectorsOf calls a function for each line of a file, if it is there.
 func vectorsOf[T any](t *testing.T, path string, least int, use func(what string, it T)) {
@@ -51,54 +54,40 @@ func fold(name string) string {
 	return strings.TrimSuffix(strings.TrimSuffix(name, "request"), "type")
 }
 
-// set sets what a pointer points to, to a value of JSON.
-func set(to reflect.Value, value interface{}) {
-	switch it := value.(type) {
-	case bool:
-		to.SetBool(it)
-	case float64:
-		to.SetUint(uint64(it))
-	case string:
-		to.SetBytes(ofHex(it))
-	case []interface{}:
-		for _, one := range it {
-			to.Set(reflect.Append(to, reflect.New(to.Type().Elem()).Elem()))
-			set(to.Index(to.Len()-1), one)
-		}
-	case object:
-		for i := 0; i < to.NumField(); i++ {
-			name := strings.ToLower(to.Type().Field(i).Name)
-			if list, isCount := it[strings.TrimSuffix(name, "count")+"s"]; isCount {
-				to.Field(i).SetInt(int64(len(list.([]interface{}))))
-			} else if field, isThere := it[name]; isThere {
-				set(to.Field(i), field)
-			}
-		}
-	}
-}
-
-// of returns a value of JSON as a type of Go has it: what an object lacks is 0.
-func of[T any](value interface{}) (it T) {
-	set(reflect.ValueOf(&it).Elem(), value)
-	return it
-}
-
-// items returns a list that an object has.
-func (v *vector) items(list interface{}) (all []object) {
-	for _, it := range list.([]interface{}) {
-		all = append(all, it.(object))
-	}
-	return all
-}
-
 // A vector is a line of kinds.jsonl.
 type vector struct {
 	Bytes, Written string
 	Fault, Strict  []interface{}
-	Chunks         []object
+	Chunks         []json.RawMessage
 	test           *testing.T
 	what           string
 	to             *davgyuti.Builder
+}
+
+// A bareVector has what isn't of one kind.
+type bareVector struct {
+	Kind               string
+	Type, Code         uint16
+	Flags              uint8
+	Value              []byte
+	Parameters, Causes []json.RawMessage
+}
+
+// An itemVector has a parameter or an error cause.
+type itemVector struct {
+	bareVector
+	Streams                                              []uint16
+	Types                                                []davgyuti.ParameterType
+	NextTSNs                                             *struct{ Sender, Receiver uint32 }
+	RequestNumber, ResponseNumber, Method, TSN           *uint32
+	Info, Cookie, ChunkTypes, Reason, Information, Chunk []byte
+}
+
+func (it chunkVector) flags() uint8 {
+	if it.TagReflected {
+		return davgyuti.TagReflected
+	}
+	return it.Flags
 }
 
 func (v *vector) equal(what string, found, wanted interface{}) {
@@ -106,22 +95,13 @@ func (v *vector) equal(what string, found, wanted interface{}) {
 	equal(v.test, v.what+" "+what, found, wanted)
 }
 
-// same tests that a value is there if there is one of JSON for it, and is the same.
-func same[T any](v *vector, found T, isThere bool, wanted interface{}, isWanted bool) T {
-	v.test.Helper()
-	it := reflect.New(reflect.TypeOf(found)).Elem().Interface().(T)
-	if isWanted {
-		it = of[T](wanted)
+func (v *vector) decode(text json.RawMessage, to interface{}) {
+	text = values.ReplaceAllFunc(text, func(value []byte) []byte {
+		return []byte(`:"` + base64.StdEncoding.EncodeToString(ofHex(string(value[2:len(value)-1]))) + `"`)
+	})
+	if err := json.Unmarshal(text, to); err != nil {
+		v.test.Fatal(v.what, err)
 	}
-	v.equal("", []interface{}{found, isThere}, []interface{}{it, isWanted})
-	return it
-}
-
-func sameList[T any](v *vector, found *davgyuti.Iterator[T], wanted interface{}) []T {
-	v.test.Helper()
-	it := of[[]T](wanted)
-	v.equal("list", append([]T(nil), found.Slice()...), it)
-	return it
 }
 
 func (v *vector) checked(packet davgyuti.Packet, policy davgyuti.Policy, wanted []interface{}) {
@@ -138,20 +118,19 @@ func (v *vector) run() {
 	v.checked(packet, davgyuti.Policy{AnyChecksum: true}, v.Fault)
 	var parsed davgyuti.Parsed
 	equal(v.test, v.what, parsed.Read(packet, davgyuti.Policy{AnyChecksum: true}) == nil, v.Fault == nil)
+	chunks := packet.Chunks().Slice()
 	if v.Fault != nil {
-		for _, chunk := range packet.Chunks().Slice() {
+		for _, chunk := range chunks {
 			v.refused(chunk, int(v.Fault[1].(float64)))
 		}
 		return
 	}
 	v.checked(packet, davgyuti.Policy{AnyChecksum: true, StrictPadding: true}, v.Strict)
 	v.to, _ = davgyuti.Begin(bytes.Repeat([]byte{0xee}, 65535), 5000, 5001, 0x01020304)
-	v.equal("chunks", parsed.Len(), len(v.Chunks))
-	chunks := packet.Chunks()
-	for i := 0; i < parsed.Len() && chunks.Next(); i++ {
-		v.equal("parsed", parsed.Chunk(i), chunks.Value())
-		v.equal("parsed", append(numbersAt(&parsed, i), listsAt(&parsed, i)...), append(numbersOf(chunks.Value()), listsOf(chunks.Value())...))
-		v.chunk(chunks.Value(), v.Chunks[i])
+	v.equal("chunks", []int{len(chunks), parsed.Len()}, []int{len(v.Chunks), len(v.Chunks)})
+	for i := 0; i < len(chunks) && i < parsed.Len() && i < len(v.Chunks); i++ {
+		v.equal("parsed", append(readsAt(&parsed, i), itemsAt(&parsed, i)...), append(readsOf(chunks[i]), itemsOf(chunks[i])...))
+		v.chunk(chunks[i], v.Chunks[i])
 	}
 	if v.Written == "" {
 		v.Written = v.Bytes
@@ -161,9 +140,8 @@ func (v *vector) run() {
 
 // refused tests that what has the fault is no kind to whoever reads it all the same.
 func (v *vector) refused(chunk davgyuti.Chunk, at int) {
-	if numbers := numbersOf(chunk); chunk.Offset == at {
-		v.equal("refused", numbers, numbersOf(davgyuti.Chunk{Type: davgyuti.ChunkCookieAck}))
-		v.equal("refused", []bool{chunk.GapAckBlocks().Next(), chunk.DuplicateTSNs().Next(), chunk.SkippedStreams().Next()}, make([]bool, 3))
+	if chunk.Offset == at {
+		v.equal("refused", readsOf(chunk), readsOf(davgyuti.Chunk{Type: davgyuti.ChunkCookieAck}))
 	}
 	for _, it := range chunk.Parameters().Slice() {
 		_, isReConfig := it.ReConfig()
@@ -174,131 +152,103 @@ func (v *vector) refused(chunk davgyuti.Chunk, at int) {
 	}
 }
 
-// chunk compares a chunk with what is wanted, and writes that.
-func (v *vector) chunk(chunk davgyuti.Chunk, wanted object) {
-	kind, isKind := wanted["kind"].(string)
-	is := func(kinds ...string) bool {
-		return strings.Contains(" "+strings.Join(kinds, " ")+" ", " "+kind+" ") && isKind
-	}
-	data, isData := chunk.Data()
-	data = same(v, data, isData, wanted, is("DATA", "I_DATA"))
-	init, isInit := chunk.Init()
-	init = same(v, init, isInit, wanted, is("INIT", "INIT_ACK"))
-	sack, isSACK := chunk.SACK()
-	sack = same(v, sack, isSACK, wanted, is("SACK"))
-	forward, isForward := chunk.ForwardTSN()
-	forward = same(v, forward, isForward, wanted, is("FORWARD_TSN", "I_FORWARD_TSN"))
-	shutdown, isShutdown := chunk.Shutdown()
-	shutdown = same(v, shutdown, isShutdown, wanted["cumulativetsnack"], is("SHUTDOWN"))
-	blocks := sameList(v, chunk.GapAckBlocks(), wanted["blocks"])
-	duplicates := sameList(v, chunk.DuplicateTSNs(), wanted["duplicates"])
-	streams := sameList(v, chunk.SkippedStreams(), wanted["streams"])
-	isReflected := wanted["tagreflected"] == true
-	v.equal("T", chunk.IsTagReflected(), isReflected)
-	if !isKind {
-		v.equal("chunk", []interface{}{float64(chunk.Type), float64(chunk.Flags), hex.EncodeToString(chunk.Value)},
-			[]interface{}{wanted["type"], wanted["flags"], wanted["value"]})
-		v.equal("added", v.to.AddChunk(chunk.Type, chunk.Flags, ofHex(wanted["value"].(string))), nil)
-		return
-	}
-	v.equal("kind", fold(chunk.Type.String()), fold(kind))
-	if cookie, isCookie := wanted["cookie"].(string); isCookie {
-		v.equal("cookie", hex.EncodeToString(chunk.Value), cookie)
-	}
-	flags := map[bool]uint8{true: davgyuti.TagReflected}[isReflected]
-	add, isAdded := map[string]func() error{
-		"DATA":              func() error { return v.to.AddData(data) },
-		"I_DATA":            func() error { return v.to.AddIData(data) },
-		"INIT":              func() error { return v.to.AddInit(init) },
-		"INIT_ACK":          func() error { return v.to.AddInitAck(init) },
-		"SACK":              func() error { return v.to.AddSACK(sack.CumulativeTSNAck, sack.ARwnd, blocks, duplicates) },
-		"FORWARD_TSN":       func() error { return v.to.AddForwardTSN(forward.NewCumulativeTSN, streams) },
-		"I_FORWARD_TSN":     func() error { return v.to.AddIForwardTSN(forward.NewCumulativeTSN, streams) },
-		"SHUTDOWN":          func() error { return v.to.AddShutdown(shutdown) },
-		"SHUTDOWN_ACK":      v.to.AddShutdownAck,
-		"SHUTDOWN_COMPLETE": func() error { return v.to.AddShutdownComplete(isReflected) },
-		"COOKIE_ACK":        v.to.AddCookieAck,
-		"COOKIE_ECHO":       func() error { return v.to.AddCookieEcho(of[[]byte](wanted["cookie"])) },
-	}[kind]
-	if !isAdded {
-		add = func() error { return v.to.AddChunk(chunk.Type, flags, nil) }
-	}
-	v.equal("added", add(), nil)
-	list := append(chunk.Parameters().Slice(), parametersOf(chunk.Causes().Slice())...)
-	wantedItems, isThere := wanted["parameters"]
-	areCauses := !isThere
-	if areCauses {
-		wantedItems = wanted["causes"]
-	}
-	if wantedItems == nil {
-		v.equal("items", len(list), 0)
-		return
-	}
-	all := v.items(wantedItems)
-	v.equal("items", len(list), len(all))
-	for i, it := range list {
-		v.item(it, areCauses, all[i])
-	}
+// itemsOf returns a chunk with its parameters and its error causes.
+func itemsOf(chunk davgyuti.Chunk) []interface{} {
+	return []interface{}{chunk, chunk.Type, chunk.Parameters().Slice(), chunk.Causes().Slice()}
 }
 
-// parametersOf returns error causes as parameters: they are read and written likewise.
-func parametersOf(causes []davgyuti.Cause) (all []davgyuti.Parameter) {
-	for _, it := range causes {
-		one, _ := davgyuti.NewParameter(davgyuti.ParameterType(it.Code), it.Value)
-		all = append(all, one)
+func itemsAt(parsed *davgyuti.Parsed, i int) []interface{} {
+	var parameters []davgyuti.Parameter
+	for k := 0; k < parsed.ParameterCount(i); k++ {
+		parameters = append(parameters, parsed.Parameter(i, k))
 	}
-	return all
+	var causes []davgyuti.Cause
+	for k := 0; k < parsed.CauseCount(i); k++ {
+		causes = append(causes, parsed.Cause(i, k))
+	}
+	return []interface{}{parsed.Chunk(i), parsed.Type(i), parameters, causes}
 }
 
-func (v *vector) item(it davgyuti.Parameter, isCause bool, wanted object) {
-	kind, isKind := wanted["kind"].(string)
-	cause, _ := davgyuti.NewCause(davgyuti.CauseCode(it.Type), it.Value)
-	number, name := wanted["type"], it.Type.String()
-	if isCause {
-		number, name = wanted["code"], cause.Code.String()
-	}
-	if isKind {
-		v.equal("kind", fold(name), fold(kind))
+// named compares a type by its kind's name, or by its number.
+func (v *vector) named(it bareVector, name fmt.Stringer, found, wanted uint16) {
+	if it.Kind != "" {
+		v.equal("kind", fold(name.String()), fold(it.Kind))
 	} else {
-		v.equal("number", float64(it.Type), number)
+		v.equal("number", found, wanted)
 	}
-	if next, hasNext := wanted["nexttsns"].(object); hasNext {
-		wanted["hasnexttsns"], wanted["sendernexttsn"], wanted["receivernexttsn"] = true, next["sender"], next["receiver"]
+}
+
+// chunk compares a chunk with what is wanted, and writes that.
+func (v *vector) chunk(chunk davgyuti.Chunk, text json.RawMessage) {
+	it := v.reads(chunk, text)
+	v.named(it.bareVector, chunk.Type, uint16(chunk.Type), it.Type)
+	v.equal("T", chunk.IsTagReflected(), it.TagReflected)
+	if it.Kind == "" || it.Cookie != nil {
+		v.equal("value", chunk.Value, append(append([]byte{}, it.Value...), it.Cookie...))
 	}
-	if !isCause {
-		reConfig, isReConfig := it.ReConfig()
-		wanted["type"] = float64(it.Type)
-		_, isRequest := wanted["requestnumber"]
-		_, isResponse := wanted["responsenumber"]
-		reConfig = same(v, reConfig, isReConfig, wanted, isRequest || isResponse)
-		streams := sameList(v, it.ResetStreams(), wanted["streams"])
-		if isReConfig {
-			v.equal("added", v.to.AddReConfig(reConfig, append(streams, make([]uint16, 3-3*map[bool]int{true: 1}[wanted["streams"] != nil])...)), nil)
-			return
-		}
+	if it.Kind == "" {
+		v.equal("flags", chunk.Flags, it.Flags)
 	}
-	types := sameList(v, cause.MissingParameters(), wanted["types"])
-	if wanted["types"] != nil {
-		v.equal("added", v.to.AddMissingParameters(types), nil)
+	parameters, causes := chunk.Parameters().Slice(), chunk.Causes().Slice()
+	v.equal("items", []int{len(parameters), len(causes)}, []int{len(it.Parameters), len(it.Causes)})
+	for i := 0; i < len(parameters) && i < len(it.Parameters); i++ {
+		v.parameter(parameters[i], it.Parameters[i])
+	}
+	for i := 0; i < len(causes) && i < len(it.Causes); i++ {
+		v.cause(causes[i], it.Causes[i])
+	}
+}
+
+func (v *vector) parameter(found davgyuti.Parameter, text json.RawMessage) {
+	var it itemVector
+	v.decode(text, &it)
+	v.named(it.bareVector, found.Type, uint16(found.Type), it.Type)
+	var wanted davgyuti.ReConfig
+	isReConfig := it.RequestNumber != nil || it.ResponseNumber != nil
+	if isReConfig {
+		v.decode(text, &wanted)
+		wanted.Type, wanted.StreamCount = found.Type, len(it.Streams)
+	}
+	if next := it.NextTSNs; next != nil {
+		wanted.HasNextTSNs, wanted.SenderNextTSN, wanted.ReceiverNextTSN = true, next.Sender, next.Receiver
+	}
+	reConfig, ok := found.ReConfig()
+	v.equal("ReConfig", []interface{}{reConfig, ok}, []interface{}{wanted, isReConfig})
+	v.equal("streams", append([]uint16{}, found.ResetStreams().Slice()...), append([]uint16{}, it.Streams...))
+	if !isReConfig {
+		writes(v, it, found.Type, found.Value, found.Number, v.to.AddNumber, v.to.AddParameter)
 		return
 	}
-	delete(wanted, "type")
-	value := []byte{}
-	for _, field := range wanted {
-		if wide, isNumber := field.(float64); isNumber && isKind {
-			found, isThere := it.Number()
-			v.equal("number", []interface{}{float64(found), isThere}, []interface{}{wide, true})
-			v.equal("added", v.to.AddNumber(it.Type, uint32(wide)), nil)
+	if it.Streams == nil {
+		it.Streams = make([]uint16, 3) // which are ignored
+	}
+	v.equal("added", v.to.AddReConfig(wanted, it.Streams), nil)
+}
+
+func (v *vector) cause(found davgyuti.Cause, text json.RawMessage) {
+	var it itemVector
+	v.decode(text, &it)
+	v.named(it.bareVector, found.Code, uint16(found.Code), it.Code)
+	v.equal("types", append([]davgyuti.ParameterType{}, found.MissingParameters().Slice()...), append([]davgyuti.ParameterType{}, it.Types...))
+	if it.Types != nil {
+		v.equal("added", v.to.AddMissingParameters(it.Types), nil)
+	} else {
+		writes(v, it, found.Code, found.Value, found.Number, v.to.AddCauseNumber, v.to.AddCause)
+	}
+}
+
+// writes compares a value that is a number or bytes, and writes it.
+func writes[N ~uint16](v *vector, it itemVector, number N, value []byte, read func() (uint32, bool), addNumber func(N, uint32) error,
+	add func(N, []byte) error) {
+	for _, wanted := range []*uint32{it.Method, it.TSN} {
+		if wanted != nil {
+			found, ok := read()
+			v.equal("number", []interface{}{found, ok, addNumber(number, found)}, []interface{}{*wanted, true, nil})
 			return
 		}
 	}
-	for name, field := range wanted {
-		if name != "kind" && name != "code" {
-			value = ofHex(field.(string))
-		}
-	}
-	v.equal("value", it.Value, value)
-	v.equal("added", v.to.AddParameter(it.Type, value), nil)
+	wanted := bytes.Join([][]byte{it.Value, it.Info, it.Cookie, it.ChunkTypes, it.Reason, it.Information, it.Chunk}, nil)
+	v.equal("value", []interface{}{value, add(number, value)}, []interface{}{wanted, nil})
 }
 
 func TestKinds(t *testing.T) {
@@ -311,8 +261,6 @@ func TestKinds(t *testing.T) {
 		vectorsOf(t, more, 1, run)
 	}
 }
-
-const vectors = "../../registry/vectors/"
 
 // Fields are those of a value of registered.jsonl, in their order.
 type fields []struct {
@@ -336,10 +284,7 @@ func (all *fields) UnmarshalJSON(text []byte) error {
 		if err != nil {
 			return err
 		}
-		*all = append(*all, struct {
-			name  string
-			value interface{}
-		}{name.(string), value})
+		*all = append(*all, fields{{name.(string), value}}...)
 	}
 	return nil
 }
@@ -381,10 +326,11 @@ func TestRegistered(t *testing.T) {
 					wanted.Rest = nil
 				}
 			case []interface{}:
-				if field.name == "counts" {
-					wanted.Numbers = append(wanted.Numbers, of[[]uint32](value)...)
-				} else {
-					wanted.Rest, lists = rest(value), value
+				if wanted.Rest, lists = rest(value), value; field.name == "counts" {
+					for _, it := range value {
+						wanted.Numbers = append(wanted.Numbers, uint32(it.(float64)))
+					}
+					wanted.Rest, lists = nil, []interface{}{}
 				}
 			}
 		}
@@ -441,7 +387,8 @@ func TestRegistered(t *testing.T) {
 // A call is a line of calls.jsonl.
 type call struct {
 	Call, Packet, Answer, Fault                                                  string
-	Known, Returns, End                                                          interface{}
+	Known                                                                        json.RawMessage
+	Returns, End                                                                 interface{}
 	Type                                                                         uint16
 	OwnTag, InitiateTag                                                          uint32
 	PeerTag                                                                      *uint32
@@ -449,11 +396,43 @@ type call struct {
 	Header                                                                       davgyuti.Header
 }
 
+// known returns what a call has as known.
+func known[T any](it call) (all T) {
+	if err := json.Unmarshal(it.Known, &all); err != nil {
+		panic(err)
+	}
+	return all
+}
+
+// added adds to as much room as there has to be, and to a byte less: in a packet in which something is added before.
+func (it call) added(t *testing.T, first davgyuti.Chunk, before func(*davgyuti.Builder) error, add func(*davgyuti.Builder) (int, error)) interface{} {
+	wanted := ofHex(it.Returns.(string))
+	b, _ := davgyuti.Begin(make([]byte, davgyuti.FirstChunk+len(wanted)+3&^3), 5000, 5001, 0x01020304)
+	equal(t, "before", before(b), nil)
+	empty := len(b.Bytes())
+	end, err := add(b)
+	_, isThere := b.LastChunk()
+	equal(t, "added", []interface{}{err, isThere}, []interface{}{nil, len(wanted) > 0})
+	if where, stops := it.End.(float64); stops {
+		if _, isInit := first.Init(); isInit {
+			where += 16
+		}
+		equal(t, "end", end, int(where)+map[bool]int{true: first.Offset + 4}[it.Call != "add_unrecognized_chunks"])
+	}
+	found := hex.EncodeToString(b.Bytes()[davgyuti.FirstChunk:])
+	if len(b.Bytes()) > empty {
+		b, _ = davgyuti.Begin(make([]byte, len(b.Bytes())-1), 5000, 5001, 0x01020304)
+		_ = before(b)
+		_, err = add(b)
+		equal(t, "no room", []interface{}{err, len(b.Bytes())}, []interface{}{davgyuti.ErrNoRoom, empty})
+	}
+	return found
+}
+
 // asks returns what a call returns, as a vector has it: by a word, a truth value, or bytes.
 func (it call) asks(t *testing.T) interface{} {
 	packet := davgyuti.Packet(ofHex(it.Packet))
 	first, _ := packet.ChunkAt(davgyuti.FirstChunk)
-	header := davgyuti.Header{SourcePort: it.Header.SourcePort, DestinationPort: it.Header.DestinationPort, VerificationTag: it.Header.VerificationTag}
 	sealed := func(reply davgyuti.Packet, err error) interface{} {
 		if reply == nil {
 			return map[bool]interface{}{false: err}[err == davgyuti.ErrBadValue]
@@ -465,27 +444,6 @@ func (it call) asks(t *testing.T) interface{} {
 	for ; it.Fault != "" && word(fault) != fold(it.Fault); fault++ {
 	}
 	for ; it.Answer != "" && word(answer) != fold(it.Answer); answer++ {
-	}
-	// What is added is added to as much room as there has to be, and to a byte less.
-	added := func(before func(*davgyuti.Builder) error, add func(*davgyuti.Builder) (int, error)) interface{} {
-		wanted := ofHex(it.Returns.(string))
-		b, _ := davgyuti.Begin(make([]byte, davgyuti.FirstChunk+len(wanted)+3&^3), 5000, 5001, 0x01020304)
-		equal(t, "before", before(b), nil)
-		empty := len(b.Bytes())
-		end, err := add(b)
-		_, isThere := b.LastChunk()
-		equal(t, "added", []interface{}{err, isThere}, []interface{}{nil, len(wanted) > 0})
-		if where, stops := it.End.(float64); stops {
-			equal(t, "end", end, int(where)+map[bool]int{true: first.Offset + 4 + listAt(first)}[it.Call != "add_unrecognized_chunks"])
-		}
-		found := hex.EncodeToString(b.Bytes()[davgyuti.FirstChunk:])
-		if len(b.Bytes()) > empty {
-			b, _ = davgyuti.Begin(make([]byte, len(b.Bytes())-1), 5000, 5001, 0x01020304)
-			_ = before(b)
-			_, err = add(b)
-			equal(t, "no room", []interface{}{err, len(b.Bytes())}, []interface{}{davgyuti.ErrNoRoom, empty})
-		}
-		return found
 	}
 	nothing := func(*davgyuti.Builder) error { return nil }
 	switch it.Call {
@@ -502,29 +460,29 @@ func (it call) asks(t *testing.T) interface{} {
 	case "out_of_the_blue":
 		return word(packet.OutOfTheBlue(it.IsUnicast))
 	case "reply":
-		return sealed(header.Reply(answer))
+		return sealed(it.Header.Reply(answer))
 	case "init_fault":
 		return word(packet.InitFault(it.IsAck))
 	case "init_refusal":
 		return word(fault.Refusal(it.IsAck, it.InCookieWait))
 	case "init_abort":
-		return sealed(header.InitAbort(it.InitiateTag, fault))
+		return sealed(it.Header.InitAbort(it.InitiateTag, fault))
 	case "adds_addresses":
-		return first.AddsAddresses(of[[]byte](it.Known))
+		return first.AddsAddresses(ofHex(known[string](it)))
 	case "add_new_addresses":
-		return added(func(b *davgyuti.Builder) error { return b.AddChunk(davgyuti.ChunkAbort, 0, nil) },
-			func(b *davgyuti.Builder) (int, error) { return 0, b.AddNewAddresses(first, of[[]byte](it.Known)) })
+		return it.added(t, first, func(b *davgyuti.Builder) error { return b.AddChunk(davgyuti.ChunkAbort, 0, nil) },
+			func(b *davgyuti.Builder) (int, error) { return 0, b.AddNewAddresses(first, ofHex(known[string](it))) })
 	case "add_unrecognized_parameters":
-		return added(func(b *davgyuti.Builder) error { return b.AddInitAck(davgyuti.Init{}) }, func(b *davgyuti.Builder) (int, error) {
-			return b.AddUnrecognizedParameters(first, of[[]davgyuti.ParameterType](it.Known))
+		return it.added(t, first, func(b *davgyuti.Builder) error { return b.AddInitAck(davgyuti.Init{}) }, func(b *davgyuti.Builder) (int, error) {
+			return b.AddUnrecognizedParameters(first, known[[]davgyuti.ParameterType](it))
 		})
 	case "add_unrecognized_parameters_error":
-		return added(nothing, func(b *davgyuti.Builder) (int, error) {
-			return b.AddUnrecognizedParametersError(first, of[[]davgyuti.ParameterType](it.Known))
+		return it.added(t, first, nothing, func(b *davgyuti.Builder) (int, error) {
+			return b.AddUnrecognizedParametersError(first, known[[]davgyuti.ParameterType](it))
 		})
 	case "add_unrecognized_chunks":
-		return added(nothing, func(b *davgyuti.Builder) (int, error) {
-			return b.AddUnrecognizedChunks(packet, of[[]davgyuti.ChunkType](it.Known))
+		return it.added(t, davgyuti.Chunk{}, nothing, func(b *davgyuti.Builder) (int, error) {
+			return b.AddUnrecognizedChunks(packet, known[[]davgyuti.ChunkType](it))
 		})
 	case "broken_rules":
 		names := []interface{}{}
@@ -539,14 +497,6 @@ func (it call) asks(t *testing.T) interface{} {
 // word returns the identifier that has these words.
 func word(it fmt.Stringer) string {
 	return strings.Replace(fold(it.String()), "initiatetag0", "tagzero", 1)
-}
-
-// listAt returns where the list of a chunk begins in its value.
-func listAt(chunk davgyuti.Chunk) int {
-	if _, isInit := chunk.Init(); isInit {
-		return 16
-	}
-	return 0
 }
 
 func TestCalls(t *testing.T) {

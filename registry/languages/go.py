@@ -1,6 +1,7 @@
 # SPDX-License-Identifier: Apache-2.0
 """What registry/make.py writes of the table in Go: registry.go has its numbers, names and words, and kinds.go its kinds."""
 from languages.go_kinds import kinds
+from languages.go_tests import tests
 from languages.go_words import HEAD, NUMBERS, article, camel, comment, constant, lower
 from languages.words import LISTS, digits, registered, rule_name, rule_standard, wrapped
 
@@ -201,5 +202,5 @@ def registry(table):
     return HEAD + '\n'.join(lines) + '\n'
 
 
-FILES = {'bindings/go/registry.go': registry, 'bindings/go/kinds.go': kinds}
+FILES = {'bindings/go/registry.go': registry, 'bindings/go/kinds.go': kinds, 'bindings/go/kinds_gen_test.go': tests}
 MARKED = {}

@@ -7,7 +7,7 @@ import (
 	"testing"
 
 	"davgyuti.example/davgyuti/internal/direct"
-	"davgyuti.example/davgyuti/internal/direct/deep"
+	"davgyuti.example/davgyuti/internal/direct/tests/deep"
 )
 
 // at calls a function so many calls deeper.
