@@ -403,10 +403,10 @@ using missing_parameters = range<detail::list<std::uint16_t, &detail::get_u16>>;
 namespace detail {
 
 /// What of a chunk is by its kind.
-class chunk_kinds : public placed<::dcsctp_chunk> {
+template <typename Place> class chunk_kinds : public Place {
   public:
-    [[nodiscard]] chunk_type type() const noexcept { return static_cast<chunk_type>(it_.type); }
-    [[nodiscard]] std::uint8_t flags() const noexcept { return it_.flags; }
+    using Place::flags;
+    using Place::type;
     /// Of ABORT or SHUTDOWN COMPLETE: the T bit: the verification tag isn't the one that the receiver expects, but the
     /// one that it writes into its own packets, sent back to it (RFC 9260 section 8.5.1). Else false.
     [[nodiscard]] bool is_tag_reflected() const noexcept
@@ -523,7 +523,7 @@ class chunk_kinds : public placed<::dcsctp_chunk> {
     /// Reads SHUTDOWN: the last TSN before the first that is missing.
     [[nodiscard]] std::optional<std::uint32_t> as_shutdown() const noexcept
     {
-        return type() == chunk_type::shutdown ? number_of(value()) : std::nullopt;
+        return type() == chunk_type::shutdown ? number_of(this->value()) : std::nullopt;
     }
     /// What came after that, as offsets from it, if it is SACK.
     [[nodiscard]] dcsctp::gap_ack_blocks gap_ack_blocks() const noexcept
@@ -559,7 +559,7 @@ class chunk_kinds : public placed<::dcsctp_chunk> {
     }
 
   protected:
-    using placed::placed;
+    using Place::Place;
 };
 
 /// What of a parameter is by its kind.

@@ -187,158 +187,28 @@ template <typename T, typename... More> std::string object(const char *key, cons
         return '{' + text + ',' + object(more...).substr(1);
 }
 
-std::string show(const parameter &it)
+// Whether two values are equal, and aren't any more as soon as one of these fields is another.
+template <typename T, typename... Field> bool compares(Field T::*...field)
 {
-    const re_config of = it.as_re_config().value_or(re_config{});
-    const std::string streams = numbers(it.reset_streams());
-    const std::string next = of.has_next_tsns ? object("sender", of.sender_next_tsn, "receiver", of.receiver_next_tsn) : "null";
-    switch (it.type()) {
-    case parameter_type::heartbeat_info: return object("kind", "HEARTBEAT_INFO", "info", it.value());
-    case parameter_type::state_cookie: return object("kind", "STATE_COOKIE", "cookie", it.value());
-    case parameter_type::outgoing_ssn_reset:
-        return object("kind", "OUTGOING_SSN_RESET", "request_number", of.request_number, "response_number", of.response_number,
-                      "last_tsn", of.last_tsn, "streams", streams);
-    case parameter_type::incoming_ssn_reset:
-        return object("kind", "INCOMING_SSN_RESET", "request_number", of.request_number, "streams", streams);
-    case parameter_type::ssn_tsn_reset: return object("kind", "SSN_TSN_RESET", "request_number", of.request_number);
-    case parameter_type::reconfiguration_response:
-        return object("kind", "RECONFIGURATION_RESPONSE", "response_number", of.response_number, "result", number(of.result),
-                      "next_tsns", next);
-    case parameter_type::add_outgoing_streams:
-    case parameter_type::add_incoming_streams:
-        return object("kind",
-                      it.type() == parameter_type::add_outgoing_streams ? "ADD_OUTGOING_STREAMS" : "ADD_INCOMING_STREAMS",
-                      "request_number", of.request_number, "new_streams", of.new_streams);
-    case parameter_type::zero_checksum_acceptable:
-        if (const auto method = it.as_number())
-            return object("kind", "ZERO_CHECKSUM_ACCEPTABLE", "method", *method);
-        break;
-    case parameter_type::supported_extensions: return object("kind", "SUPPORTED_EXTENSIONS", "chunk_types", it.value());
-    case parameter_type::forward_tsn_supported: return object("kind", "FORWARD_TSN_SUPPORTED");
-    default: break;
-    }
-    return object("type", number(it.type()), "value", it.value());
+    const auto differs = [](auto one_field) {
+        T one{};
+        auto changed = one.*one_field;
+        std::memset(&changed, 1, sizeof changed);
+        one.*one_field = changed;
+        return one != T{} && !(one == T{}) && one == T(one);
+    };
+    return T{} == T{} && !(T{} != T{}) && (differs(field) && ...);
 }
 
-std::string show(const cause &it)
-{
-    switch (it.code()) {
-    case cause_code::missing_mandatory_parameter:
-        return object("kind", "MISSING_MANDATORY_PARAMETER", "types", numbers(it.missing_parameters()));
-    case cause_code::unrecognized_chunk: return object("kind", "UNRECOGNIZED_CHUNK", "chunk", it.value());
-    case cause_code::no_user_data: return object("kind", "NO_USER_DATA", "tsn", it.as_number().value_or(0));
-    case cause_code::cookie_received_while_shutting_down: return object("kind", "COOKIE_RECEIVED_WHILE_SHUTTING_DOWN");
-    case cause_code::user_initiated_abort: return object("kind", "USER_INITIATED_ABORT", "reason", it.value());
-    case cause_code::protocol_violation: return object("kind", "PROTOCOL_VIOLATION", "information", it.value());
-    default: return object("code", number(it.code()), "value", it.value());
-    }
-}
-
-std::string show(const chunk &it)
-{
-    const data of = it.as_data().value_or(data{});
-    const init asked = it.as_init().value_or(init{});
-    const sack sack = it.as_sack().value_or(dcsctp::sack{});
-    const auto forward = it.as_forward_tsn().value_or(forward_tsn{});
-    const auto item = [](const auto &one) { return show(one); };
-    const std::string parameters = list_of(it.parameters(), item), causes = list_of(it.causes(), item);
-    switch (it.type()) {
-    case chunk_type::data:
-        return object("kind", "DATA", "is_end", of.is_end, "is_beginning", of.is_beginning, "is_unordered", of.is_unordered,
-                      "immediate_ack", of.immediate_ack, "tsn", of.tsn, "stream", of.stream, "ssn", of.ssn, "ppid", of.ppid,
-                      "payload", of.payload);
-    case chunk_type::i_data:
-        return object("kind", "I_DATA", "is_end", of.is_end, "is_beginning", of.is_beginning, "is_unordered", of.is_unordered,
-                      "immediate_ack", of.immediate_ack, "tsn", of.tsn, "stream", of.stream, "mid", of.mid, "ppid", of.ppid,
-                      "fsn", of.fsn, "payload", of.payload);
-    case chunk_type::init:
-    case chunk_type::init_ack:
-        return object("kind", it.type() == chunk_type::init ? "INIT" : "INIT_ACK", "initiate_tag", asked.initiate_tag, "a_rwnd",
-                      asked.a_rwnd, "outbound_streams", asked.outbound_streams, "inbound_streams", asked.inbound_streams,
-                      "initial_tsn", asked.initial_tsn, "parameters", parameters);
-    case chunk_type::sack:
-        CHECK(it.gap_ack_blocks().size() == sack.block_count && it.duplicate_tsns().size() == sack.duplicate_count);
-        return object(
-            "kind", "SACK", "cumulative_tsn_ack", sack.cumulative_tsn_ack, "a_rwnd", sack.a_rwnd, "blocks",
-            list_of(it.gap_ack_blocks(), [](gap_ack_block one) { return object("start", one.start, "end", one.end); }),
-            "duplicates", numbers(it.duplicate_tsns()));
-    case chunk_type::heartbeat: return object("kind", "HEARTBEAT", "parameters", parameters);
-    case chunk_type::heartbeat_ack: return object("kind", "HEARTBEAT_ACK", "parameters", parameters);
-    case chunk_type::abort: return object("kind", "ABORT", "tag_reflected", it.is_tag_reflected(), "causes", causes);
-    case chunk_type::shutdown: return object("kind", "SHUTDOWN", "cumulative_tsn_ack", it.as_shutdown().value_or(0));
-    case chunk_type::shutdown_ack: return object("kind", "SHUTDOWN_ACK");
-    case chunk_type::error: return object("kind", "ERROR", "causes", causes);
-    case chunk_type::cookie_echo: return object("kind", "COOKIE_ECHO", "cookie", it.value());
-    case chunk_type::cookie_ack: return object("kind", "COOKIE_ACK");
-    case chunk_type::shutdown_complete: return object("kind", "SHUTDOWN_COMPLETE", "tag_reflected", it.is_tag_reflected());
-    case chunk_type::re_config: return object("kind", "RE_CONFIG", "parameters", parameters);
-    case chunk_type::forward_tsn:
-    case chunk_type::i_forward_tsn: {
-        const bool is_i = it.type() == chunk_type::i_forward_tsn;
-        CHECK(it.skipped_streams().size() == forward.stream_count);
-        return object("kind", is_i ? "I_FORWARD_TSN" : "FORWARD_TSN", "new_cumulative_tsn", forward.new_cumulative_tsn,
-                      "streams", list_of(it.skipped_streams(), [&](skipped_stream one) {
-                          return is_i ? object("stream", one.stream, "is_unordered", one.is_unordered, "mid", one.mid)
-                                      : object("stream", one.stream, "ssn", one.ssn);
-                      }));
-    }
-    default: return object("type", number(it.type()), "flags", it.flags(), "value", it.value());
-    }
-}
-
-bool write(builder &to, const parameter &it)
-{
-    if (const auto of = it.as_re_config())
-        return bool(to.add_re_config(*of, it.reset_streams().to_vector()));
-    if (it.type() == parameter_type::zero_checksum_acceptable && it.as_number())
-        return bool(to.add_number(it.type(), *it.as_number()));
-    return bool(to.add_parameter(it.type(), it.value()));
-}
-
-bool write(builder &to, const cause &it)
-{
-    if (it.code() == cause_code::missing_mandatory_parameter)
-        return bool(to.add_missing_parameters(it.missing_parameters().to_vector()));
-    if (it.code() == cause_code::no_user_data)
-        return bool(to.add_number(it.code(), *it.as_number()));
-    return bool(to.add_cause(it.code(), it.value()));
-}
-
-bool write_numbers(builder &to, const chunk &it)
-{
-    switch (it.type()) {
-    case chunk_type::data: return bool(to.add_data(*it.as_data()));
-    case chunk_type::i_data: return bool(to.add_i_data(*it.as_data()));
-    case chunk_type::init: return bool(to.add_init(*it.as_init()));
-    case chunk_type::init_ack: return bool(to.add_init_ack(*it.as_init()));
-    case chunk_type::sack:
-        return bool(to.add_sack(it.as_sack()->cumulative_tsn_ack, it.as_sack()->a_rwnd, it.gap_ack_blocks().to_vector(),
-                                it.duplicate_tsns().to_vector()));
-    case chunk_type::shutdown: return bool(to.add_shutdown(*it.as_shutdown()));
-    case chunk_type::shutdown_ack: return bool(to.add_shutdown_ack());
-    case chunk_type::cookie_echo: return bool(to.add_cookie_echo(it.value()));
-    case chunk_type::cookie_ack: return bool(to.add_cookie_ack());
-    case chunk_type::shutdown_complete: return bool(to.add_shutdown_complete(it.is_tag_reflected()));
-    case chunk_type::forward_tsn:
-        return bool(to.add_forward_tsn(it.as_forward_tsn()->new_cumulative_tsn, it.skipped_streams().to_vector()));
-    case chunk_type::i_forward_tsn:
-        return bool(to.add_i_forward_tsn(it.as_forward_tsn()->new_cumulative_tsn, it.skipped_streams().to_vector()));
-    case chunk_type::heartbeat:
-    case chunk_type::heartbeat_ack:
-    case chunk_type::error:
-    case chunk_type::re_config:
-    case chunk_type::abort: return bool(to.add_chunk(it.type(), it.is_tag_reflected()));
-    default: return bool(to.add_chunk(it.type(), it.flags(), it.value()));
-    }
-}
+#include "test_kinds.hpp"
 
 bool write(builder &to, const chunk &it)
 {
-    bool wrote = write_numbers(to, it);
+    bool wrote = write_alone(to, it);
     for (parameter one : it.parameters())
-        wrote = wrote && write(to, one);
+        wrote = wrote && write_alone(to, one);
     for (cause one : it.causes())
-        wrote = wrote && write(to, one);
+        wrote = wrote && write_alone(to, one);
     return wrote;
 }
 
@@ -348,7 +218,61 @@ std::string show(const std::optional<fault> &it)
     return it ? '[' + json(names[number(it->code)]) + ',' + std::to_string(it->offset) + ']' : "";
 }
 
-void agrees(bytes_view from, const chunk &it);
+bool alike(std::uint32_t one, std::uint32_t other) { return one == other; }
+
+// Whether what is read of a chunk or an item is what a proved call reads.
+struct alike_by_c {
+    bytes_view from;
+    template <typename T, typename Owner, typename C>
+    bool operator()(const std::optional<T> &it, const Owner &of,
+                    bool (*c)(const std::uint8_t *, std::size_t, const Owner *, C *)) const
+    {
+        C read{};
+        return it.has_value() == c(from.data(), from.size(), &of, &read) && (!it || alike(*it, read));
+    }
+    // The same of each item of a list.
+    template <typename Range, typename Owner, typename C>
+    bool operator()(const Range &range, const Owner &of,
+                    bool (*c)(const std::uint8_t *, std::size_t, const Owner *, std::size_t, C *),
+                    std::size_t (*all)(const std::uint8_t *, std::size_t, const Owner *, C *, std::size_t)) const
+    {
+        std::vector<C> read(all(from.data(), from.size(), &of, nullptr, 0) + 1);
+        all(from.data(), from.size(), &of, read.data(), read.size());
+        C one{};
+        const auto items = range.to_vector();
+        return items.size() + 1 == read.size() && !c(from.data(), from.size(), &of, items.size(), &one)
+            && std::equal(items.begin(), items.end(), read.begin(),
+                          [](const auto &it, const auto &other) { return alike(it, other); });
+    }
+};
+
+// The same of the parameters or error causes of a chunk, one after the other.
+template <typename Range>
+std::size_t agrees_up_to(bytes_view from, const Range &range, const ::dcsctp_chunk &of, std::size_t next)
+{
+    ::dcsctp_parameter item{};
+    for (const auto &it : range) {
+        CHECK(::dcsctp_parameter_at(from.data(), from.size(), &of, next, &item) && it.offset() == next
+              && it.next_offset() == item.next);
+        CHECK(it.value().data() == from.data() + item.value_offset && it.value().size() == item.value_size);
+        each_reader(it, item, alike_by_c{from});
+        next = it.next_offset();
+    }
+    return next;
+}
+
+void agrees(bytes_view from, const chunk &it)
+{
+    ::dcsctp_chunk of{};
+    CHECK(::dcsctp_chunk_at(from.data(), from.size(), it.offset(), &of));
+    each_reader(it, of, alike_by_c{from});
+    CHECK(!it.as_data() || it.as_data()->payload.end() == it.value().end());
+    ::dcsctp_parameter more{};
+    const std::size_t next =
+        agrees_up_to(from, it.causes(), of, agrees_up_to(from, it.parameters(), of, ::dcsctp_list_offset(&of)));
+    CHECK(!::dcsctp_parameter_at(from.data(), from.size(), &of, next, &more));
+    CHECK(it.parameters().size() + it.causes().size() == ::dcsctp_parameters(from.data(), from.size(), &of, nullptr, 0));
+}
 
 void kind_line(std::string_view line)
 {
@@ -364,6 +288,8 @@ void kind_line(std::string_view line)
         return;
     CHECK(show(it.first_fault({true, false, true})) == by_key(line, "strict") && shown == by_key(line, "chunks"));
     CHECK(list_of(read.chunks(), [](row_view one) { return show(one.whole()); }) == shown && read.has_all());
+    for (std::size_t i = 0; i < rows.size(); i++)
+        each_reader(*read.chunks().at(i), rows[i].chunk, alike_by_c{given});
     bytes wanted = given;
     if (const bytes other = bytes_by(line, "written"); !other.empty())
         wanted = joined(bytes(given.begin(), given.begin() + 12), other);
@@ -486,13 +412,6 @@ template <typename Enum, std::size_t count> Enum named(const char *const (&names
 
 void call_line(std::string_view line)
 {
-    static const char *const actions[] = {"STOP", "STOP_AND_REPORT", "SKIP", "SKIP_AND_REPORT"};
-    static const char *const verdicts[] = {"ACCEPT", "ESTABLISH", "OUT_OF_THE_BLUE", "DISCARD"};
-    static const char *const answers[] = {"DISCARD", "INIT", "COOKIE_ECHO", "SHUTDOWN_COMPLETE", "ABORT"};
-    static const char *const refusals[] = {"DISCARD", "ABORT", "DESTROY_AND_ABORT"};
-    static const char *const faults[] = {"NO_FAULT",           "NOT_ALONE",       "TOO_SHORT",
-                                         "TAG_ZERO",           "SMALL_WINDOW",    "NO_OUTBOUND_STREAMS",
-                                         "NO_INBOUND_STREAMS", "NO_STATE_COOKIE", "HOST_NAME_ADDRESS"};
     const std::string call = text_by(line, "call"), wanted = by_key(line, "returns"), header_of = by_key(line, "header");
     const bytes given = bytes_by(line, "packet");
     const packet it(given);
@@ -500,25 +419,25 @@ void call_line(std::string_view line)
     const header to{static_cast<std::uint16_t>(number_by(header_of, "source_port")),
                     static_cast<std::uint16_t>(number_by(header_of, "destination_port")),
                     number_by(header_of, "verification_tag"), 77};
-    const auto fault = named<init_fault>(faults, text_by(line, "fault"));
+    const auto fault = named<init_fault>(names_of_init_fault, text_by(line, "fault"));
     const auto made = [](auto sent) { return sent && seal(*sent) ? json(bytes_view(*sent)) : std::string("null"); };
     std::string found;
     if (call == "unrecognized_chunk") {
-        found = json(actions[number(unrecognized(static_cast<chunk_type>(number_by(line, "type"))))]);
+        found = json(names_of_action[number(unrecognized(static_cast<chunk_type>(number_by(line, "type"))))]);
     } else if (call == "unrecognized_parameter") {
-        found = json(actions[number(unrecognized(static_cast<parameter_type>(number_by(line, "type"))))]);
+        found = json(names_of_action[number(unrecognized(static_cast<parameter_type>(number_by(line, "type"))))]);
     } else if (call == "verify_tag") {
         const bool has_peer_tag = by_key(line, "peer_tag") != "null";
-        found = json(verdicts[number(it.verify_tag({number_by(line, "own_tag"), number_by(line, "peer_tag"), has_peer_tag,
-                                                    is_by(line, "awaits_cookie")}))]);
+        association of{number_by(line, "own_tag"), number_by(line, "peer_tag"), has_peer_tag, is_by(line, "awaits_cookie")};
+        found = json(names_of_tag_verdict[number(it.verify_tag(of))]);
     } else if (call == "out_of_the_blue") {
-        found = json(answers[number(it.out_of_the_blue(is_by(line, "is_unicast")))]);
+        found = json(names_of_answer[number(it.out_of_the_blue(is_by(line, "is_unicast")))]);
     } else if (call == "reply") {
-        found = made(reply(to, named<answer>(answers, text_by(line, "answer"))));
+        found = made(reply(to, named<answer>(names_of_answer, text_by(line, "answer"))));
     } else if (call == "init_fault") {
-        found = json(faults[number(it.init_fault(is_by(line, "is_ack")))]);
+        found = json(names_of_init_fault[number(it.init_fault(is_by(line, "is_ack")))]);
     } else if (call == "init_refusal") {
-        found = json(refusals[number(init_refusal(fault, is_by(line, "is_ack"), is_by(line, "in_cookie_wait")))]);
+        found = json(names_of_refusal[number(init_refusal(fault, is_by(line, "is_ack"), is_by(line, "in_cookie_wait")))]);
     } else if (call == "init_abort") {
         found = made(init_abort(to, number_by(line, "initiate_tag"), fault));
     } else if (call == "broken_rules") {
@@ -597,111 +516,6 @@ void read_all(const std::optional<registered> &it)
         read_all(one.as_registered());
 }
 
-bool alike(std::uint32_t one, std::uint32_t other) { return one == other; }
-bool alike(gap_ack_block one, const struct ::dcsctp_gap_ack_block &other)
-{
-    return one == gap_ack_block{other.start, other.end};
-}
-bool alike(skipped_stream one, const struct ::dcsctp_skipped_stream &it)
-{
-    return one == skipped_stream{it.stream, it.ssn, it.mid, it.is_unordered};
-}
-bool alike(const init &one, const struct ::dcsctp_init &it)
-{
-    return one == init{it.initiate_tag, it.a_rwnd, it.outbound_streams, it.inbound_streams, it.initial_tsn};
-}
-bool alike(const sack &one, const struct ::dcsctp_sack &it)
-{
-    return one == sack{it.cumulative_tsn_ack, it.a_rwnd, it.block_count, it.duplicate_count};
-}
-bool alike(const forward_tsn &one, const struct ::dcsctp_forward_tsn &it)
-{
-    return one == forward_tsn{it.new_cumulative_tsn, it.stream_count};
-}
-bool alike(const re_config &one, const struct ::dcsctp_re_config &it)
-{
-    return one
-           == re_config{static_cast<parameter_type>(it.type),
-                        it.request_number,
-                        it.response_number,
-                        it.last_tsn,
-                        static_cast<re_config_result>(it.result),
-                        it.has_next_tsns,
-                        it.sender_next_tsn,
-                        it.receiver_next_tsn,
-                        it.new_streams,
-                        it.stream_count};
-}
-bool alike(data one, const struct ::dcsctp_data &it)
-{
-    const bool is_size = one.payload.size() == it.payload_size;
-    one.payload = {};
-    return is_size && one == data{it.tsn,          it.mid,          it.fsn,    it.ppid,          it.stream, it.ssn,
-                                  it.is_unordered, it.is_beginning, it.is_end, it.immediate_ack, {}};
-}
-
-// Whether what is read of a chunk or an item is what a proved call reads.
-template <typename T, typename Owner, typename C>
-bool agrees(bytes_view from, const std::optional<T> &it, const Owner &of,
-            bool (*c)(const std::uint8_t *, std::size_t, const Owner *, C *))
-{
-    C read{};
-    return it.has_value() == c(from.data(), from.size(), &of, &read) && (!it || alike(*it, read));
-}
-// The same of each item of a list.
-template <typename Range, typename Owner, typename C>
-bool agrees(bytes_view from, const Range &range, const Owner &of,
-            bool (*c)(const std::uint8_t *, std::size_t, const Owner *, std::size_t, C *),
-            std::size_t (*all)(const std::uint8_t *, std::size_t, const Owner *, C *, std::size_t))
-{
-    std::vector<C> read(all(from.data(), from.size(), &of, nullptr, 0) + 1);
-    all(from.data(), from.size(), &of, read.data(), read.size());
-    C one{};
-    const auto items = range.to_vector();
-    return items.size() + 1 == read.size() && !c(from.data(), from.size(), &of, items.size(), &one)
-           && std::equal(items.begin(), items.end(), read.begin(),
-                         [](const auto &it, const auto &other) { return alike(it, other); });
-}
-// The same of the parameters or error causes of a chunk, one after the other.
-template <typename Range>
-std::size_t agrees_up_to(bytes_view from, const Range &range, const ::dcsctp_chunk &of, std::size_t next)
-{
-    ::dcsctp_parameter item{};
-    for (const auto &it : range) {
-        CHECK(::dcsctp_parameter_at(from.data(), from.size(), &of, next, &item) && it.offset() == next
-              && it.next_offset() == item.next);
-        CHECK(it.value().data() == from.data() + item.value_offset && it.value().size() == item.value_size);
-        CHECK(agrees(from, it.as_number(), item, ::dcsctp_number));
-        if constexpr (std::is_same_v<typename Range::value_type, parameter>) {
-            CHECK(number(it.type()) == item.type && agrees(from, it.as_re_config(), item, ::dcsctp_re_config));
-            CHECK(agrees(from, it.reset_streams(), item, ::dcsctp_reset_stream, ::dcsctp_reset_streams));
-        } else {
-            CHECK(number(it.code()) == item.type);
-            CHECK(agrees(from, it.missing_parameters(), item, ::dcsctp_missing_parameter, ::dcsctp_missing_parameters));
-        }
-        next = it.next_offset();
-    }
-    return next;
-}
-
-void agrees(bytes_view from, const chunk &it)
-{
-    ::dcsctp_chunk of{};
-    CHECK(::dcsctp_chunk_at(from.data(), from.size(), it.offset(), &of));
-    CHECK(agrees(from, it.as_data(), of, ::dcsctp_data) && agrees(from, it.as_init(), of, ::dcsctp_init));
-    CHECK(agrees(from, it.as_sack(), of, ::dcsctp_sack) && agrees(from, it.as_forward_tsn(), of, ::dcsctp_forward_tsn));
-    CHECK(agrees(from, it.as_shutdown(), of, ::dcsctp_shutdown));
-    CHECK(!it.as_data() || it.as_data()->payload.end() == it.value().end());
-    CHECK(agrees(from, it.gap_ack_blocks(), of, ::dcsctp_gap_ack_block, ::dcsctp_gap_ack_blocks));
-    CHECK(agrees(from, it.duplicate_tsns(), of, ::dcsctp_duplicate_tsn, ::dcsctp_duplicate_tsns));
-    CHECK(agrees(from, it.skipped_streams(), of, ::dcsctp_skipped_stream, ::dcsctp_skipped_streams));
-    ::dcsctp_parameter more{};
-    const std::size_t next =
-        agrees_up_to(from, it.causes(), of, agrees_up_to(from, it.parameters(), of, ::dcsctp_list_offset(&of)));
-    CHECK(!::dcsctp_parameter_at(from.data(), from.size(), &of, next, &more));
-    CHECK(it.parameters().size() + it.causes().size() == ::dcsctp_parameters(from.data(), from.size(), &of, nullptr, 0));
-}
-
 void read_all(bytes_view bytes)
 {
     const packet it(bytes);
@@ -764,6 +578,26 @@ void any_bytes()
 }
 
 // ---- what only C++ has
+
+// Views of what goes on, which no compiler may warn of; test.sh has those of what is gone.
+bytes_view right(mutable_bytes_view bytes) { return bytes; }
+packet right(bytes_view bytes) { return packet(bytes); }
+bytes_view right(builder &builder) { return builder.bytes(); }
+builder right_too(mutable_bytes_view bytes) { return builder(bytes, 1, 2, 3); }
+std::string_view right_too(bytes_view bytes) { return as_text(bytes); }
+bytes_view right_too(std::string_view text) { return as_bytes(text); }
+
+void right_views()
+{
+    const std::string text = "ab";
+    bytes own(100);
+    const bytes &constant = own;
+    builder to = right_too(mutable_bytes_view(own));
+    CHECK(to.add_cookie_echo(bytes(2)) && to.add_cookie_echo({1, 2}) && to.add_sack(1, 2, {{2, 3}}, {4})
+          && to.add_cookie_echo(as_bytes(std::string_view(std::string(text)))) && to.seal());
+    CHECK(right(right(to)).check() && packet(bytes_view(bytes(to.bytes().begin(), to.bytes().end()))).check()
+          && packet(constant).size() == right(mutable_bytes_view(own)).size() && right_too(right_too(text)) == text);
+}
 
 void whole_packets()
 {
@@ -941,33 +775,12 @@ void names()
     CHECK(two.to_vector() == std::vector<rule>{rule::port_zero, rule::tag_zero} && two != rules() && rules().empty());
 }
 
-// Whether two values are equal, and aren't any more as soon as one of these fields is another.
-template <typename T, typename... Field> bool compares(Field T::*...field)
-{
-    const auto differs = [](auto one_field) {
-        T one{};
-        auto changed = one.*one_field;
-        std::memset(&changed, 1, sizeof changed);
-        one.*one_field = changed;
-        return one != T{} && !(one == T{}) && one == T(one);
-    };
-    return T{} == T{} && !(T{} != T{}) && (differs(field) && ...);
-}
-
 void equality()
 {
+    equal_structs();
     CHECK(compares(&header::source_port, &header::destination_port, &header::verification_tag, &header::checksum));
-    CHECK(compares(&init::initiate_tag, &init::a_rwnd, &init::outbound_streams, &init::inbound_streams, &init::initial_tsn));
-    CHECK(compares(&sack::cumulative_tsn_ack, &sack::a_rwnd, &sack::block_count, &sack::duplicate_count));
-    CHECK(compares(&gap_ack_block::start, &gap_ack_block::end) && compares(&fault::code, &fault::offset));
-    CHECK(compares(&forward_tsn::new_cumulative_tsn, &forward_tsn::stream_count) && compares(&written::code, &written::size));
-    CHECK(compares(&skipped_stream::stream, &skipped_stream::ssn, &skipped_stream::mid, &skipped_stream::is_unordered));
+    CHECK(compares(&fault::code, &fault::offset) && compares(&written::code, &written::size));
     CHECK(compares(&policy::any_checksum, &policy::zero_checksum, &policy::strict_padding, &policy::allowed_zero_checksum));
-    CHECK(compares(&data::tsn, &data::mid, &data::fsn, &data::ppid, &data::stream, &data::ssn, &data::is_unordered,
-                   &data::is_beginning, &data::is_end, &data::immediate_ack));
-    CHECK(compares(&re_config::type, &re_config::request_number, &re_config::response_number, &re_config::last_tsn,
-                   &re_config::result, &re_config::has_next_tsns, &re_config::sender_next_tsn,
-                   &re_config::receiver_next_tsn, &re_config::new_streams, &re_config::stream_count));
     const bytes one = {1, 2}, same_bytes = {1, 2};
     data with, again;
     with.payload = one;
@@ -1237,8 +1050,8 @@ int main(int count, char **words)
     }
     if (const char *path = std::getenv("VECTORS"))
         vectors(path, kind_line);
-    for (auto test : {any_bytes, whole_packets, builders, moved_builders, outcomes, names, equality, views, memory, stacks,
-                      registered_values, authenticated})
+    for (auto test : {any_bytes, whole_packets, builders, moved_builders, right_views, outcomes, names, equality, views, memory,
+                      stacks, registered_values, authenticated})
         test();
     std::printf("cpp: %d passed, %d failed\n", passed, failed);
     return failed != 0;

@@ -4,9 +4,9 @@
 #
 # Builds test.cc with g++ and clang++, those that are there, as C++17, C++20 and C++23, with the sanitizers, over the text in the
 # folder DIST (else the repository's dist/), and runs it over registry/vectors, and the file $VECTORS; show.cc and the README's
-# program as well, as C++17; all with every warning as an error. Has the compilers refuse each WAY of dangling.cc, some of them
-# clang++ alone. Looks whether dcsctp.hpp calls each function of dcsctp.h, or test.cc compares with it what is read by generated
-# code; and by clang-tidy whether each result is [[nodiscard]]. Stops at the first that fails.
+# program as well, as C++17; all with every warning as an error. Has the compilers refuse views of bytes that are gone, some of
+# them clang++ alone. Looks whether dcsctp.hpp calls each function of dcsctp.h, or test.cc compares with it what is read by
+# generated code; and by clang-tidy whether each result is [[nodiscard]]. Stops at the first that fails.
 set -eu -o pipefail
 case ${1:-} in
     --help) sed -n 's/^# \(usage: \)/\1/p' "$0" && exit ;;
@@ -27,7 +27,7 @@ left_out='named|read_many|items|short_numbers|add_(chunk|data|i_data|sack|init|i
 left_out+='|add_(shutdown|shutdown_ack|shutdown_complete|forward_tsn|i_forward_tsn|parameter|number|re_config|missing_parameters)'
 functions=$(sed -E ':a; s%/\*.*\*/%%; /\/\*/{N; ba}' "$dist/dcsctp.h" | grep -oE '\bdcsctp_[a-z_]+\(' | grep -vE "^dcsctp_($left_out)\(" | sort -u)
 [ "$(wc -l <<<"$functions")" -ge 45 ] || { echo "bindings/cpp: $dist/dcsctp.h has too few functions" >&2 && exit 1; }
-sed 's%//.*%%' dcsctp.hpp dcsctp_kinds.hpp test.cc >"$work/code"
+sed 's%//.*%%' dcsctp.hpp dcsctp_kinds.hpp test.cc test_kinds.hpp >"$work/code"
 for function in $functions; do
     grep -qE "::${function%(}(\(|[,>);])" "$work/code" ||
         { echo "bindings/cpp: dcsctp.hpp never calls ${function%(}" >&2 && exit 1; }
@@ -42,6 +42,25 @@ done
     printf 'INIT ACK: State Cookie\nCOOKIE ACK to tag 1294857517\nAdd IP Address: 1\n'
     printf '192.0.2.1\n198.51.100.1\n2001:db8::1\n2001:db8::2\n'
 } >"$work/readme.expected"
+
+# Views of bytes that are gone, and what isn't looked at: behind -, what clang++ alone finds. (What is right is in test.cc.)
+gone=(
+    'packet it(made());'
+    'packet it(std::array<std::uint8_t, 16>{});'
+    '- std::size_t size() { const bytes_view it = made(); return it.size(); }'
+    '- packet own() { const std::vector<std::uint8_t> bytes = made(); return packet(bytes); }'
+    '- builder own() { std::vector<std::uint8_t> bytes; return builder(bytes, 1, 2, 3); }'
+    '- builder own() { std::uint8_t bytes[100]; return builder(bytes, 1, 2, 3); }'
+    'void unused(packet it) { it.first_fault(); }'
+    'packet it(as_bytes(text()));'
+    'packet it(as_bytes(static_cast<const std::string>("a packet")));'
+    'const bytes_view it = as_bytes(std::vector<std::byte>(16));'
+    'const bytes_view it = as_bytes(std::array<std::byte, 16>{});'
+    '- bytes_view list() { return {1, 2, 3}; }'
+    '- std::size_t list() { const packet it({1, 2, 3}); return it.size(); }'
+    'const auto it = read_chunk(made());'
+    'const auto it = open_cookie({}, made(), 0);'
+)
 
 flags=(-Wall -Wextra -Wpedantic -Wconversion -Wshadow -Werror -I . -I "$dist")
 sanitizers=(-g "-fsanitize=address,undefined" -fno-sanitize-recover=all)
@@ -62,12 +81,13 @@ for compiler in g++ clang++; do
         "$work/test" "${vectors[@]}"
         tried=$((tried + 1))
     done
-    for way in $(sed -n 's/^#.*WAY == //p' dangling.cc); do
-        case $compiler$way in g++[3-6] | g++1[23]) continue ;; esac
-        said=0
-        "$compiler" -std=c++17 "${flags[@]}" -fsyntax-only -DWAY="$way" dangling.cc 2>"$work/said" || said=$?
-        if [ $((said != 0)) -ne $((way != 0)) ] || ! { [ "$way" -eq 0 ] || grep -q 'deleted\|-Wdangling\|address\|nodiscard' "$work/said"; }; then
-            echo "bindings/cpp: $compiler on the way $way of dangling.cc:" >&2 && cat "$work/said" >&2 && exit 1
+    for way in "${gone[@]}"; do
+        [ "$compiler" = clang++ ] || [ "${way%% *}" != - ] || continue
+        printf '%s\n' '#include "dcsctp.hpp"' 'using namespace dcsctp; std::string text(); std::vector<std::uint8_t> made();' \
+            "${way#- }" >"$work/gone.cc"
+        if "$compiler" -std=c++17 "${flags[@]}" -fsyntax-only "$work/gone.cc" 2>"$work/said" ||
+            ! grep -q 'deleted\|-Wdangling\|address\|nodiscard' "$work/said"; then
+            echo "bindings/cpp: $compiler on $way:" >&2 && cat "$work/said" >&2 && exit 1
         fi
     done
     "$compiler" -std=c++17 "${flags[@]}" -o "$work/readme" "$work/readme.cc" "$text"
