@@ -32,19 +32,17 @@ export const FIRST_CHUNK: 12;
 export const TAG_REFLECTED: 1;
 /** What a result means, in a few words. */
 export function resultText(code: number): string;
-/** The name of a type of chunk, 0 to 255, as the standards write it; "chunk type 77 (0x4d)", say, for one that isn't
-    named above. */
+/** The name of a type of chunk, as the standards write it; "chunk type 77 (0x4d)", say, for one without a name. */
 export function chunkName(type: number): string;
-/** The same of a type of parameter, 0 to 65,535; "parameter type 32774 (0x8006)", say. */
+/** The same of a type of parameter; "parameter type 32774 (0x8006)", say. */
 export function parameterName(type: number): string;
-/** The same of a code of an error cause, 0 to 65,535; "cause code 99 (0x0063)", say. */
+/** The same of a code of an error cause; "cause code 99 (0x0063)", say. */
 export function causeName(code: number): string;
-/** Whether a type of chunk is named above. */
+/** Whether a type of chunk has a name. */
 export function isKnownChunk(type: unknown): type is ChunkType;
-/** Whether a type of parameter is named above. This isn't what your INIT handling may take for recognized: list that yourself, as
-    Add IP Address (0xc001), say, is named too. */
+/** Whether a type of parameter has one. This isn't what you may take for recognized in an INIT: list that yourself. */
 export function isKnownParameter(type: unknown): type is ParameterType;
-/** Whether a code of an error cause is named above. */
+/** Whether a code of an error cause has one. */
 export function isKnownCause(code: unknown): code is CauseCode;
 
 /** The bytes are no packet: the first fault, from the left. Its message says both. What a Worker posts of it arrives as a plain
@@ -80,8 +78,7 @@ export interface Policy {
   allowedZeroChecksum?: boolean;
   /** Padding has to be complete and zero. */
   strictPadding?: boolean;
-  /** What the checksum field has to be, most significant byte first; if left out, `word(bytes)`. The field itself is never
-      it. */
+  /** What the checksum field has to be; if left out, `word(bytes)`. The field itself is never it. */
   word?: number;
 }
 declare const isChecked: unique symbol;
@@ -91,19 +88,18 @@ export type Packet = Uint8Array & { readonly [isChecked]: true };
 export function check(bytes: Uint8Array, policy?: Policy): asserts bytes is Packet;
 /** What the first fault is and where, as a Fault has it; null where the bytes are a packet. */
 export function firstFault(bytes: Uint8Array, policy?: Policy): Pick<Fault, 'code' | 'offset'> | null;
-/** The canonical packet: two packets have the same one if and only if they mean the same. It isn't sealed. Throws as
-    `check` does; and a WriteError of TOO_LONG or NO_MEMORY, as the next two throw NO_MEMORY. */
+/** The canonical packet, unsealed: two packets have the same one if and only if they mean the same. Throws as `check` does, and a
+    WriteError of TOO_LONG. */
 export function canonical(bytes: Uint8Array, policy?: Policy): Uint8Array;
 /** A line for the header, and one for each chunk; there is none at the end. */
 export function text(bytes: Uint8Array, policy?: Policy): string;
 /** All that the packet holds, as `sctp_dump --payload` prints it; each line ends in a line feed. */
 export function report(bytes: Uint8Array, policy?: Policy): string;
-/** The CRC32c of a packet over zeros in its checksum field, as the number that the field has to be, most significant byte
-    first (section 6.8). For fewer than 12 bytes it has no meaning. */
+/** What a packet's checksum field has to be (section 6.8). For fewer than 12 bytes it has no meaning. */
 export function word(bytes: Uint8Array): number;
 
-/** Whether a packet has to have its CRC32c also where a checksum of zero was negotiated (RFC 9653 section 5.2): it has INIT,
-    COOKIE ECHO or ASCONF; or it answers a packet out of the blue, by ABORT or SHUTDOWN COMPLETE with TAG_REFLECTED. */
+/** Whether a packet has to have its CRC32c also where a checksum of zero was negotiated (RFC 9653 section 5.2): it has INIT, COOKIE
+    ECHO or ASCONF; or ABORT or SHUTDOWN COMPLETE with TAG_REFLECTED. */
 export function needsChecksum(bytes: Uint8Array): boolean;
 
 // ---- reading the parts of a packet
@@ -152,8 +148,7 @@ export interface ReadPacket {
   header: Header;
   chunks: Chunk[];
 }
-/** Checks a packet, and reads its header and its chunks, in one call: in less time than `check`, `header` and `chunks` take.
-    Throws as `check` does. */
+/** Checks a packet, and reads its header and its chunks: faster than `check`, `header` and `chunks`. Throws as `check` does. */
 export function read(bytes: Uint8Array, policy?: Policy): ReadPacket;
 
 /** Reads a SACK (section 3.3.4) into an object of yours, and returns that: it then has what `chunk.sack` has, in lists and blocks of its
@@ -209,7 +204,6 @@ export function causes(chunk: UncheckedChunk): IterableIterator<Cause>;
 
 /** An error cause of this code with a copy of this value, likewise. */
 export function cause(code: number, value?: Uint8Array): Cause;
-/** The same of the fields of its value. */
 export function cause<T extends keyof CauseKinds>(code: T, fields: CauseKinds[T]): Cause;
 export function cause<T extends keyof CauseFields>(code: T, fields: Given<CauseFields[T]>): Cause;
 
@@ -218,19 +212,15 @@ export function cause<T extends keyof CauseFields>(code: T, fields: Given<CauseF
     for another type than that, and where the value has a size that its type doesn't allow, or a list that is broken: `check`
     looks at none of these values. Views are of the chunk's value. */
 export function registeredChunk<T extends keyof ChunkFields>(chunk: UncheckedChunk, type: T): ChunkFields[T] | null;
-/** The same of a chunk of any type. */
 export function registeredChunk(chunk: UncheckedChunk): ChunkFields[keyof ChunkFields] | null;
 /** The same of a parameter of a type in ParameterFields. */
 export function registeredParameter<T extends keyof ParameterFields>(parameter: Parameter, type: T): ParameterFields[T] | null;
-/** The same of a parameter of any type. */
 export function registeredParameter(parameter: Parameter): ParameterFields[keyof ParameterFields] | null;
 /** The same of an error cause of a code in CauseFields. */
 export function registeredCause<T extends keyof CauseFields>(cause: Cause, code: T): CauseFields[T] | null;
-/** The same of an error cause of any code. */
 export function registeredCause(cause: Cause): CauseFields[keyof CauseFields] | null;
-/** The addresses of parameters, as text and in order: those of the IPv4 Address and IPv6 Address parameters of an INIT or INIT ACK
-    (RFC 9260 section 3.3.2.1), or of the cause Restart of an Association with New Addresses. All else is passed over, and so is an
-    address parameter of a wrong size. */
+/** The addresses of IPv4 Address and IPv6 Address parameters, as text and in order. All else is passed over, and so is one of a wrong
+    size. */
 export function addresses(parameters: Iterable<Parameter>): string[];
 
 // ---- changing a packet in place
@@ -253,9 +243,8 @@ export type Given<F> = { [K in keyof F as F[K] extends Fixed ? K : never]: AsGiv
   & { [K in keyof F as F[K] extends Fixed ? never : K]?: AsGiven<F[K]> };
 
 export interface Builder extends Kinds {}
-/** Builds a packet, chunk by chunk: what is added by its fields is in `Kinds`. A call that can't add throws a WriteError, NO_ROOM or BAD_VALUE, and changes nothing.
-    The values are written as they are: whether RFC 9260 lets them be sent, or `check` would accept the packet, isn't
-    checked. */
+/** Builds a packet, chunk by chunk: what is added by its fields is in `Kinds`. A call that can't add throws a WriteError, NO_ROOM or
+    BAD_VALUE, and changes nothing. Whether RFC 9260 lets the values be sent, or `check` would accept the packet, isn't checked. */
 export class Builder {
   /** Begins a packet. `room` is the most bytes that it may have, 65,532 if left out. Throws NO_ROOM for less than 12. */
   constructor(options: { sourcePort: number; destinationPort: number; verificationTag: number; room?: number });
@@ -270,8 +259,7 @@ export class Builder {
   addHeartbeat(info: Uint8Array): this;
   /** Adds HEARTBEAT ACK (section 3.3.6), with the Heartbeat Info of the HEARTBEAT. */
   addHeartbeatAck(info: Uint8Array): this;
-  /** Adds ABORT (section 3.3.7) with the cause User-Initiated Abort, whose reason is text or its UTF-8. Throws BAD_VALUE where it
-      isn't UTF-8, or has half a surrogate pair. */
+  /** Adds ABORT with the cause User-Initiated Abort, whose reason is text or its UTF-8. Throws BAD_VALUE where it is neither. */
   addAbort(reason?: string | Uint8Array, options?: { tagReflected?: boolean }): this;
   /** Adds a parameter to the last chunk. As all that adds to it this throws BAD_PLACE where there is no chunk. */
   addParameter(type: number, value?: Uint8Array): this;
@@ -356,7 +344,8 @@ export function reply(header: Header, answer: Answer): Uint8Array;
 /** Returns the fault of an INIT (section 3.3.2), or of an INIT ACK (section 3.3.3) where `isAck` is true. Of the parameters State
     Cookie and Host Name Address alone are looked for. */
 export function initFault(bytes: Uint8Array, isAck: boolean): InitFault;
-/** Returns what is done with a packet whose INIT or INIT ACK isn't processed, by the fault (sections 3.3.2, 3.3.3, 5.1 and 8.5.1), and of an INIT ACK by whether you are in the state COOKIE-WAIT. */
+/** Returns what is done with a packet whose INIT or INIT ACK has this fault (sections 3.3.2, 3.3.3, 5.1 and 8.5.1); of an INIT ACK by
+    whether you are in the state COOKIE-WAIT. */
 export function initRefusal(fault: InitFault, isAck: boolean, inCookieWait: boolean): Refusal;
 /** Returns the packet with the ABORT that says a fault to the sender of an INIT or INIT ACK with this initiate tag in a packet with
     this header. Its cause is Missing Mandatory Parameter or Invalid Mandatory Parameter; it has none for NOT_ALONE and TOO_SHORT, which

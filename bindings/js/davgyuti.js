@@ -5,10 +5,10 @@
 // (`this` is a CommonJS module's exports; in a module of a browser it is undefined)
 const {
   load, call, firstFaultOf, view, big, refuse, number, u16, u32, bigNumber, truth, record, isList, isBytes, Block, Struct, numbersOf,
-  keptList, u16sIn, Result, Action, TagVerdict, Answer, InitFault, Refusal, CookieState, ChunkType, ParameterType, CauseCode,
+  u16sIn, Result, Action, TagVerdict, Answer, InitFault, Refusal, CookieState, ChunkType, ParameterType, CauseCode,
   ReConfigResult, Rule, RESULT_TEXTS, RULE_TEXTS, DATA_FLAGS, LIST_OFFSETS, hasCauses, STRUCTS, CHUNK_NAMES, CHUNK_FIELDS,
-  PARAMETER_NAMES, PARAMETER_FIELDS, CAUSE_NAMES, CAUSE_FIELDS, readChunkValue, readLists, contents, hasParameterFields, readParameter, hasCauseFields, readCause,
-  writeParameter, writeCause, Kinds,
+  PARAMETER_NAMES, PARAMETER_FIELDS, CAUSE_NAMES, CAUSE_FIELDS, readChunkValue, readLists, contents, hasParameterFields,
+  readParameter, hasCauseFields, readCause, writeParameter, writeCause, Kinds,
 } = this ? { ...require('./library.js'), ...require('./kinds.js') } : globalThis[Symbol.for('davgyuti')];
 
 const version = '0.1.0';
@@ -104,11 +104,6 @@ const putNumbers = (block, struct, numbers) => putAll(block, struct, numbers.map
 /** Where a function takes a struct, or writes one. */
 const place = block => reserve(block, STRUCT);
 
-/** What a function writes as its last argument, where it returns true. */
-function found(struct, name, ...words) {
-  return call(name, ...words, place(answer)) ? struct.read(answer.from) : null;
-}
-
 /** Where a struct lies that a function takes. */
 function structOf(struct, object, name) {
   const values = struct.values(object, name), at = place(taken);
@@ -152,9 +147,7 @@ function faultOf(words) {
   return fault && new Fault(fault.code, fault.offset);
 }
 
-function firstFault(bytes, policy = {}) {
-  return firstOf(asked(bytes, policy));
-}
+const firstFault = (bytes, policy = {}) => firstOf(asked(bytes, policy));
 
 function check(bytes, policy = {}) {
   const words = asked(bytes, policy);
@@ -410,27 +403,15 @@ function chunksFrom(at, bytes) {
 
 const chunks = bytes => chunksFrom(FIRST_CHUNK, bytes).values();
 
-/** Copies a SACK that was read into an object of the caller's. */
-function copySack(it, sack) {
-  const blocks = keptList(sack.blocks, it.blocks.length, null), duplicates = keptList(sack.duplicates, it.duplicates.length, 0);
-  it.blocks.forEach(({ start, end }, i) => {
-    blocks[i] ??= {};
-    blocks[i].start = start;
-    blocks[i].end = end;
-  });
-  it.duplicates.forEach((tsn, i) => {
-    duplicates[i] = tsn;
-  });
-  const { cumulativeTsnAck, aRwnd, isInOrder } = it;
-  return Object.assign(sack, { cumulativeTsnAck, aRwnd, blocks, duplicates, isInOrder });
-}
+/** A builder of what is read again, without its packet. */
+const bare = () => new Builder({ sourcePort: 0, destinationPort: 0, verificationTag: 0 });
 
 function readSack(chunk, sack) {
   record(sack, 'sack');
   if (Chunk.is(record(chunk, 'chunk')) && Chunk.fillSack(chunk, sack))
     return sack;
   const it = chunk.sack;
-  return it === undefined ? undefined : copySack(it, sack);
+  return it === undefined ? undefined : readSack(bare().addSack(it).lastChunk(), sack);
 }
 
 function readChunk(bytes) {
@@ -463,17 +444,11 @@ function itemsOf({ type, value, valueOffset }, isCause) {
   return itemsIn(packet, LIST_OFFSETS.get(number(type, 'u8', 'type')) ?? length, length, isCause);
 }
 
-function parameters(chunk) {
-  if (hasCauses(record(chunk, 'chunk').type))
-    return [].values();
-  return (Chunk.is(chunk) ? Chunk.items(chunk, false) : itemsOf(chunk, false)).values();
-}
+const lister = isCause => chunk =>
+  (hasCauses(record(chunk, 'chunk').type) === isCause ? (Chunk.is(chunk) ? Chunk.items : itemsOf)(chunk, isCause) : []).values();
 
-function causes(chunk) {
-  if (!hasCauses(record(chunk, 'chunk').type))
-    return [].values();
-  return (Chunk.is(chunk) ? Chunk.items(chunk, true) : itemsOf(chunk, true)).values();
-}
+const parameters = lister(false);
+const causes = lister(true);
 
 /** A parameter or an error cause of a type and a value, or of the fields of one. */
 function itemOf(isCause, type, value, name) {
@@ -487,9 +462,9 @@ function itemOf(isCause, type, value, name) {
     bytes.set([type >> 8, type & 255, size >> 8, size & 255]);
     bytes.set(value, HEADER);
   } else {
-    const fields = isCause ? CAUSE_FIELDS : PARAMETER_FIELDS, call = `add${fields.has(type) ? 'Registered' : ''}${isCause ? 'Cause' : 'Parameter'}`;
-    const builder = new Builder({ sourcePort: 0, destinationPort: 0, verificationTag: 0 }).addChunk(ChunkType.ERROR);
-    bytes = builder[call](type, value).lastChunk().value;
+    const isRegistered = (isCause ? CAUSE_FIELDS : PARAMETER_FIELDS).has(type);
+    const call = `add${isRegistered ? 'Registered' : ''}${isCause ? 'Cause' : 'Parameter'}`;
+    bytes = bare().addChunk(ChunkType.ERROR)[call](type, value).lastChunk().value;
   }
   return itemsIn(packetOf(bytes), 0, bytes.length, isCause)[0];
 }
@@ -501,9 +476,9 @@ const cause = (code, value = NOTHING) => itemOf(true, code, value, 'code');
 
 /** A value whose fields a function reads of the words for it; null where they aren't there. It begins at a place of its packet. */
 function registeredOf(fields, name, value, base, words) {
-  const it = fields ? found(structs.registered, name, ...words) : null;
-  if (it === null)
+  if (!fields || !call(name, ...words, place(answer)))
     return null;
+  const it = structs.registered.read(answer.from);
   const read = {}, end = it.restOffset + it.restSize;
   for (const [name, form, ...names] of fields) {
     switch (form) {
@@ -529,38 +504,26 @@ function registeredOf(fields, name, value, base, words) {
   return read;
 }
 
-function registeredChunk(chunk, type = record(chunk, 'chunk').type) {
-  if (record(chunk, 'chunk').type !== type)
+/** A function that reads what a chunk, a parameter or an error cause holds, by its type or code. */
+const reader = (what, key, width, fields, name) => (given, type = record(given, what)[key]) => {
+  if (record(given, what)[key] !== type)
     return null;
-  const { value, valueOffset } = chunk, size = isBytes(value, 'value').length, base = number(valueOffset, 'size', 'valueOffset');
-  number(type, 'u8', 'type');
+  const { value, valueOffset, offset } = given, size = isBytes(value, 'value').length, isChunk = what === 'chunk';
+  const base = isChunk ? number(valueOffset, 'size', 'valueOffset') : number(offset, 'size', 'offset') + HEADER;
+  number(type, width, key);
   const words = [...put(input, value), place(taken)];
-  structs.chunk.write(taken.from, [type, 0, 0, size, size]);
-  return registeredOf(CHUNK_FIELDS.get(type), 'dcsctp_registered_chunk', value, base, words);
-}
-
-/** The same of a parameter or an error cause, of this type or code. */
-function registeredItem(fields, name, item, type) {
-  const { value, offset } = item, size = isBytes(value, 'value').length, base = number(offset, 'size', 'offset') + HEADER;
-  number(type, 'u16', 'type');
-  const words = [...put(input, value), place(taken)];
-  structs.parameter.write(taken.from, [type, 0, size, size]);
+  (isChunk ? structs.chunk : structs.parameter).write(taken.from, isChunk ? [type, 0, 0, size, size] : [type, 0, size, size]);
   return registeredOf(fields.get(type), name, value, base, words);
-}
+};
 
-function registeredParameter(parameter, type = record(parameter, 'parameter').type) {
-  const isOne = record(parameter, 'parameter').type === type;
-  return isOne ? registeredItem(PARAMETER_FIELDS, 'dcsctp_registered_parameter', parameter, type) : null;
-}
+const registeredChunk = reader('chunk', 'type', 'u8', CHUNK_FIELDS, 'dcsctp_registered_chunk');
+const registeredParameter = reader('parameter', 'type', 'u16', PARAMETER_FIELDS, 'dcsctp_registered_parameter');
+const registeredCause = reader('cause', 'code', 'u16', CAUSE_FIELDS, 'dcsctp_registered_cause');
 
 function addresses(items) {
   const types = [ParameterType.IPV4_ADDRESS, ParameterType.IPV6_ADDRESS];
   return Array.from(items, it => types.includes(record(it, 'a parameter').type) ? registeredParameter(it)?.address : undefined)
     .filter(it => it !== undefined);
-}
-
-function registeredCause(cause, code = record(cause, 'cause').code) {
-  return record(cause, 'cause').code === code ? registeredItem(CAUSE_FIELDS, 'dcsctp_registered_cause', cause, code) : null;
 }
 
 /** The text of an address's octets: in IPv6 as RFC 5952 has it, which is how URLs are written. */

@@ -45,8 +45,8 @@ const WAYS = {
 
 for (const [name, way] of Object.entries(WAYS)) {
   test(`SACKs of all sizes into one object: ${name}`, () => {
-    const kept = {}, counts = [0, 1, 2, 3, 5, 8, 9, 10, 19, 20, 40, 300];
-    for (let i = 0; i < 1500; i++) {
+    const kept = {}, counts = [0, 1, 2, 3, 5, 8, 9, 10, 19, 20, 40, 300, 8000];
+    for (let i = 0; i < 300; i++) {
       const blockCount = counts[random(counts.length)];
       const wanted = sackOf(blockCount, counts[random(i % 3 === 0 ? counts.length : 3)], blockCount === 0 || random(2) === 0);
       const bytes = packetOf(wanted), inMore = new Uint8Array([0, 0, 0, ...bytes, 0]).subarray(3, 3 + bytes.length);
@@ -60,15 +60,6 @@ for (const [name, way] of Object.entries(WAYS)) {
     }
   });
 }
-
-test('the longest lists, in turns with the shortest ones', () => {
-  const kept = {};
-  for (const [blockCount, duplicateCount] of [[16_370, 0], [1, 16_370], [0, 0], [8000, 8000], [16_370, 3], [2, 2]]) {
-    const wanted = sackOf(blockCount, duplicateCount);
-    readSack(sackIn(wanted), kept);
-    assert.deepEqual(kept, wanted);
-  }
-});
 
 test('an object, its lists and its blocks are used again', () => {
   for (const way of Object.values(WAYS)) {
@@ -98,10 +89,6 @@ test('what `sack` gave stays when other SACKs are read, unless it is what they a
   assert.deepEqual(sack, one);
   readSack(all[1], sack);
   assert.deepEqual([all[0].sack, all[1].sack], [other, other]);
-  // What is kept may be changed by whoever keeps it, and the chunks have theirs.
-  kept.blocks[0].start = 9;
-  kept.duplicates.push(5);
-  assert.deepEqual(all.map(it => it.sack), [other, other, third]);
 });
 
 test('any object takes a SACK', () => {
@@ -137,27 +124,5 @@ test('a chunk that is no SACK changes nothing', () => {
     assert.equal(readSack(chunk, Object.freeze({})), undefined);
     assert.deepEqual(kept, wanted);
     assert.ok(kept.blocks === blocks && kept.duplicates === duplicates);
-  }
-  // Nor does one of this type that says another length than it has.
-  const broken = packetOf(sackOf(2, 0)).slice();
-  broken[25] = 9;
-  const [chunk] = chunks(broken);
-  assert.equal(chunk.type, ChunkType.SACK);
-  const { sack } = chunk, into = {};
-  assert.equal(readSack(chunk, into), sack && into);
-  assert.deepEqual(into, sack ?? {});
-});
-
-test('whatever becomes of the bytes that were read, as many blocks are read', () => {
-  const packet = packetOf(sackOf(5, 3)), kept = {};
-  for (let i = 0; i < 1000; i++) {
-    const bytes = packet.slice(), [chunk] = read(bytes).chunks;
-    for (let k = 0; k < 10; k++)
-      bytes[random(bytes.length)] = random(256);
-    if (i % 2 === 1)
-      davgyuti.word(bytes);
-    readSack(chunk, kept);
-    assert.deepEqual([kept.blocks.length, kept.duplicates.length], [5, 3]);
-    assert.deepEqual(chunk.sack, kept);
   }
 });

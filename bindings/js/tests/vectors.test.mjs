@@ -127,6 +127,21 @@ function kinds({ bytes: text, fault, chunks: wanted, written = text, strict }) {
 }
 
 test('kinds', () => compare(ours('kinds'), kinds));
+
+// A value of any size is of its kind where `check` accepts it there; but a list may end too early.
+test('sizes', () => {
+  const hasFields = it => ['data', 'init', 'sack', 'shutdown', 'forwardTsn', 'reConfig', 'method', 'tsn', 'types'].some(name => it[name] !== undefined);
+  for (const [level, types] of Object.entries({ chunk: [0, 1, 2, 3, 7, 64, 192, 194], parameter: [13, 14, 15, 16, 17, 18, 0x8001], cause: [2, 9] })) {
+    for (const [type, size] of types.flatMap(it => Array.from({ length: 41 }, (_, i) => [it, i]))) {
+      for (const value of [[], [0, 0, 0, (size - 4) / 2], Array.from({ length: size }, (_, i) => Math.imul(i + size + type, 2654435761) >>> 24)]) {
+        const packet = packetOf(itemIn(level, type, hex(Uint8Array.from({ length: size }, (_, i) => value[i] ?? 0))));
+        const isKind = davgyuti.firstFault(packet, ANY) === null;
+        if (isKind || size < 16 || level !== 'chunk' || ![1, 2].includes(type))
+          assert.equal(hasFields(BARE[level](chunks(packet).next().value)), isKind, `${level} ${type} of ${size} bytes`);
+      }
+    }
+  }
+});
 if (process.env.VECTORS)
   test('the kinds in VECTORS', () => compare(linesOf(process.env.VECTORS), kinds));
 

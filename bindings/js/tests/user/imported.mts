@@ -2,7 +2,7 @@
 // What TypeScript knows of the package: this compiles, but for each line below a @ts-expect-error, which must not.
 import {
   Builder, CauseCode, Chunk, ChunkType, CookieState, Fault, FaultCode, Packet, Parameter, ParameterType, ReConfigResult, ReConfigType, Result,
-  Rule, UncheckedChunk, WriteError, addsAddresses, brokenRules, cause as causeOf, causes, check, chunks, dataFlags, firstFault, header,
+  Rule, UncheckedChunk, WriteError, brokenRules, cause as causeOf, causes, check, chunks, dataFlags, firstFault, header,
   isKnownChunk, needsChecksum, openCookie, outOfTheBlue, parameter, parameters, read, readChunk, readSack, registeredCause,
   registeredChunk, registeredParameter, ruleName, withFlags,
 } from 'davgyuti';
@@ -47,11 +47,6 @@ function numberOf(chunk: Chunk): number {
     case ChunkType.INIT:
     case ChunkType.INIT_ACK:
       return chunk.init.initiateTag;
-    case ChunkType.SHUTDOWN:
-      return chunk.shutdown.cumulativeTsnAck;
-    case ChunkType.FORWARD_TSN:
-    case ChunkType.I_FORWARD_TSN:
-      return chunk.forwardTsn.newCumulativeTsn;
     case 99:
       return chunk.value.length;
     // @ts-expect-error a type is a byte
@@ -84,10 +79,7 @@ function itemsOf(chunk: Chunk): void {
 }
 
 for (const chunk of chunks(packet)) {
-  if (chunk.type === ChunkType.DATA)
-    numbers.push(chunk.data.tsn);
-  const { sack } = chunk;
-  numbers.push(sack?.aRwnd ?? numberOf(chunk));
+  numbers.push(chunk.sack?.aRwnd ?? numberOf(chunk));
   itemsOf(chunk);
 }
 
@@ -144,9 +136,6 @@ for (const chunk of [readChunk(bytes), ...read(bytes).chunks])
   numbers.push(builder.addUnrecognizedParameters(chunk, [ParameterType.STATE_COOKIE]) ?? builder.addUnrecognizedChunks(bytes, new Set([0])) ?? 0);
 // @ts-expect-error it may stop nowhere
 numbers.push(builder.addUnrecognizedChunks(bytes, []));
-for (const chunk of [readChunk(bytes), ...read(bytes).chunks, ...chunks(bytes)])
-  if (chunk.type === ChunkType.INIT && addsAddresses(chunk, bytes))
-    numbers.push(builder.addChunk(ChunkType.ABORT).addNewAddresses(chunk, bytes).addUnrecognizedParametersError(chunk, []) ?? 0);
 
 // The rest of the registry: a type says which fields there are.
 for (const chunk of chunks(packet)) {
@@ -156,11 +145,8 @@ for (const chunk of chunks(packet)) {
   // @ts-expect-error an ASCONF has no HMAC
   numbers.push(asconf?.hmac.length);
   for (const request of asconf?.parameters ?? []) {
-    const { address, addressBytes }: { address: string; addressBytes: Uint8Array } =
-      registeredParameter(request, ParameterType.ADD_IP_ADDRESS) ?? { address: '', addressBytes: bytes };
+    const { address, addressBytes } = registeredParameter(request, ParameterType.ADD_IP_ADDRESS) ?? { address: '', addressBytes: bytes };
     numbers.push(address.length, ...addressBytes, ...registeredParameter(request, ParameterType.SUPPORTED_ADDRESS_TYPES)?.types ?? []);
-    for (const refused of registeredParameter(request, ParameterType.ERROR_CAUSE_INDICATION)?.causes ?? [])
-      numbers.push(registeredCause(refused, CauseCode.STALE_COOKIE)?.microseconds ?? 0);
   }
   numbers.push(sack?.counts[2] ?? 0, Object.keys(registeredChunk(chunk) ?? {}).length);
   // @ts-expect-error DATA has a kind of its own
@@ -204,9 +190,5 @@ for (const chunk of read(bytes).chunks) {
   numbers.push(readSack(chunk, kept).aRwnd);
   numbers.push(...readSack(chunk, { blocks: [], isInOrder: true })?.duplicates ?? []);
 }
-for (const chunk of chunks(bytes))
-  numbers.push(readSack(chunk, kept)?.cumulativeTsnAck ?? 0);
-// @ts-expect-error the object is missing
-readSack(readChunk(bytes));
 // @ts-expect-error it is no list
 readSack(readChunk(bytes), { blocks: 5 });
