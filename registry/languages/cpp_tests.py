@@ -1,6 +1,5 @@
 # SPDX-License-Identifier: Apache-2.0
 """What test.cc of the package for C++ does for each kind: bindings/cpp/test_kinds.hpp."""
-import header
 from languages.cpp_kinds import RANGES, call, constant, lists_of, one_of, rows_by_struct, snake, struct_fields
 from languages.words import LISTS
 from layouts import kinds_of

@@ -2,7 +2,7 @@
 """What the runner of the vectors in the package for Rust has of each kind: its JSON, and how it is written of this."""
 from languages import rust_kinds as kinds
 from languages.rust_registered import LEVELS as REGISTERED_LEVELS
-from languages.rust_words import LICENSE, arm, camel, identifier
+from languages.rust_words import LICENSE, camel, identifier
 from languages.rust_writes import OWN
 from languages.words import REGISTERED, kind_name, kinds as registered_kinds
 from layouts import kinds_of

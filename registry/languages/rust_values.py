@@ -1,8 +1,8 @@
 # SPDX-License-Identifier: Apache-2.0
 """The file kinds.rs of the package for Rust."""
 from languages import rust_kinds as kinds
-from languages.rust_kinds import FRONT, camel, sections
-from languages.rust_words import (ITEMS, WIDTH, Sample, about, arm, chain, chunk_lines, docs, example, identifier, literal,
+from languages.rust_kinds import camel, sections
+from languages.rust_words import (ITEMS, WIDTH, Sample, about, arm, chain, chunk_lines, docs, example, literal,
                                   literal_arm)
 from languages.words import reference
 from layouts import WIDTHS, kinds_of, size_of
