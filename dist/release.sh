@@ -73,7 +73,7 @@ make_archive() {
     mkdir "$work/$folder"
     {
         git ls-files -coz --exclude-standard -- '*.md' LICENSE NOTICE bindings ':(glob)crates/test_callers/src/*.rt' dist docs \
-            tests/dump/data examples include ':(glob)registry/vectors/*.jsonl' ':!dist/*.py' ':!dist/*.sh'
+            tests/dump/data examples include registry/sctp.txt ':(glob)registry/vectors/*.jsonl' ':!dist/*.py' ':!dist/*.sh'
         git ls-files -z dist/texts.py
     } | xargs -0 cp -P --parents -t "$work/$folder"
     mv "$work/$folder/dist/debian" "$work/$folder/"
