@@ -174,7 +174,7 @@ page_has_the_functions() {
 
 page_has_the_codes() {
     diff <(sed -n 's/^| `\(DCSCTP_[A-Z_]*\)` \([0-9]*\) |.*/\1 = \2/p' docs/C.md) \
-        <(sed -n '/^enum dcsctp_result /,/^}/s/^    \(DCSCTP_[A-Z_]* = [0-9]*\),\{0,1\} *\/\*.*/\1/p' include/dcsctp.h)
+        <(sed -n '/^enum dcsctp_result /,/^}/s/^    \(DCSCTP_[A-Z_]* = [0-9]*\),\{0,1\}\( .*\)\{0,1\}$/\1/p' include/dcsctp.h)
 }
 
 # The program of docs/C.md: it prints what the page says; the first packet is an INIT, whose answer is the first of
