@@ -694,7 +694,7 @@ inline constexpr std::uint32_t version_number = DCSCTP_VERSION_NUMBER;
 /// Returns the version of the library, which can be another one where the library is shared.
 [[nodiscard]] inline std::uint32_t library_version_number() noexcept { return ::dcsctp_version_number(); }
 
-// ---- what a receiver is told, and what a State Cookie says
+// ---- what a receiver asks of a packet, and State Cookies
 
 /// Returns whether the chunk or the parameter is reported.
 [[nodiscard]] inline bool reports(action of) noexcept { return ::dcsctp_action_reports(number(of)); }

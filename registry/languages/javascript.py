@@ -52,10 +52,6 @@ RECORDS = {}
 """The structs of records, by the names of these; filled by `structs_of`."""
 
 
-def struct_name(record):
-    return class_name(RECORDS[record].name)
-
-
 def grouped(rows):
     """The structs of rows, by their names."""
     groups = {}
