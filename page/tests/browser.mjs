@@ -104,10 +104,16 @@ export class Browser {
     return this.until('document.body.dataset.done');
   }
 
+  /** Waits for the next frame: a list that was hidden has its rows then, however slow the machine. */
+  drawn() {
+    return this.ask('new Promise(resolve => requestAnimationFrame(() => setTimeout(resolve)))');
+  }
+
   async press(key) {
     const text = { '/': '/', Enter: '\r' }[key], params = { key, text, windowsVirtualKeyCode: KEYS[key] };
     await this.send('Input.dispatchKeyEvent', { type: text ? 'keyDown' : 'rawKeyDown', ...params });
     await this.send('Input.dispatchKeyEvent', { type: 'keyUp', ...params });
+    await this.drawn();
   }
 
   type(text) {
@@ -138,6 +144,7 @@ export class Browser {
     await this.send('Input.dispatchMouseEvent', { type: 'mouseMoved', ...at });
     for (const type of ['mousePressed', 'mouseReleased'])
       await this.send('Input.dispatchMouseEvent', { type, ...at, button: 'left', clickCount: 1 });
+    await this.drawn();
   }
 
   async tap(selector) {
