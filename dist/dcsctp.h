@@ -240,6 +240,17 @@ enum dcsctp_rule {
     DCSCTP_RULE_AFTER_ABORT = 0x10000,      /* a chunk comes after ABORT (RFC 9260 section 3.3.7) */
     DCSCTP_RULE_DATA_WITH_ABORT = 0x20000   /* user data is bundled with ABORT (RFC 9260 section 3.3.7) */
 };
+
+/* The types that RFC 9260 has itself, from which what dcsctp_add_unrecognized_.. takes as known is begun: a program that knows
+   I-DATA too has `const uint8_t known[] = {DCSCTP_BASE_CHUNKS, DCSCTP_CHUNK_I_DATA};`. */
+#define DCSCTP_BASE_CHUNKS \
+    DCSCTP_CHUNK_DATA, DCSCTP_CHUNK_INIT, DCSCTP_CHUNK_INIT_ACK, DCSCTP_CHUNK_SACK, DCSCTP_CHUNK_HEARTBEAT, \
+    DCSCTP_CHUNK_HEARTBEAT_ACK, DCSCTP_CHUNK_ABORT, DCSCTP_CHUNK_SHUTDOWN, DCSCTP_CHUNK_SHUTDOWN_ACK, \
+    DCSCTP_CHUNK_ERROR, DCSCTP_CHUNK_COOKIE_ECHO, DCSCTP_CHUNK_COOKIE_ACK, DCSCTP_CHUNK_SHUTDOWN_COMPLETE
+#define DCSCTP_BASE_PARAMETERS \
+    DCSCTP_PARAMETER_HEARTBEAT_INFO, DCSCTP_PARAMETER_IPV4_ADDRESS, DCSCTP_PARAMETER_IPV6_ADDRESS, \
+    DCSCTP_PARAMETER_STATE_COOKIE, DCSCTP_PARAMETER_UNRECOGNIZED_PARAMETER, DCSCTP_PARAMETER_COOKIE_PRESERVATIVE, \
+    DCSCTP_PARAMETER_HOST_NAME_ADDRESS, DCSCTP_PARAMETER_SUPPORTED_ADDRESS_TYPES
 /* end of what registry/make.py generates */
 
 /* The flag of ABORT and SHUTDOWN COMPLETE, the T bit: the verification tag isn't the one that the receiver expects, but
@@ -364,6 +375,7 @@ struct dcsctp_registered {
                                      Identifier the HMAC's */
     uint16_t second_short_number; /* of AUTH the HMAC's, of NR-SACK how many NR gap ack blocks */
     uint16_t third_short_number;  /* of NR-SACK how many duplicate TSNs */
+    uint8_t flags;                /* the flags of a chunk, as they come and are written; of others 0 */
     size_t address_offset;        /* of the octets of an address */
     size_t address_size;          /* 4 or 16 */
     size_t rest_offset;           /* of the bytes that end the value: parameters or error causes, as dcsctp_item_at reads them;
@@ -708,10 +720,10 @@ uint32_t dcsctp_add_missing_parameters(uint8_t *packet, size_t room, size_t *siz
 
 /* ---- adding what the rest of the registry has
 
-   By the struct that dcsctp_registered_.. writes. `bytes` are those in which its address and its rest lie: where it was read,
-   these bytes. What the type does not carry is ignored; flags and reserved bytes are zero. They return what the functions
-   above return; DCSCTP_BAD_VALUE also for a type that dcsctp_registered_.. does not read, an address or a rest that does not
-   lie within the bytes, an address whose size is neither 4 nor 16 (of IPv4 or IPv6 Address, not that of its type), a rest that
+   By the struct that dcsctp_registered_.. writes. `bytes` are those in which its address and its rest lie: where it was
+   read, these bytes. What the type does not carry is ignored; reserved bytes are zero. They return what the functions above
+   return; DCSCTP_BAD_VALUE also for a type that dcsctp_registered_.. does not read, an address or a rest that does not lie
+   within the bytes, an address whose size is neither 4 nor 16 (of IPv4 or IPv6 Address, not that of its type), a rest that
    isn't whole items or numbers where the type has such a list, and lists of an NR-SACK with other counts than its numbers. */
 
 /* Adds ECNE, CWR, AUTH, NR-SACK, ASCONF, ASCONF ACK, PKTDROP or PAD. */
@@ -868,20 +880,22 @@ struct dcsctp_cookie {
     uint64_t lifespan;          /* in microseconds */
     uint32_t local_tag;         /* the initiate tag of the INIT ACK */
     uint32_t peer_tag;          /* that of the INIT */
+    uint32_t local_tie_tag;     /* the Local Tie-Tag (section 5.2.2): 0 where the INIT came without an association */
+    uint32_t peer_tie_tag;      /* the Peer's Tie-Tag (section 5.2.2), likewise */
     uint32_t local_initial_tsn; /* the initial TSN of the INIT ACK */
     uint32_t peer_initial_tsn;  /* that of the INIT */
     uint16_t local_port;
     uint16_t peer_port;
     uint16_t outbound_streams;  /* on which the local end sends */
     uint16_t inbound_streams;
-    size_t addresses_offset;    /* in the cookie: of the bytes that were sealed after the numbers; sealing ignores both */
-    size_t addresses_size;
+    size_t extra_offset;        /* in the cookie: of the bytes that were sealed after the numbers; sealing ignores both */
+    size_t extra_size;
 };
 
-/* Writes a State Cookie: 72 bytes, with an HMAC over what it says, and `addresses`, which are bytes of yours: the peer's
-   addresses, the parameters of its INIT. Returns DCSCTP_OK; or DCSCTP_NO_ROOM, and changes nothing. */
+/* Writes a State Cookie: 80 bytes, with an HMAC over what it says, and `extra`, further bytes of yours, of any length: the
+   peer's addresses, the parameters of its INIT, AUTH's key vectors. Returns DCSCTP_OK; or DCSCTP_NO_ROOM, and changes nothing. */
 uint32_t dcsctp_seal_cookie(uint8_t *output, size_t room, size_t *size, const uint8_t *key, size_t key_size,
-                            const struct dcsctp_cookie *cookie, const uint8_t *addresses, size_t addresses_size);
+                            const struct dcsctp_cookie *cookie, const uint8_t *extra, size_t extra_size);
 
 /* Opens a State Cookie at a time in microseconds, on the clock by which it was sealed. Returns a dcsctp_cookie_state. Of a
    cookie that is good or stale, `cookie` is written, and `staleness`: for how many microseconds it hasn't been good, 0 while
@@ -908,6 +922,13 @@ uint32_t dcsctp_version_number(void);
 static inline const char *dcsctp_version(void)
 {
     return DCSCTP_VERSION;
+}
+
+/* Returns the usual policy, all false. */
+static inline const struct dcsctp_policy *dcsctp_usual_policy(void)
+{
+    static const struct dcsctp_policy usual = {false, false, false, {0}};
+    return &usual;
 }
 
 /* Returns whether the chunk or the parameter is reported; and whether the next one is processed. */
@@ -1151,15 +1172,252 @@ static inline const char *dcsctp_cause_text(uint16_t code, char text[DCSCTP_TEXT
     return dcsctp_named(dcsctp_cause_name(code), "cause code ", code, 4, text);
 }
 
-#ifdef __cplusplus
-}
-#endif
-
 /* MemorySanitizer sees what a program writes, but not what the library does: dcsctp_msan.h says it. */
 #ifdef __has_feature
 #if __has_feature(memory_sanitizer)
 #include "dcsctp_msan.h"
 #endif
+#endif
+
+/* ---- a packet that is being written, with its place
+
+   The functions that add, without `packet`, `room`, `size` and `start`, which a struct keeps: what is added to a list goes to
+   the chunk that was added last. Each returns what that function returns. They are C too, compiled with the program. */
+
+struct dcsctp_writer {
+    uint8_t *packet; /* the buffer */
+    size_t room;     /* its bytes */
+    size_t size;     /* of the packet so far */
+    size_t last;     /* the offset of the last chunk; 0, at which none begins, where there is none yet */
+};
+
+/* Begins a packet in a buffer of `room` bytes. */
+static inline uint32_t dcsctp_writer_begin(struct dcsctp_writer *writer, uint8_t *packet, size_t room, uint16_t source_port,
+                                           uint16_t destination_port, uint32_t verification_tag)
+{
+    writer->packet = packet;
+    writer->room = room;
+    writer->size = 0;
+    writer->last = 0;
+    return dcsctp_begin(packet, room, &writer->size, source_port, destination_port, verification_tag);
+}
+
+/* Notes where a chunk begins that may have been added. */
+static inline uint32_t dcsctp_writer_added(struct dcsctp_writer *writer, size_t start, uint32_t code)
+{
+    if (writer->size != start)
+        writer->last = start;
+    return code;
+}
+
+/* Ends the packet with its CRC32c. */
+static inline uint32_t dcsctp_writer_seal(struct dcsctp_writer *writer)
+{
+    return dcsctp_seal(writer->packet, writer->size);
+}
+
+/* generated by registry/make.py of registry/sctp.txt */
+static inline uint32_t dcsctp_writer_add_chunk(struct dcsctp_writer *writer, uint8_t type, uint8_t flags,
+                                               const uint8_t *value, size_t value_size)
+{
+    size_t start = writer->size;
+    return dcsctp_writer_added(writer, start, dcsctp_add_chunk(writer->packet, writer->room, &writer->size, type, flags,
+                                                               value, value_size));
+}
+
+static inline uint32_t dcsctp_writer_add_data(struct dcsctp_writer *writer, const struct dcsctp_data *data,
+                                              const uint8_t *payload, size_t payload_size)
+{
+    size_t start = writer->size;
+    return dcsctp_writer_added(writer, start, dcsctp_add_data(writer->packet, writer->room, &writer->size, data,
+                                                              payload, payload_size));
+}
+
+static inline uint32_t dcsctp_writer_add_i_data(struct dcsctp_writer *writer, const struct dcsctp_data *data,
+                                                const uint8_t *payload, size_t payload_size)
+{
+    size_t start = writer->size;
+    return dcsctp_writer_added(writer, start, dcsctp_add_i_data(writer->packet, writer->room, &writer->size, data,
+                                                                payload, payload_size));
+}
+
+static inline uint32_t dcsctp_writer_add_sack(struct dcsctp_writer *writer, uint32_t cumulative_tsn_ack,
+                                              uint32_t a_rwnd, const struct dcsctp_gap_ack_block *blocks,
+                                              size_t block_count, const uint32_t *duplicates, size_t duplicate_count)
+{
+    size_t start = writer->size;
+    return dcsctp_writer_added(writer, start, dcsctp_add_sack(writer->packet, writer->room, &writer->size,
+                                                              cumulative_tsn_ack, a_rwnd, blocks, block_count,
+                                                              duplicates, duplicate_count));
+}
+
+static inline uint32_t dcsctp_writer_add_init(struct dcsctp_writer *writer, const struct dcsctp_init *init)
+{
+    size_t start = writer->size;
+    return dcsctp_writer_added(writer, start, dcsctp_add_init(writer->packet, writer->room, &writer->size, init));
+}
+
+static inline uint32_t dcsctp_writer_add_init_ack(struct dcsctp_writer *writer, const struct dcsctp_init *init)
+{
+    size_t start = writer->size;
+    return dcsctp_writer_added(writer, start, dcsctp_add_init_ack(writer->packet, writer->room, &writer->size, init));
+}
+
+static inline uint32_t dcsctp_writer_add_cookie_echo(struct dcsctp_writer *writer, const uint8_t *cookie,
+                                                     size_t cookie_size)
+{
+    size_t start = writer->size;
+    return dcsctp_writer_added(writer, start, dcsctp_add_cookie_echo(writer->packet, writer->room, &writer->size,
+                                                                     cookie, cookie_size));
+}
+
+static inline uint32_t dcsctp_writer_add_cookie_ack(struct dcsctp_writer *writer)
+{
+    size_t start = writer->size;
+    return dcsctp_writer_added(writer, start, dcsctp_add_cookie_ack(writer->packet, writer->room, &writer->size));
+}
+
+static inline uint32_t dcsctp_writer_add_heartbeat(struct dcsctp_writer *writer, bool is_ack, const uint8_t *info,
+                                                   size_t info_size)
+{
+    size_t start = writer->size;
+    return dcsctp_writer_added(writer, start, dcsctp_add_heartbeat(writer->packet, writer->room, &writer->size, is_ack,
+                                                                   info, info_size));
+}
+
+static inline uint32_t dcsctp_writer_add_abort(struct dcsctp_writer *writer, bool tag_reflected, const uint8_t *reason,
+                                               size_t reason_size)
+{
+    size_t start = writer->size;
+    return dcsctp_writer_added(writer, start, dcsctp_add_abort(writer->packet, writer->room, &writer->size,
+                                                               tag_reflected, reason, reason_size));
+}
+
+static inline uint32_t dcsctp_writer_add_shutdown(struct dcsctp_writer *writer, uint32_t cumulative_tsn_ack)
+{
+    size_t start = writer->size;
+    return dcsctp_writer_added(writer, start, dcsctp_add_shutdown(writer->packet, writer->room, &writer->size,
+                                                                  cumulative_tsn_ack));
+}
+
+static inline uint32_t dcsctp_writer_add_shutdown_ack(struct dcsctp_writer *writer)
+{
+    size_t start = writer->size;
+    return dcsctp_writer_added(writer, start, dcsctp_add_shutdown_ack(writer->packet, writer->room, &writer->size));
+}
+
+static inline uint32_t dcsctp_writer_add_shutdown_complete(struct dcsctp_writer *writer, bool tag_reflected)
+{
+    size_t start = writer->size;
+    return dcsctp_writer_added(writer, start, dcsctp_add_shutdown_complete(writer->packet, writer->room, &writer->size,
+                                                                           tag_reflected));
+}
+
+static inline uint32_t dcsctp_writer_add_forward_tsn(struct dcsctp_writer *writer, uint32_t new_cumulative_tsn,
+                                                     const struct dcsctp_skipped_stream *streams, size_t stream_count)
+{
+    size_t start = writer->size;
+    return dcsctp_writer_added(writer, start, dcsctp_add_forward_tsn(writer->packet, writer->room, &writer->size,
+                                                                     new_cumulative_tsn, streams, stream_count));
+}
+
+static inline uint32_t dcsctp_writer_add_i_forward_tsn(struct dcsctp_writer *writer, uint32_t new_cumulative_tsn,
+                                                       const struct dcsctp_skipped_stream *streams, size_t stream_count)
+{
+    size_t start = writer->size;
+    return dcsctp_writer_added(writer, start, dcsctp_add_i_forward_tsn(writer->packet, writer->room, &writer->size,
+                                                                       new_cumulative_tsn, streams, stream_count));
+}
+
+static inline uint32_t dcsctp_writer_add_parameter(struct dcsctp_writer *writer, uint16_t type, const uint8_t *value,
+                                                   size_t value_size)
+{
+    return dcsctp_add_parameter(writer->packet, writer->room, &writer->size, writer->last, type, value, value_size);
+}
+
+static inline uint32_t dcsctp_writer_add_number(struct dcsctp_writer *writer, uint16_t type, uint32_t number)
+{
+    return dcsctp_add_number(writer->packet, writer->room, &writer->size, writer->last, type, number);
+}
+
+static inline uint32_t dcsctp_writer_add_re_config(struct dcsctp_writer *writer,
+                                                   const struct dcsctp_re_config *re_config, const uint16_t *streams,
+                                                   size_t stream_count)
+{
+    return dcsctp_add_re_config(writer->packet, writer->room, &writer->size, writer->last, re_config, streams,
+                                stream_count);
+}
+
+static inline uint32_t dcsctp_writer_add_missing_parameters(struct dcsctp_writer *writer, const uint16_t *types,
+                                                            size_t type_count)
+{
+    return dcsctp_add_missing_parameters(writer->packet, writer->room, &writer->size, writer->last, types, type_count);
+}
+
+static inline uint32_t dcsctp_writer_add_registered_chunk(struct dcsctp_writer *writer, uint8_t type,
+                                                          const struct dcsctp_registered *registered,
+                                                          const uint8_t *bytes, size_t length)
+{
+    size_t start = writer->size;
+    return dcsctp_writer_added(writer, start, dcsctp_add_registered_chunk(writer->packet, writer->room, &writer->size,
+                                                                          type, registered, bytes, length));
+}
+
+static inline uint32_t dcsctp_writer_add_registered_parameter(struct dcsctp_writer *writer, uint16_t type,
+                                                              const struct dcsctp_registered *registered,
+                                                              const uint8_t *bytes, size_t length)
+{
+    return dcsctp_add_registered_parameter(writer->packet, writer->room, &writer->size, writer->last, type, registered,
+                                           bytes, length);
+}
+
+static inline uint32_t dcsctp_writer_add_registered_cause(struct dcsctp_writer *writer, uint16_t code,
+                                                          const struct dcsctp_registered *registered,
+                                                          const uint8_t *bytes, size_t length)
+{
+    return dcsctp_add_registered_cause(writer->packet, writer->room, &writer->size, writer->last, code, registered,
+                                       bytes, length);
+}
+
+static inline uint32_t dcsctp_writer_add_unrecognized_parameters(struct dcsctp_writer *writer, const uint8_t *list,
+                                                                 size_t list_size, const uint16_t *known,
+                                                                 size_t known_count, size_t *end)
+{
+    return dcsctp_add_unrecognized_parameters(writer->packet, writer->room, &writer->size, writer->last, list,
+                                              list_size, known, known_count, end);
+}
+
+static inline uint32_t dcsctp_writer_add_unrecognized_parameters_error(struct dcsctp_writer *writer,
+                                                                       const uint8_t *list, size_t list_size,
+                                                                       const uint16_t *known, size_t known_count,
+                                                                       size_t *end)
+{
+    size_t start = writer->size;
+    return dcsctp_writer_added(writer, start, dcsctp_add_unrecognized_parameters_error(writer->packet, writer->room,
+                                                                                       &writer->size, list, list_size,
+                                                                                       known, known_count, end));
+}
+
+static inline uint32_t dcsctp_writer_add_unrecognized_chunks(struct dcsctp_writer *writer, const uint8_t *bytes,
+                                                             size_t length, const uint8_t *known, size_t known_count,
+                                                             size_t *end)
+{
+    size_t start = writer->size;
+    return dcsctp_writer_added(writer, start, dcsctp_add_unrecognized_chunks(writer->packet, writer->room,
+                                                                             &writer->size, bytes, length, known,
+                                                                             known_count, end));
+}
+
+static inline uint32_t dcsctp_writer_add_new_addresses(struct dcsctp_writer *writer, const uint8_t *list,
+                                                       size_t list_size, const uint8_t *known, size_t known_size)
+{
+    return dcsctp_add_new_addresses(writer->packet, writer->room, &writer->size, writer->last, list, list_size, known,
+                                    known_size);
+}
+/* end of what registry/make.py generates */
+
+#ifdef __cplusplus
+}
 #endif
 
 #endif

@@ -69,7 +69,7 @@ ON_WINDOWS = "___chkstk_ms"
 # By wasm.py, of these modules.
 MADE_ELSEWHERE = ("sctp_dump.wasm",)
 COPIES = {"dcsctp.h": "include/dcsctp.h", "LICENSE": "LICENSE", "NOTICE": "NOTICE"}
-COPIES |= {f"{it}.h": f"include/{it}.h" for it in ("dcsctp_processor", "dcsctp_msan")}
+COPIES |= {f"{it}.h": f"include/{it}.h" for it in ("dcsctp_registered", "dcsctp_processor", "dcsctp_msan")}
 
 # What a package has to have in its own folder, since it is published alone, and whose it is. (rt ci takes no links.)
 PACKAGED = {f"bindings/{package}/{it}": it for package in ("cpp", "go", "js") for it in ("LICENSE", "NOTICE")}
@@ -280,7 +280,10 @@ def named(text, name):
 def neutral(tools, name):
     """The module of dist/: the one for Linux on x86-64 without what is of that system alone."""
     module = tools.build(CRATES[name], LINUX)[0]
-    words = ["-S", "-emit-llvm", "-Xclang", "-disable-llvm-passes", "--no-default-config", "-x", "ir", module, "-o", "-"]
+    # (the order of a value's uses, by which a pass may go, is said where reading the text would give another; not of a program, two
+    # of whose names become one)
+    uses = [] if name in texts.PROGRAMS else ["-Xclang", "-emit-llvm-uselists"]
+    words = ["-S", "-emit-llvm", *uses, "-Xclang", "-disable-llvm-passes", "--no-default-config", "-x", "ir", module, "-o", "-"]
     text = output_of([tools.clang, *words], "the module isn't read")
     text = re.sub(r"^(; ModuleID|target ).*\n", "", text, flags=re.M)
     if lacking := [it for it in re.findall(r"^define .*", text, re.M) if not re.search(r" #\d+ ", it)]:

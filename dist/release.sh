@@ -96,7 +96,7 @@ done
 grep "^## $version" CHANGELOG.md | grep -qv 'not released yet' || object "CHANGELOG.md doesn't say when $version is released"
 grep -q "^# dcsctp $version;" dist/MANIFEST || give_up "dist/MANIFEST isn't that of version $version: run dist/make.py"
 (cd dist && sha256sum --quiet --strict -c MANIFEST) || give_up 'a file in dist/ is not what MANIFEST says: run dist/make.py'
-for file in include/dcsctp.h include/dcsctp_processor.h include/dcsctp_msan.h LICENSE NOTICE; do
+for file in include/*.h LICENSE NOTICE; do
     cmp "$file" "dist/${file##*/}" || give_up "dist/${file##*/} is not $file: run dist/make.py"
 done
 while read -r sum name; do

@@ -133,16 +133,16 @@ def targets_of_rust(folder):
 
 
 def of_go(folder, system):
-    """The text that Go assembles, by the dist/ file that it is; unsupported.go has to be there if and only if there is none."""
+    """The text that Go assembles, by the dist/ file that it is; system.go has to be there if and only if there is none."""
     goos, goarch = system.split("/")
     package = os.path.join(folder, "bindings", "go")
     environment = dict(os.environ, GOOS=goos, GOARCH=goarch, CGO_ENABLED="1", GOPROXY="off", GOFLAGS="-mod=mod")
     listed = subprocess.run(
-        ["go", "list", "-e", "-f", "{{join .SFiles \" \"}} {{join .GoFiles \" \"}}", "."],
+        ["go", "list", "-e", "-f", "{{join .SFiles \" \"}} {{join .GoFiles \" \"}}", ".", "./internal/requirements"],
         cwd=package, env=environment, capture_output=True, text=True, check=True,
     ).stdout.split()
     taken = [it for it in listed if it.endswith((".s", ".S"))]
-    if (not taken) != ("unsupported.go" in listed) or len(taken) > 1:
+    if (not taken) != ("system.go" in listed) or len(taken) > 1:
         return listed
     if taken and taken[0].endswith(".S"):
         with open(os.path.join(package, taken[0]), encoding="utf-8") as file:

@@ -13,9 +13,9 @@ FOLDER has dist/ and bindings/, as an unpacked release; without it, this checkou
 --library leaves out what runs sctp_dump over captures.
 
 Needed is a C compiler. Used where they are there: Python (from 3.10 on); gcc, clang, a C++ compiler, CMake, pkg-config, cargo (from
-1.85 on), pip, go (from 1.19 on), node (from 18 on), tsc; musl-gcc and qemu-x86_64; for arm64 aarch64-linux-gnu-gcc and qemu-aarch64;
-for Windows x86_64-w64-mingw32-gcc and Wine; for riscv64 clang from 22 on and riscv64-linux-gnu-gcc; pion/sctp for Go. Debian has
-musl-tools, qemu-user, gcc-aarch64-linux-gnu with libc6-dev-arm64-cross, gcc-mingw-w64-x86-64, wine64 and
+1.85 on), pip, go (from 1.19 on), node (from 18 on), tsc, esbuild, chromium; musl-gcc and qemu-x86_64; for arm64 aarch64-linux-gnu-gcc
+and qemu-aarch64; for Windows x86_64-w64-mingw32-gcc and Wine; for riscv64 clang from 22 on and riscv64-linux-gnu-gcc; pion/sctp for
+Go. Debian has musl-tools, qemu-user, gcc-aarch64-linux-gnu with libc6-dev-arm64-cross, gcc-mingw-w64-x86-64, wine64 and
 golang-github-pion-sctp-dev. For the archive of a release git, and for Debian'\''s packages dpkg-dev, what they are built with (by
 dpkg-checkbuilddeps), lintian and mandoc.'
 
@@ -659,7 +659,7 @@ go_module() {
             sed -n '/^```go$/,/^```$/{/^```/!p}' "$bindings/go/README.md" && cat <<'G'; } >main.go || return
 func main() {
 	packet, _ := hex.DecodeString("138813880da737981148a1f6000300157906b4b0000100000000003368656c6c6f000000")
-	fmt.Println(answer(packet, 0x4d2df52d))
+	fmt.Println(answer(new(davgyuti.Parsed), packet, 0x4d2df52d))
 }
 G
         get=${get//FOLDER/$work/proxy} get=${get/https:\/\/proxy.golang.org,direct/file://$work/others,off}
@@ -684,9 +684,9 @@ go_windows() {
         WINEDEBUG=-all WINEPREFIX=$work/wine go test -timeout 1h -exec "$wine" .)
 }
 
-# Also the archive that npm makes of it, in a project of its own. (`npm test` in bindings/js tries a browser too)
+# Also the archive that npm makes of it, in a project of its own; and in Chromium, by esbuild's bundles too, where these are there.
 node_package() {
-    cd "$bindings/js" && CHROMIUM=none npm test
+    cd "$bindings/js" && npm test
 }
 
 go_arm64() {

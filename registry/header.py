@@ -28,7 +28,8 @@ def parts():
     """The structs, each a list of its fields by its name; and the functions that the library has, each what it returns and its
     arguments by its name; both in the header's order."""
     with open(PATH, encoding='utf-8') as file:
-        text = re.sub(r'/\*.*?\*/|^#[^\n]*', '', file.read(), flags=re.S | re.M)
+        library = file.read().partition('/* ---- names, in ASCII')[0]
+    text = re.sub(r'/\*.*?\*/|^#[^\n]*', '', library, flags=re.S | re.M)
     structs = {name: [declared(field) for field in body.split(';') if field.strip()]
                for name, body in re.findall(r'^struct (\w+) \{(.*?)^\};', text, re.M | re.S)}
     functions = {}

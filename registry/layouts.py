@@ -1,17 +1,23 @@
 # SPDX-License-Identifier: Apache-2.0
-"""What the column `value` of registry/sctp.txt says, field by field: of it each language's kinds are generated."""
+"""What the column `value` of registry/sctp.txt says, field by field: of it each language's kinds and registered types are generated."""
 import re
 from dataclasses import dataclass, field as made_by
+from itertools import zip_longest
 
 WIDTHS = {'u8': 1, 'u16': 2, 'u32': 4}
 """The bytes of a number."""
 LEAST = {'bytes': 1, 'text': 1, 'parameters': 4, 'causes': 4}
 """What the rest of a value may be, and the least bytes of one at least."""
+ADDRESSES = ('ipv4', 'ipv6', 'address')
+"""What an address may be: the octets of one, or an address parameter with its header."""
+RESTS = {'bytes': 'bytes', 'parameters': 'items', 'causes': 'items', 'u16': 'short numbers'}
+"""What the rest may be in the value of a registered type, and the word of it in Laid."""
 FIELD = re.compile(
     r'(?:count of (?P<counted>[\w ]+) (?P<count>u16|u32)'
     r'|(?P<set>[\w ]+?) if (?P<flag>[A-Z]) or else (?P<clear>[\w ]+?) (?P<either>u16|u32)'
     r'|(?P<bit>[\w ]+?) bit (?P<width>u8|u16|u32)'
-    r'|(?:(?P<name>[\w ]+?) )?(?P<form>u8|u16|u32|bytes|text|parameters|causes|[A-Z]\w*)(?P<mark>[*+?]?)(?: of (?P<of>\w+))?)')
+    r'|(?:(?P<name>[\w ]+?) )?(?P<form>u8|u16|u32|bytes|text|parameters|causes|ipv4|ipv6|address|[A-Z]\w*)'
+    r'(?P<mark>[*+?]?)(?: of (?P<of>\w+))?)')
 
 
 class Wrong(Exception):
@@ -30,6 +36,7 @@ class Field:
       bit       the lowest bit of `form`; the others are reserved
       list      any number of `form`, a width or a record; `count` is the width of its count, or ''
       optional  a record or none, by the value's size
+      address   an address, as `form` says
       rest      what `form` says, of at least `least` bytes
       flag      a flag of the chunk, `flag`
     """
@@ -47,10 +54,22 @@ class Field:
 
 
 @dataclass
+class Laid:
+    """The value of a registered type, which is no kind: its parts in order."""
+    numbers: list  # at most two of four bytes
+    short_numbers: list  # at most three of two bytes
+    reserved: int  # bytes
+    address: str  # one of ADDRESSES, or ''
+    rest: str  # bytes, short numbers, items, lists whose counts are the three short numbers, or ''
+
+
+@dataclass
 class Layout:
-    """The fields of a value in order, and the bytes of those before the first list, record or rest."""
+    """The fields of a value in order, and the bytes of those before the first list, record, address or rest; `laid` of a registered
+    type."""
     fields: list = made_by(default_factory=list)
     size: int = 0
+    laid: Laid = None
 
     @property
     def numbers(self):
@@ -64,6 +83,10 @@ class Layout:
     @property
     def optional(self):
         return next((it for it in self.fields if it.what == 'optional'), None)
+
+    @property
+    def address(self):
+        return next((it for it in self.fields if it.what == 'address'), None)
 
     @property
     def rest(self):
@@ -92,6 +115,8 @@ def field_of(part, flags, records, counts):
     if it['bit']:
         return Field('bit', it['bit'], it['width']), WIDTHS[it['width']]
     name, form, mark = it['name'] or '', it['form'], it['mark']
+    if form in ADDRESSES and not mark:
+        return Field('address', name or form, form), 0
     if form in LEAST and mark in ('', '+'):
         return Field('rest', name or form, form, least=LEAST[form] if mark else 0), 0
     if form not in WIDTHS and form not in records:
@@ -113,8 +138,8 @@ def layout_of(value, flags, records):
         if last.what in ('rest', 'optional') or (last.what == 'list' and not last.count):
             raise Wrong(f'{part} comes after {last.name}, which is the rest')
         it, width = field_of(part, flags, records, counts)
-        if width and layout.lists:
-            raise Wrong(f'{part} comes after a list')
+        if width and any(one.what in ('list', 'address') for one in layout.fields):
+            raise Wrong(f'{part} comes after a list or an address')
         it.at = layout.size
         layout.size += width
         layout.fields.append(it)
@@ -141,8 +166,27 @@ def least_of(layout, records):
     return str(layout.size)
 
 
+def laid_of(fields, records):
+    """The parts of the value of a registered type."""
+    def some(most, *whats, form=''):
+        return [it for it in fields if it.what in whats and form in it.form and not it.of][:most]
+
+    numbers, shorts = some(2, 'number', form='u32'), some(3, 'number', 'count', form='u16')
+    reserved, address, last = some(None, 'reserved'), some(1, 'address'), some(None, 'rest', 'list')
+    counts = [it.name for it in shorts if it.what == 'count']
+    if counts:
+        is_right = counts == [it.name for it in last] and [size_of(it.form, records) for it in last] == [4, 4, 4]
+    else:
+        is_right = all(it.form in RESTS and not it.least for it in last)
+    for it, part in zip_longest(fields, [*numbers, *shorts, *reserved, *address, *(last if is_right else [])]):
+        if it is not part:
+            raise Wrong("a registered type can't have " + f'{it.name} {it.form} there'.lstrip())
+    rest = 'lists' if counts else RESTS[last[0].form] if last else ''
+    return Laid(numbers, shorts, sum(WIDTHS[it.form] for it in reserved), ''.join(it.form for it in address), rest)
+
+
 def lay_out(table):
-    """Gives each kind of a table and each record its `layout` and its `least`, and each kind its `flags`, as fields; each field has
+    """Gives each row that has a value its `layout`; its `least`, '-' of a registered type; and its `flags`, as fields. Each field has
     what is said of it."""
     abouts = {row.name: row.about for row in table['field']}
     used = set()
@@ -154,14 +198,15 @@ def lay_out(table):
     records = {row.name: row for row in table['record']}
     for row in [*table['record'], *(row for level in ('chunk', 'parameter', 'cause') for row in table[level])]:
         flags = [flag for flag in table['flag'] if row.level == 'chunk' and flag.chunk == row.number]
-        row.least, row.layout, row.flags = '-', None, []
-        if row.level != 'record' and row.read != 'kind':
-            continue
+        is_kind = getattr(row, 'read', 'kind') == 'kind'
         try:
             row.layout = layout_of(row.value, flags, records)
+            if is_kind and row.layout.address:
+                raise Wrong(f'a kind has no {row.layout.address.form}')
+            row.layout.laid = None if is_kind else laid_of(row.layout.fields, records)
         except Wrong as wrong:
             raise Wrong(f'{row.name}: {wrong}') from None
-        row.least = least_of(row.layout, records)
+        row.least = least_of(row.layout, records) if is_kind else '-'
         row.flags = [Field('flag', flag.field.removesuffix(' = 1'), flag=flag) for flag in flags]
         for it in [*row.layout.fields, *row.flags]:
             it.about, it.other_about = about(row, it.name), about(row, it.other)
@@ -170,10 +215,15 @@ def lay_out(table):
         if unknown := set(row.notes) - {'-'} - {name for it in [*row.layout.fields, *row.flags] for name in (it.name, it.other)}:
             raise Wrong(f'{row.name}: no field is {", ".join(unknown)}')
     if unused := set(abouts) - used:
-        raise Wrong(f'no kind has {", ".join(sorted(unused))}')
+        raise Wrong(f'no value has {", ".join(sorted(unused))}')
     return records
 
 
 def kinds_of(table, level):
     """The kinds of a level."""
     return [row for row in table[level] if row.read == 'kind']
+
+
+def registered_of(table, level):
+    """The registered types of a level."""
+    return [row for row in table[level] if row.read != 'kind']

@@ -17,7 +17,8 @@ import types
 sys.dont_write_bytecode = True
 import layouts
 import proved
-from languages import c, cpp, go, javascript, page, pages, python, rattle, rust, typescript
+from languages import (c, c_registered, cpp, go, javascript, page, pages, python, rattle, rattle_layouts, rattle_report, rust,
+                       typescript)
 
 ROOT = os.path.dirname(os.path.dirname(os.path.abspath(__file__)))
 TABLE = 'registry/sctp.txt'
@@ -30,6 +31,7 @@ COLUMNS = {
     'cause': [*NAMED, 'read', 'value', 'about'],
     'record': ['name', 'standard', 'struct', 'value', 'about'],
     'field': ['name', 'about'],
+    'shown': ['type', 'shown', 'words', 'key', 'form'],
     'result': NAMED,
     'address': ['number', 'name', 'standard'],
     'hmac': ['number', 'name', 'standard'],
@@ -53,6 +55,11 @@ FORMS = {
     'field': r'[a-z ]+( = 1)?',
     'of': r'[a-z_]+',
     'text': r'[A-Za-z].*',
+    'type': r'[A-Za-z0-9/-]+( [A-Za-z0-9/-]+)*',
+    'shown': r'[A-Za-z ]+',
+    'words': r'-|[a-z ]+',
+    'key': r'[a-z_]+',
+    'form': '-|hexadecimal|milliseconds|microseconds|text|hmac|address|chunk',
     'about': r'[A-Z].*',
 }
 BITS = {'chunk': 8, 'flag': 8, 'parameter': 16, 'cause': 16, 'address': 16, 'hmac': 16, 'channel': 8, 'port': 16}
@@ -84,6 +91,8 @@ def row_of(at, line):
             raise Broken(at, f'{row.number} has more than {BITS.get(level, 32)} bits')
     if level == 'flag':
         row.chunk = int(row.chunk)
+    if level == 'shown':
+        row.name = f'{row.type} {row.shown}'
     # (what has no name is "unknown", or begins with a small letter)
     if level in ('chunk', 'parameter', 'cause') and not row.name[0].isupper():
         raise Broken(at, f'{row.name} doesn\'t begin with a capital')
@@ -121,6 +130,8 @@ def rows_of(text):
         owners = [it.name for it in rows if it.level == 'enum']
         if row.level == 'constant' and row.of not in owners:
             raise Broken(at, f'no enum is {row.of}')
+        if row.level == 'flag' and not any(it.level == 'chunk' and it.number == owner for it in rows):
+            raise Broken(at, f'no chunk is {owner}')
         place = list(COLUMNS).index(row.level), owners.index(owner) if row.level == 'constant' else owner or 0, getattr(row, 'number', 0)
         if last and place < last:
             raise Broken(at, 'not in order')
@@ -158,7 +169,7 @@ def between_marks(path, texts):
 
 
 # Of each language the files that are written whole, by their paths, and those that are written between marks.
-LANGUAGES = (rattle, c, python, rust, go, javascript, typescript, cpp, page, pages)
+LANGUAGES = (rattle, rattle_layouts, rattle_report, c, c_registered, python, rust, go, javascript, typescript, cpp, page, pages)
 MARKED = {path for language in LANGUAGES for path in language.MARKED}
 
 
@@ -183,13 +194,13 @@ def main(words):
         return 2
     try:
         table = table_of(rows_of(read(TABLE)))
+        stale = stale_files(table)
     except Broken as broken:
         print(broken, file=sys.stderr)
         return 1
     except layouts.Wrong as wrong:
         print(f'{TABLE}: {wrong}', file=sys.stderr)
         return 1
-    stale = stale_files(table)
     if words:
         lines = [f'{path}: not what {TABLE} gives; registry/make.py writes it' for path in stale]
         lines += proved.differences(ROOT, table)

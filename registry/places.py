@@ -154,7 +154,6 @@ def kinds_of(table):
     for row in kinds:
         row.records = table['records']
     counts = {f'{level}_kinds': sum(row.level == level for row in kinds) for level in LEVELS}
-    counts['plain_kinds'] = sum(row.level == 'chunk' and last_field(row) not in LISTS for row in kinds)
     return [kind_of(row, flags, counts) for row in kinds]
 
 
@@ -197,9 +196,6 @@ def pattern_of(line, number):
     def of(line):
         return re.sub(r'\s*\.\.|\s+|[\w*]+|.', of_token, line)
 
-    times = re.fullmatch(r'(.*) (\d+) times', line)
-    if times:
-        return re.compile(rf'\((?:{of(times[1])}\s+){{{times[2]}}}tt\)')
     lines = [(r'(?<!-)' if line[0].isalnum() else '') + of(line) for line in line.split(' or ')]
     return re.compile('|'.join(lines))
 
@@ -229,7 +225,7 @@ def missing(kind):
 
 def is_count(place):
     """Whether the line of a place counts kinds, and so is the same for many."""
-    return re.search(r' times$|\d kinds of ', place[1])
+    return re.search(r'\d kinds of ', place[1])
 
 
 def said(kind, path, wanted, with_name):

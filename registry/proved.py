@@ -5,8 +5,6 @@ import glob
 import os
 import re
 
-from languages import words
-
 NUMBER = r'(0x[\dA-Fa-f]+|\d+)'
 LEVELS = {'CHUNK_TYPE': 'chunk', 'PARAMETER_TYPE': 'parameter', 'CAUSE_CODE': 'cause'}
 # Whose kinds the definitions of a crate are.
@@ -15,8 +13,7 @@ LAWS = 'crates/dcsctp_wire/src/laws.rt'
 CHUNK_TYPES = 'crates/dcsctp_receive/src/chunk_type.rt'
 
 # What the name of a file or of a definition says in other words than the table.
-RENAMED = {'initiation': 'init', 'missing_parameters': 'missing_mandatory_parameter', 'cookie': 'cookie_echo',
-           'info': 'heartbeat_info', 'missing': 'missing_mandatory_parameter', 'forward': 'forward_tsn',
+RENAMED = {'cookie': 'cookie_echo', 'info': 'heartbeat_info', 'missing': 'missing_mandatory_parameter', 'forward': 'forward_tsn',
            'iforward': 'i_forward_tsn'}
 # What such a name says besides.
 ENDS = ['', '_(chunk|parameter|error_cause|ref|fields)$', '_request(_chunk|_parameter)?$']
@@ -36,8 +33,7 @@ LEASTS = [
 ]
 # The names of fields in the code, for which the table has other words.
 FIELDS = {
-    'a_rwnd': 'a_rwnd',
-    'stream_id': 'stream', 'ppid_or_fsn': 'PPID or FSN', 'nbr_outbound_streams': 'outbound streams',
+    'a_rwnd': 'a_rwnd', 'stream_id': 'stream', 'nbr_outbound_streams': 'outbound streams',
     'nbr_inbound_streams': 'inbound streams', 'gap_ack_block_count': 'count of blocks', 'duplicate_tsn_count': 'count of duplicates',
     'request_seq_nbr': 'request number', 'response_seq_nbr': 'response number', 'sender_last_assigned_tsn': 'last TSN',
     'nbr_new_streams': 'new streams', 'sender_next_tsn': 'sender', 'receiver_next_tsn': 'receiver'}
@@ -55,7 +51,8 @@ class Comparison:
         self.rows = {(level, row.identifier.lower().replace('_', '')): row
                      for level in ('chunk', 'parameter', 'cause', 'port') for row in table[level]}
         self.rows |= {('result', re.sub('[^a-z]', '', row.name.lower())): row for row in table['result']}
-        self.rows |= {('flag', row.chunk, row.identifier): row for row in table['flag']}
+        kinds = (row for row in table['chunk'] if row.read == 'kind')
+        self.rows |= {('flag', row.number, it.flag.identifier): it.flag for row in kinds for it in row.flags}
 
     def key(self, level, name):
         """The key of the row that a name is for, as `heartbeat_request_chunk` is for HEARTBEAT."""
@@ -114,29 +111,12 @@ class Comparison:
         """Compares the names and the places of the numbers that a row's value begins with with those that a definition reads."""
         field = r'\b(\w+) = (?:record \{ 0 = )?number(16|32) (?:value\b|\(drop (\d+) value\))'
         read = {(int(at or 0), int(bits)): name for name, bits, at in re.findall(field, text)}
-        numbers = list(numbers_of(self.rows[key])) if key in self.rows else []
-        for at, bits, name in numbers:
-            of = read.get((at, bits), '' if len(numbers) > 1 else name)
-            if name != 'counts' and not {of, *of.lower().split('_')} & {name, *name.lower().split()}:
+        numbers = [it for it in self.rows[key].layout.numbers if it.what != 'reserved'] if key in self.rows else []
+        for it in numbers:
+            name, at = named(it), it.at
+            of = read.get((at, int(it.form[1:])), '' if len(numbers) > 1 else name)
+            if not {of, *of.lower().split('_')} & {name, *name.lower().split()}:
                 self.wrong.append(f'{place}: {" ".join(key)} has {of or "no number"} at {at}, but {name} in the table')
-
-
-def numbers_of(row):
-    """The numbers with a name that the value of a row begins with: the place, the bits and the name of each."""
-    if row.layout:
-        for it in row.layout.numbers:
-            if it.what != 'reserved':
-                yield it.at, int(it.form[1:]), named(it)
-        return
-    at = 0
-    for part in row.value.split(', '):
-        name, sizes = re.fullmatch(r'(.*?)((?: ?\bu(?:16|32)\b)*)', part).groups()
-        if not sizes or part in words.PARTS:
-            return
-        for size in sizes.split():
-            if name:
-                yield at, int(size[1:]), name
-            at += int(size[1:]) // 8
 
 
 def named(it):
@@ -182,7 +162,7 @@ def layouts(them):
     own = rf'^pub const (CHUNK_TYPE|PARAMETER_TYPE|CAUSE_CODE): u\d+ = {NUMBER};(?:.*\n)*'
     for place, name, match in them.places('crates/dcsctp_*/src/**/*.rt', own):
         row = them.rows.get(them.key(LEVELS[match[1]], name))
-        if row and row.layout and row.layout.size:
+        if row and row.layout.size:
             used = set(re.findall(r'\b(\w+Numbers)::SIZE\b', match[0])) or ({'InitNumbers'} if 'InitNumbers' in match[0] else set())
             them.layout(place, row, [(structs[it][1], consts[it], sizes[it]) for it in used if it in structs], match[0])
     field = r'\b(StreamId|Ssn|Mid)\(read_u\d+_be\((?:bytes|&bytes\[(\d+)\.\.\])\)\)'
@@ -218,30 +198,6 @@ def definitions(them):
         them.number(place, them.key('parameter', match[2]), match[1])
 
 
-def registered(them):
-    """The numbers of what has no kind, in the crate that reads it in place: each has a constant and a definition there."""
-    constant = rf'^pub const (\w+): u\d+ = {NUMBER};'
-    read = rf'\b(?:typ|code) == {NUMBER} then (?:option_map|empty_of|Some|\(if length value == \d+ then Some) \(?(?!Address)(\w+)'
-    levels = {'address': 'parameter', 'registered_parameter': 'parameter', 'registered_cause': 'cause', 'registered_chunk': 'chunk'}
-    constants, definitions = set(), set()
-    for module, level in levels.items():
-        spec = module.title().replace('_', '')
-        for place, _, match in them.places(f'crates/dcsctp_registry/src/{module}.rt', constant):
-            constants.add(them.key(level, match[1]))
-            them.number(place, them.key(level, match[1]), match[2])
-        for place, _, match in them.places(f'crates/dcsctp_registry/specs/{spec}.antt', read):
-            key = them.key(level, re.sub(r'^V(\d)$', r'IPv\1Address', match[2]))
-            definitions.add(key)
-            them.number(place, key, match[1])
-    for place, _, match in them.places('crates/dcsctp_registry/specs/RegisteredChunk.antt', r'^(\w+)_of value =\n(?:.+\n)*'):
-        them.fields(place, them.key('chunk', match[1]), match[0])
-    for level in LEVELS.values():
-        for row in them.table[level]:
-            for found, what in ((constants, 'constant'), (definitions, 'definition')):
-                if (them.key(level, row.identifier) in found) == (row.read == 'kind'):
-                    them.wrong.append(f'{level} {row.identifier}: {row.read} in the table, but not so as a {what} of dcsctp_registry')
-
-
 def others(them):
     """The results, the flags, and the port."""
     response = 'reconfiguration_response_parameter'
@@ -268,6 +224,5 @@ def differences(root, table):
     constants(them)
     layouts(them)
     definitions(them)
-    registered(them)
     others(them)
     return them.wrong

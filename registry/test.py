@@ -68,10 +68,38 @@ WRONG = [
     ('initiate tag u32', 'initiate tag u31', 'no field is initiate tag u31'),
     ('initiate tag u32', 'initiate tags u32', 'nothing is said of initiate tags'),
     ('initiate tag u32', 'parameters', 'a_rwnd u32 comes after parameters, which is the rest'),
+    ('initiate tag u32', 'address', 'a_rwnd u32 comes after a list or an address'),
     ('a_rwnd u32', 'a_rwnd u32?', 'no field is a_rwnd u32?'),
     ('a_rwnd u32', 'count of TSNs u32', 'no list is TSNs'),
     ('parameters', 'streams SkippedStreams*', 'no record is SkippedStreams'),
     ('parameters', 'TSN if B or else MID u32', 'no flag is B'),
+    ('parameters', 'address', 'a kind has no address'),
+    ('parameters', 'address ipv4*', 'no record is ipv4'),
+]
+# What is changed in the value of a registered type, and what of it is refused.
+LIMITS = [
+    ('PKTDROP', 'size u16', 'size u32', 'size u32'),
+    ('PKTDROP', 'queued u32, size u16', 'size u16, queued u32', 'size u16'),
+    ('PKTDROP', 'size u16, u16', 'u16, size u16', 'u16'),
+    ('PKTDROP', 'size u16', 'size u16, key u16, stream u16, SSN u16', 'SSN u16'),
+    ('PKTDROP', 'packet bytes', 'packet bytes+', 'packet bytes'),
+    ('PKTDROP', 'packet bytes', 'reason text', 'reason text'),
+    ('PKTDROP', 'packet bytes', 'streams u32*', 'streams u32'),
+    ('PKTDROP', 'packet bytes', 'blocks GapAckBlock*', 'blocks GapAckBlock'),
+    ('PKTDROP', 'packet bytes', 'next TSNs NextTsns?', 'next TSNs NextTsns'),
+    ('ASCONF', 'sequence number u32', 'sequence number u8', 'sequence number u8'),
+    ('ASCONF', 'sequence number u32', 'result u32 of results', 'result u32'),
+    ('ASCONF', 'address', 'address, address ipv4', 'address ipv4'),
+    ('NR-SACK', 'count of NR blocks u16', 'count of NR blocks u32', 'NR blocks u32'),
+    ('NR-SACK', 'count of duplicates u16', 'size u16', 'blocks GapAckBlock'),
+    ('NR-SACK', 'duplicates u32*', 'duplicates u16*', 'blocks GapAckBlock'),
+    ('NR-SACK', 'duplicates u32*', 'duplicates u32*, packet bytes', 'blocks GapAckBlock'),
+    ('NR-SACK', 'blocks GapAckBlock*, NR blocks', 'NR blocks GapAckBlock*, blocks', 'NR blocks GapAckBlock'),
+]
+# The beginning of a row, what is in its place, and what is said of it.
+OWNERS = [
+    ('flag     129', 'flag     131', 'no chunk is 131'),
+    ('constant  refusal', 'constant  refusals', 'no enum is refusals'),
 ]
 
 
@@ -82,9 +110,17 @@ def broken_tables():
         at = INIT + 2 if why == 'not in order' else INIT + 1
         check(f'{new.strip()} for {old.strip()}', line != LINES[INIT] and said.startswith(f'{make.TABLE}:{at}: {why}') or
               print(f'{line}\n  {said}'))
-    for old, new, why in WRONG:
-        line = LINES[INIT].replace(old, new, 1)
-        check(f'{new} for {old}', line != LINES[INIT] and refusal([*LINES[:INIT], line, *LINES[INIT + 1:]]) == f'INIT: {why}')
+    changes = [('INIT', *it) for it in WRONG]
+    changes += [(name, old, new, f"a registered type can't have {it} there") for name, old, new, it in LIMITS]
+    for name, old, new, why in changes:
+        at = next(at for at, line in enumerate(LINES) if f'  {name}  ' in line)
+        line = LINES[at].replace(f' {old}', f' {new}', 1)
+        said = refusal([*LINES[:at], line, *LINES[at + 1:]])
+        check(f'{new} for {old}', line != LINES[at] and said == f'{name}: {why}' or print(f'{line}\n  {said}'))
+    for old, new, why in OWNERS:
+        at = next(at for at, line in enumerate(LINES) if line.startswith(old))
+        said = refusal([*LINES[:at], LINES[at].replace(old, new), *LINES[at + 1:]])
+        check(f'{new} for {old}', said == f'{make.TABLE}:{at + 1}: {why}')
     for at, line in enumerate(LINES):
         if line and line[0] != '#':
             said = refusal([*LINES[:at + 1], line, *LINES[at + 1:]])
@@ -126,7 +162,7 @@ FLAGS = {line.split('  ')[-1].strip().removesuffix(' = 1') for line in LINES if 
 
 # What is changed in a row: the crates have it otherwise.
 OTHERS = [
-    ('chunk', 'DATA', 'read', 'bytes'),
+    ('chunk', 'SHUTDOWN', 'read', 'bytes'),
     ('chunk', 'DATA', 'value', 'TSN u32, SSN u16, stream u16, PPID u32, payload bytes'),
     ('chunk', 'DATA', 'value', 'TSN u32, stream u32, SSN u16, PPID u16, payload bytes'),
     ('chunk', 'INIT', 'value', 'initial TSN u32, a_rwnd u32, outbound streams u16, inbound streams u16, initiate tag u32, parameters'),
@@ -141,8 +177,6 @@ OTHERS = [
     ('record', 'SkippedStream', 'value', 'SSN u16, stream u16'),
     ('record', 'SkippedIStream', 'value', 'stream u16, MID u32, is unordered bit u16'),
     ('record', 'NextTsns', 'value', 'receiver u32, sender u32'),
-    ('chunk', 'NR_SACK', 'value', 'a_rwnd u32, cumulative TSN ack u32, counts u16 u16 u16, u16, blocks, TSNs u32'),
-    ('chunk', 'PKTDROP', 'value', 'queued u32, bandwidth u32, size u16, u16, a packet'),
     ('parameter', 'OUTGOING_SSN_RESET', 'value', 'response number u32, request number u32, last TSN u32, streams u16*'),
     ('parameter', 'INCOMING_SSN_RESET', 'value', 'request number u32, streams u32*'),
     ('parameter', 'RECONFIGURATION_RESPONSE', 'value', 'response number u32, result u32 of results'),
@@ -160,11 +194,12 @@ def proved_numbers():
     for levels in (('chunk', 'parameter', 'cause', 'result', 'port'), ('flag',)):
         table = make.table_of(make.rows_of(TEXT))
         rows = [row for level in levels for row in table[level]]
+        kinds = {row.number for row in table['chunk'] if row.read == 'kind'}
         for i, row in enumerate(rows):
             row.number = 1000 + i
         said = proved.differences(make.ROOT, table)
         for row in rows:
-            if getattr(row, 'read', 'kind') == 'kind':
+            if row.chunk in kinds if row.level == 'flag' else getattr(row, 'read', 'kind') == 'kind':
                 check(f'another number of {row.level} {row.identifier}',
                       any(re.match(rf'crates/\S+:\d+: .*, but {row.number} in the table', line) for line in said))
     table = make.table_of(make.rows_of(TEXT))

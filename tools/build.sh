@@ -8,6 +8,7 @@ usage='usage: tools/build.sh [--text] PREFIX
 Proves and builds the C library, and puts it into the folder PREFIX:
 
   include/dcsctp.h
+  include/dcsctp_registered.h  a struct for each type that dcsctp.h keeps as bytes, an option that is not proved
   include/dcsctp_processor.h   the CRC32c of the processor, an option that is not proved
   include/dcsctp_msan.h        what dcsctp.h says to MemorySanitizer
   lib/libdcsctp.a              for static linking; it needs libc and nothing else
@@ -84,7 +85,7 @@ soname=libdcsctp.so.${version%.*}
     -Wl,--no-undefined -Wl,--version-script=dist/dcsctp.map
 
 mkdir -p "$prefix/include" "$prefix/lib/pkgconfig"
-install -m 644 $headers/dcsctp.h $headers/dcsctp_processor.h $headers/dcsctp_msan.h "$prefix/include"
+install -m 644 $headers/*.h "$prefix/include"
 install -m 644 "$work/libdcsctp.a" "$prefix/lib/libdcsctp.a"
 install -m 755 "$work/$soname" "$prefix/lib/$soname"
 ln -sf "$soname" "$prefix/lib/libdcsctp.so"

@@ -41,7 +41,7 @@ TOOLS = {'python3-venv': r'^(?:python|pip)', 'cmake': r'cmake|\$P\b|pkg-config',
 OWN = [(r'\bFILE\b|capture\.pcap', 'tests/dump/data/usrsctp.pcap'), (r'chrome_debug\.log', 'tests/dump/data/chromium.log')]
 
 # What the C of docs/C.md takes as given.
-GIVEN = '''#include <dcsctp.h>
+GIVEN = '''#include <dcsctp_registered.h>
 #include <stdio.h>
 #include <stdlib.h>
 #define TO packet, sizeof packet, &size
@@ -49,13 +49,14 @@ void receive(uint16_t, uint32_t, const uint8_t *, size_t), acknowledge(uint32_t,
 void receive_chunk(const uint8_t *, const struct dcsctp_row *), add_address(uint32_t, const uint8_t *, size_t);
 void establish(const struct dcsctp_cookie *), report(const struct dcsctp_cookie *, uint64_t);
 extern uint8_t bytes[1500], packet[1500], reply[28], value[100], block[64 * 2048];
-extern const uint8_t payload[8], text[8], own[16], octets[16], addresses[28], key[32];
-extern size_t length, size, payload_size, block_count, text_size, count, sizes[64], own_size, octets_size, addresses_size, at;
+extern const uint8_t payload[8], text[8], own[16], octets[16], extra[28], key[32];
+extern size_t length, size, payload_size, block_count, text_size, count, sizes[64], own_size, octets_size, extra_size, at;
 extern uint16_t source_port, destination_port, own_port, peer_port, key_number;
 extern uint32_t word, tag, tsn, a_rwnd, own_tag, own_tsn, peer_tag, sequence, correlation_id;
 extern uint64_t now;
 extern bool is_known, is_unicast, has_peer_tag, awaits_cookie;
 extern struct dcsctp_policy policy;
+extern struct dcsctp_writer writer;
 extern struct dcsctp_header header;
 extern struct dcsctp_chunk chunk;
 extern struct dcsctp_parameter item;

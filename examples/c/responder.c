@@ -157,7 +157,7 @@ static bool answer_init(const struct responder *r, uint64_t now, struct exchange
     const struct bytes list = {x->bytes + at, at ? x->chunk.value_offset + x->chunk.value_size - at : 0};
     const uint32_t fault = dcsctp_init_fault(x->bytes, x->length, false);
     struct dcsctp_init peer;
-    uint8_t kept_bytes[MOST_KEPT], sealed[72 + MOST_KEPT];
+    uint8_t kept_bytes[MOST_KEPT], sealed[80 + MOST_KEPT];
     struct exchange kept = {.packet = kept_bytes, .room = sizeof kept_bytes};
     size_t sealed_size, end;
     if (!dcsctp_init(CHUNK(x), &peer) || (r->state != CLOSED && (!has_its_ports(r, x)
@@ -260,8 +260,8 @@ static bool open_association(struct responder *r, uint64_t now, struct exchange 
     if (state == DCSCTP_COOKIE_INVALID || x->header.verification_tag != cookie.local_tag
         || x->header.destination_port != cookie.local_port || x->header.source_port != cookie.peer_port)
         return false;
-    kept += cookie.addresses_offset;
-    for (size_t at = 0; dcsctp_item_at(kept, cookie.addresses_size, at, &it); at = it.next)
+    kept += cookie.extra_offset;
+    for (size_t at = 0; dcsctp_item_at(kept, cookie.extra_size, at, &it); at = it.next)
         is_tied = is_tied || (it.type == DCSCTP_PARAMETER_HEARTBEAT_INFO && it.value_size == sizeof r->association_tie_tags
                               && !memcmp(kept + it.value_offset, r->association_tie_tags, it.value_size));
     const bool is_there = r->state >= ESTABLISHED, is_next = cookie.local_tag == r->own.initiate_tag;
@@ -285,7 +285,7 @@ static bool open_association(struct responder *r, uint64_t now, struct exchange 
     r->association = cookie;
     if (is_next)
         memcpy(r->association_tie_tags, r->tie_tags, sizeof r->tie_tags);
-    begin_receiving(r, kept, cookie.addresses_size);
+    begin_receiving(r, kept, cookie.extra_size);
     return true;
 }
 

@@ -1,8 +1,10 @@
 # SPDX-License-Identifier: Apache-2.0
 """What registry/make.py writes of the table in C."""
+import re
 import textwrap
 
-from languages.words import digits, reference, rule_name, rule_standard
+from header import PATH
+from languages.words import NO_BREAK, digits, reference, rule_name, rule_standard
 
 ENUMS = {
     'chunk': ('dcsctp_chunk_type', 'DCSCTP_CHUNK_', 'Types of chunks (RFC 9260 section 3.2).'),
@@ -75,6 +77,44 @@ BYTES = '''\
 '''
 
 
+def base(level, rows):
+    """The types of a level that RFC 9260 has, as a list to which a program adds those of extensions."""
+    constants = ', '.join(ENUMS[level][1] + row.identifier for row in rows if row.standard.startswith('9260'))
+    lines = textwrap.wrap(constants, 116)
+    return f'#define DCSCTP_BASE_{level.upper()}S \\\n' + ' \\\n'.join(f'    {line}' for line in lines) + '\n'
+
+
+BASES = """\
+/* The types that RFC 9260 has itself, from which what dcsctp_add_unrecognized_.. takes as known is begun: a program that knows
+   I-DATA too has `const uint8_t known[] = {DCSCTP_BASE_CHUNKS, DCSCTP_CHUNK_I_DATA};`. */
+"""
+
+
+def writer_calls():
+    """A call of a struct dcsctp_writer for each that adds to a packet, as the header declares it."""
+    with open(PATH, encoding='utf-8') as file:
+        found = re.findall(r'^uint32_t dcsctp_(add_\w+)\(uint8_t \*packet, size_t room, size_t \*size,? ?([^;]*)\);', file.read(), re.M)
+    for name, rest in found:
+        given = [' '.join(it.split()) for it in rest.split(',') if it.strip()]
+        to_list = given[:1] == ['size_t start']
+        given = given[1:] if to_list else given
+        head = ', '.join(['struct dcsctp_writer *writer', *given])
+        passed = ', '.join(['writer->packet', 'writer->room', '&writer->size', *['writer->last'] * to_list,
+                            *(re.search(r'\w+$', it)[0] for it in given)])
+        call = f'dcsctp_{name}({passed})'
+        body = [f'    return {call};'] if to_list else ['    size_t start = writer->size;',
+                                                        f'    return dcsctp_writer_added(writer, start, {call});']
+        yield '\n'.join(wrapped(f'static inline uint32_t dcsctp_writer_{name}({head})', '{', *body, '}', ''))
+
+
+def wrapped(*lines):
+    """Lines of code, broken after commas, with what follows below the last bracket."""
+    for line in lines:
+        fields = re.sub(r'(?<!,) ', NO_BREAK, line)
+        yield from (it.replace(NO_BREAK, ' ') for it in textwrap.wrap(
+            fields, 120, subsequent_indent=NO_BREAK * (line.rfind('(') + 1), break_on_hyphens=False) or [''])
+
+
 def header(table):
     results = [('DCSCTP_' + row.identifier, row.text) for row in table['constant'] if row.of == 'result']
     rules = [('DCSCTP_RULE_' + row.identifier, row) for row in table['rule']]
@@ -86,7 +126,8 @@ def header(table):
         switch('dcsctp_rule_text(uint32_t rule)', 'rule', 'Returns what breaks a rule, one bit, in a few words, or "unknown".',
                [(constant, row.text) for constant, row in rules])]
     enums = [returned(row, table['constant']) for row in table['enum']] + [BYTES] + [numbers(level, table[level]) for level in ENUMS]
-    return ['\n'.join(enums), '\n'.join(switches)]
+    bases = BASES + ''.join(base(level, table[level]) for level in ('chunk', 'parameter'))
+    return ['\n'.join([*enums, bases]), '\n'.join(switches), '\n'.join(writer_calls())]
 
 
 FILES = {}

@@ -87,19 +87,14 @@ TEXTS = [
      'Writes the canonical packet, likewise: two packets have the same one if and only if they mean the same.',
      'the canonical packet'),
 ]
-REGISTERED = {
-    'chunk': "Adds a chunk that as_registered() reads, with its flags 0. What the type doesn't carry is ignored. bad_value "
-             'also for another type, a number that has no room in its field, an address of another size than 4 or 16, and a '
-             "rest that the type doesn't allow, as a broken list.",
-    'parameter': 'Adds such a parameter to the last chunk: to an INIT, or to the requests of an ASCONF.',
-    'cause': 'Adds such an error cause to the last chunk.',
-}
 SINGLE = {'parameter': 'a parameter', 'cause': 'an error cause'}
 COOKIE = {
     'created': 'in microseconds, on your clock', 'lifespan': 'in microseconds', 'local_tag': 'the initiate tag of the INIT ACK',
-    'peer_tag': 'that of the INIT', 'local_initial_tsn': 'the initial TSN of the INIT ACK',
+    'peer_tag': 'that of the INIT',
+    'local_tie_tag': 'the Local Tie-Tag (section 5.2.2): 0 where the INIT came without an association',
+    'peer_tie_tag': "the Peer's Tie-Tag, likewise", 'local_initial_tsn': 'the initial TSN of the INIT ACK',
     'peer_initial_tsn': 'that of the INIT', 'outbound_streams': 'on which the local end sends',
-    'addresses': "bytes of yours: the peer's addresses, the parameters of its INIT",
+    'extra': "further bytes of yours, of any length: the peer's addresses, the parameters of its INIT, AUTH's key vectors",
 }
 
 
@@ -161,26 +156,26 @@ def cookie():
         name = it.name.removesuffix('_offset')
         line = f'    bytes_view {name}{{}};' if name != it.name else f'    {C_TYPES[it.type]} {name} = 0;'
         lines += said(line, COOKIE[name]) if name in COOKIE else [line]
-    compared = ['as_text(it.addresses)' if it.name == 'addresses_offset' else f'it.{it.name}' for it in fields]
+    compared = ['as_text(it.extra)' if it.name == 'extra_offset' else f'it.{it.name}' for it in fields]
     return [*lines, '};', *call('DCSCTP_EQUAL(cookie, ', compared, ')')]
 
 
 def cookies():
     """What seals and opens one."""
-    names = [it.name for it in header.parts()[0]['dcsctp_cookie'] if not it.name.startswith('addresses')]
+    names = [it.name for it in header.parts()[0]['dcsctp_cookie'] if not it.name.startswith('extra')]
     return [
         *doc('Returns a State Cookie, with an HMAC under a key that nobody else knows.'),
         '[[nodiscard]] inline std::vector<std::uint8_t> seal_cookie(bytes_view key, const cookie &says)', '{',
         *call('    const struct ::dcsctp_cookie it = {', [f'says.{name}' for name in names] + ['0', '0'], '};'),
-        '    return *detail::made(72 + says.addresses.size(), ::dcsctp_seal_cookie, key, &it, says.addresses);', '}',
+        '    return *detail::made(80 + says.extra.size(), ::dcsctp_seal_cookie, key, &it, says.extra);', '}',
         *doc('Opens a State Cookie at a time in microseconds, on the clock by which it was sealed. It is good from before it '
-             'was created, on a clock that was set back, to the end of its life. Its addresses are a part of the bytes.'),
+             'was created, on a clock that was set back, to the end of its life. Its further bytes are a part of these.'),
         *call('[[nodiscard]] inline opened_cookie open_cookie(',
               ['bytes_view key', 'bytes_view bytes DCSCTP_LIFETIME_BOUND', 'std::uint64_t now'], ') noexcept'), '{',
         '    struct ::dcsctp_cookie it {};', '    opened_cookie opened;',
         '    opened.state = detail::call<cookie_state>(::dcsctp_open_cookie, key, bytes, now, &it, &opened.staleness);',
         *call('    opened.says = {', [*(f'it.{name}' for name in names),
-                                      'detail::part(bytes, it.addresses_offset, it.addresses_size)'], '};'),
+                                      'detail::part(bytes, it.extra_offset, it.extra_size)'], '};'),
         '    return opened;', '}']
 
 
@@ -188,29 +183,28 @@ def texts():
     """What writes a packet as another text or other bytes: into a buffer, and into a container."""
     lines, options = [], ['policy accepted = {}', 'word_option word = {}']
     for name, container, about, made in TEXTS:
+        # (a report says whether the checksum is right, also where any is accepted)
+        word = 'word ? word : this->word()' if name == 'report' else 'word'
         lines += [*doc(about, '    '),
                   *call(f'    written {name}_to(', ['mutable_bytes_view output', *options], ') const noexcept'),
-                  '    {', f'        return write(::dcsctp_{name}, output, accepted, word);', '    }',
+                  '    {', f'        return write(::dcsctp_{name}, output, accepted, {word});', '    }',
                   *doc(f'Returns {made}.', '    '), *call(f'    outcome<{container}> {name}(', options, ') const'),
-                  '    {', f'        return make<{container}>(::dcsctp_{name}, accepted, word);', '    }']
+                  '    {', f'        return make<{container}>(::dcsctp_{name}, accepted, {word});', '    }']
     return lines
 
 
 def adders(table):
     """What adds to a packet by its type alone, level by level."""
     lines = []
-    for level, about in REGISTERED.items():
+    for level in SINGLE:
         of, own = NUMBERS[level][0], NUMBERS[level][0].split('_')[1]
-        if level != 'chunk':
-            names = [it.name for it in kinds_of(table, level) if [part.what for part in it.layout.fields] == ['number']
-                     and getattr(it, 'struct', '-') == '-']
-            lines += [*doc(f'Adds {SINGLE[level]} to the last chunk.', '    '),
-                      f'    result add_{level}({of} {own}, bytes_view value = {{}})', '    {',
-                      f'        return any_item(number({own}), value);', '    }',
-                      *doc(f'Adds {SINGLE[level]} whose value is a number of four bytes: {words(names)}.', '    '),
-                      f'    result add_number({of} {own}, std::uint32_t value) {{ return four_bytes(number({own}), value); }}']
-        lines += [*doc(about, '    '), f'    result add_registered({of} {own}, const registered &of)', '    {',
-                  f'        return add_value(detail::{level}_layouts, {own}, of, ::dcsctp_add_registered_{level});', '    }']
+        names = [it.name for it in kinds_of(table, level) if [part.what for part in it.layout.fields] == ['number']
+                 and getattr(it, 'struct', '-') == '-']
+        lines += [*doc(f'Adds {SINGLE[level]} to the last chunk.', '    '),
+                  f'    result add_{level}({of} {own}, bytes_view value = {{}})', '    {',
+                  f'        return any_item(number({own}), value);', '    }',
+                  *doc(f'Adds {SINGLE[level]} whose value is a number of four bytes: {words(names)}.', '    '),
+                  f'    result add_number({of} {own}, std::uint32_t value) {{ return four_bytes(number({own}), value); }}']
     return lines
 
 

@@ -5,7 +5,7 @@ import textwrap
 
 import header
 from languages.c import ENUMS, lower, prefix_of
-from languages.words import LISTS, reference, registered, rule_standard, wrapped
+from languages.words import LISTS, reference, registered_structs, rule_standard, snake
 from layouts import WIDTHS, kinds_of, size_of
 
 TYPES = {'u8': 'std::uint8_t', 'u16': 'std::uint16_t', 'u32': 'std::uint32_t'}
@@ -51,10 +51,6 @@ def call(begin, arguments, end):
 
 def words(names, last='or'):
     return f' {last} '.join([', '.join(names[:-1]), names[-1]] if len(names) > 1 else names)
-
-
-def snake(name):
-    return re.sub(r'\W', '_', name).lower()
 
 
 def one_of(name):
@@ -374,6 +370,64 @@ def record_functions(table):
     return lines
 
 
+# ---- the types that the library keeps as bytes
+
+MEMBERS = {**TYPES, 'short_numbers': 'short_numbers', 'parameters': 'item_list<parameter>', 'causes': 'item_list<cause>'}
+
+
+def kept(table, level):
+    """The structs of these types, but for an address, which a parameter gives and a builder takes."""
+    return [(name, *it) for name, it in registered_structs(table, level).items() if name != 'ip_address']
+
+
+def kept_struct(name, rows, members):
+    about = ' '.join(f'{row.name} ({reference(row)}): {lower(row.about)}.' for row in rows)
+    fields = [('std::uint8_t', 'flags', 'The flags of the chunk.')] * (rows[0].level == 'chunk')
+    fields += [(MEMBERS.get(form, 'bytes_view'), member, said_of) for member, form, _, said_of in members]
+    lines = [*doc(about), f'struct {name} {{']
+    for kind, member, said_of in fields:
+        lines += said(f'    {kind} {member}{" = 0" if kind.startswith("std::") else "{}"};', said_of)
+    compared = [f'it.{member}' if kind.startswith('std::') else f'as_text(it.{member})' if kind == 'bytes_view' else
+                f'as_text(it.{member}.bytes())' for kind, member, _ in fields]
+    return [*lines, '};', *call(f'DCSCTP_EQUAL({name}, ', compared, ')'), '']
+
+
+def kept_reader(name, rows, members):
+    values = ['it.flags'] * (rows[0].level == 'chunk')
+    for member, form, _, _ in members:
+        part = f'part(this->bytes_, it.{member}_offset, it.{member}_size)'
+        values.append(f'it.{member}' if form in TYPES else part if form not in ('parameters', 'causes') else
+                      f'{{this->bytes_.subspan(0, it.{member}_offset + it.{member}_size), it.{member}_offset}}')
+    return [*doc(f'Reads {words([row.name for row in rows])}; none where the value is one that its type doesn\'t allow.', '    '),
+            f'    [[nodiscard]] std::optional<dcsctp::{name}> as_{name}() const noexcept', '    {',
+            f'        struct ::dcsctp_{name} it {{}};',
+            f'        if (!call<bool>(::dcsctp_read_{name}, this->bytes_, &this->place(), &it))', '            return std::nullopt;',
+            *call(f'        return dcsctp::{name}{{', values, '};'), '    }']
+
+
+def kept_writer(name, rows, members):
+    level = rows[0].level
+    number = f'{NUMBERS[level][0]} {"code" if level == "cause" else "type"}'
+    bytes_of = {member: f'of.{member}{"" if MEMBERS.get(form, "bytes_view") == "bytes_view" else ".bytes()"}'
+                for member, form, _, _ in members if form not in TYPES}
+    values, first = ['of.flags'] * (level == 'chunk'), '0'
+    for member, form, _, _ in members:
+        values += [f'of.{member}'] if form in TYPES else [first, f'{bytes_of[member]}.size()']
+        first = values[-1] if form not in TYPES else first
+    lines = [*doc(f'Adds {words([row.name for row in rows])}{"" if level == "chunk" else " to the last chunk"}; bad_value for a type that '
+                  'isn\'t this, and for what it doesn\'t allow.', '    '),
+             f'    result add_{name}({number + ", " if rows[1:] else ""}const {name} &of)', '    {']
+    both = list(bytes_of.values())
+    if both[1:]:
+        lines += [f'        if ({" || ".join(f"overlaps({it})" for it in both)})', '            return code(DCSCTP_BAD_VALUE);',
+                  f'        std::vector<std::uint8_t> both({both[0]}.begin(), {both[0]}.end());',
+                  f'        const bytes_view rest = {both[1]};', '        both.insert(both.end(), rest.begin(), rest.end());']
+        both = ['bytes_view(both)']
+    passed = [f'::dcsctp_write_{name}', *['start_'] * (level != 'chunk'), *([number.split()[1]] if rows[1:] else []), '&it', *both]
+    return [*lines, *call(f'        const struct ::dcsctp_{name} it {{', values, '};'),
+            f'        return {"append" if level == "chunk" else "extend"}({", ".join(passed)});', '    }']
+
+
 def kind_class(table, level):
     """What a chunk, a parameter or an error cause has by its kind."""
     enum_of, call_of = NUMBERS[level][0], 'code' if level == 'cause' else 'type'
@@ -399,6 +453,8 @@ def kind_class(table, level):
                       f'        return type() == {constant(row)} ? number_of(this->value()) : std::nullopt;', '    }']
     for name, lists in lists_of(table, [level]).items():
         lines += range_reader(name, lists, table['records'])
+    for it in kept(table, level):
+        lines += kept_reader(*it)
     return [*lines, '', '  protected:', f'    using {base}::{base};', '};']
 
 
@@ -408,14 +464,7 @@ def builder_class(table):
         lines += adder(row, table) if not row.layout.items or row.layout.numbers else []
     for name, rows in rows_by_struct(table).items():
         lines += item_adder(name, rows, table) if rows[0].level == 'parameter' else []
-    return [*lines, '};']
-
-
-def layouts(table, level):
-    lines = ['', f'inline constexpr layout {level}_layouts[] = {{']
-    for row, fields in registered(table, level):
-        parts = [f'{{"{name}", form::{form.replace(" ", "_")}}}' for name, form in fields]
-        lines.append(wrapped(f'{{{ENUMS[level][1]}{row.identifier}, {{', parts, '}},', '    ', '     '))
+    lines += [line for level in LISTS for it in kept(table, level) for line in kept_writer(*it)]
     return [*lines, '};']
 
 
@@ -438,6 +487,7 @@ def kinds(table):
     records, lines = table['records'], [HEAD, *enums(table), *map(names, NUMBERS), '']
     for name, rows in rows_by_struct(table).items():
         lines += [*struct(name, rows, table), '']
+    lines += [line for level in LISTS for it in kept(table, level) for line in kept_struct(*it)]
     lines += ['namespace detail {', *record_functions(table), '', '} // namespace detail', '']
     for name, lists in lists_of(table, LISTS).items():
         form = lists[0][1].form
@@ -445,5 +495,4 @@ def kinds(table):
         lines += [*doc(f'Of {words([row.name for row, _ in lists])}: {lower(lists[0][1].about)}'),
                   f'using {name} = range<detail::list<{element}, &detail::get_{read}>>;']
     lines += ['', 'namespace detail {', *(line for level in LISTS for line in kind_class(table, level)), *builder_class(table)]
-    lines += [line for level in LISTS for line in layouts(table, level)]
     return '\n'.join([*lines, '', '} // namespace detail', '', '} // namespace dcsctp', '', '#endif', ''])

@@ -1,6 +1,6 @@
 # SPDX-License-Identifier: Apache-2.0
 """What test.cc of the package for C++ does for each kind: bindings/cpp/test_kinds.hpp."""
-from languages.cpp_kinds import RANGES, call, constant, lists_of, one_of, rows_by_struct, snake, struct_fields
+from languages.cpp_kinds import RANGES, TYPES, call, constant, kept, lists_of, one_of, rows_by_struct, snake, struct_fields
 from languages.words import LISTS
 from layouts import kinds_of
 
@@ -124,6 +124,36 @@ def agrees(level, table):
     return [*lines, '}']
 
 
+CALLS = {'parameters': 'type', 'causes': 'code'}
+"""What gives the number of an item of a list."""
+
+
+def kept_shown(member, form):
+    """The key and the value of a field of a type that is kept as bytes."""
+    of = f'of->{member}'
+    if form in CALLS:
+        of = f'list_of({of}, [](auto one) {{ return object("{CALLS[form]}", number(one.{CALLS[form]}()), "value", one.value()); }})'
+    return [f'"{member}"', f'numbers({of})' if form == 'short_numbers' else of]
+
+
+def kept_tests(level, table):
+    """Has a function give the fields of such a type as the vectors do, and one write what is read."""
+    lines = ['', f'std::string fields_of(const {level} &it)', '{']
+    for name, _, members in kept(table, level):
+        counts = [f'of->{member}' for member, *_ in members if member.endswith('_count')]
+        pairs = [part for member, form, _, _ in members if f'of->{member}' not in counts[1:]
+                 for part in (['"counts"', f'numbers(std::vector<std::uint16_t>{{{", ".join(counts)}}})'] if f'of->{member}' in counts
+                              else kept_shown(member, form))]
+        lines += [f'    if (const auto of = it.as_{name}())', *call('        return object(', pairs, ');')]
+    lines += ['    if (const auto of = it.as_address())', '        return object("address", *of);'] * (level == 'parameter')
+    lines += ['    return "null";', '}', '', f'result write_fields(builder &to, const {level} &it)', '{']
+    for name, rows, _ in kept(table, level):
+        number = f'it.{"code" if level == "cause" else "type"}(), ' if rows[1:] else ''
+        lines += [f'    if (const auto of = it.as_{name}())', f'        return to.add_{name}({number}*of);']
+    lines += ['    if (const auto of = it.as_address())', '        return to.add_address(*of);'] * (level == 'parameter')
+    return [*lines, '    return result_code::bad_value;', '}']
+
+
 def tests(table):
     lines = [HEAD, 'std::string show(const parameter &it);', 'std::string show(const cause &it);', '',
              'template <typename Range> std::string shown(const Range &items)', '{',
@@ -133,10 +163,15 @@ def tests(table):
     structs = rows_by_struct(table)
     lines += [line for name in structs for line in alike(name, table)]
     lines += [line for level in LISTS for line in agrees(level, table)]
+    lines += [line for level in LISTS for line in kept_tests(level, table)]
     for row in table['enum']:
         names = [f'"{it.identifier}"' for it in table['constant'] if it.of == row.name]
         lines += ['', *call(f'const char *const names_of_{row.name}[] = {{', names, '};')] if row.name in RETURNED else []
     lines += ['', 'void equal_structs()', '{']
+    for level in LISTS:
+        for name, _, fields in kept(table, level):
+            members = [f'&{name}::{member}' for member, form, _, _ in fields if form in TYPES]
+            lines += call('    CHECK(compares(', members, '));') if members else []
     for name in structs:
         members = [f'&{name}::{member}' for kind, member, _ in struct_fields(name, table) if kind != 'bytes_view']
         lines += call('    CHECK(compares(', members, '));')

@@ -3,7 +3,8 @@
 from languages.go_kinds import kinds
 from languages.go_tests import tests
 from languages.go_words import HEAD, NUMBERS, article, camel, comment, constant, lower
-from languages.words import LISTS, digits, registered, rule_name, rule_standard, wrapped
+from languages.words import LISTS, digits, reference, registered, rule_name, rule_standard, wrapped
+from layouts import registered_of
 
 PREFIXES = {'result': 'Err', 'tag_verdict': 'Tag', 'init_fault': 'Init'}
 """Of what calls return how a constant begins, where it isn't the enum's name."""
@@ -44,6 +45,18 @@ func New{own}({bits} {Number}, value []byte) ({own}, error) {{
 #Bytes returns the whole of it, its header and its value, without padding, where it lies in the packet: {is_for}.
 func (it {own}) Bytes() []byte {{ return it.packet.part(it.Offset, len(it.Value)+4) }}
 
+#MarshalBinary returns a copy of Bytes, as encoding/gob asks for one. ErrBadValue for the zero value.
+func (it {own}) MarshalBinary() ([]byte, error) {{ return copied(it.Bytes()) }}
+
+#UnmarshalBinary reads {a} from a copy of the bytes that it is, with or without its padding; its Offset is 0. The error is an *Error with ErrLength: where it begins, or where it ends if something follows it.
+func (it *{own}) UnmarshalBinary(bytes []byte) error {{
+	packet, err := itemIn(bytes)
+	if err == nil {{
+		*it = {own}{{{Number}(shortAt(packet, 0)), packet[4:], 0, packet}}
+	}}
+	return err
+}}
+
 #String returns what it is and the size of its value, as in "{example}".
 func (it {own}) String() string {{ return fmt.Sprintf("%v size=%d", it.{Type}, len(it.Value)) }}
 
@@ -57,11 +70,16 @@ func (it {own}) Number() (uint32, bool) {{
 
 #Registered reads {a} of the registry that has no method of its own here.
 func (it {own}) Registered() (Registered, bool) {{
-	return registered({level}Level, uint16(it.{Type}), it.Value, it.packet, it.Offset+4)
+	return registered({level}Level, uint16(it.{Type}), 0, it.Value, it.packet, it.Offset+4)
 }}
 
 #{own}s goes over the {own}s; {goes}.
 func (chunk Chunk) {own}s() *Iterator[{own}] {{
+	it := chunk.{level}s()
+	return &it
+}}
+
+func (chunk Chunk) {level}s() Iterator[{own}] {{
 	list, base := chunk.list()
 	if !chunk.Type.has{own}s() {{
 		list = nil
@@ -70,10 +88,12 @@ func (chunk Chunk) {own}s() *Iterator[{own}] {{
 }}
 
 #{level}sOf goes over those of a list that begins at an offset in a packet.
-func {level}sOf(packet Packet, list []byte, base int) *Iterator[{own}] {{
-	return walk(list, func(offset int, value []byte) {own} {{
-		return {own}{{{Number}(shortAt(list, offset)), value, base + offset, packet}}
-	}})
+func {level}sOf(packet Packet, list []byte, base int) Iterator[{own}] {{
+	return Iterator[{own}]{{packet: packet, list: list, base: base, read: {level}Of}}
+}}
+
+func {level}Of(packet Packet, number uint16, value []byte, offset int) {own} {{
+	return {own}{{{Number}(number), value, offset, packet}}
 }}
 
 #{own}Count returns how many {own}s a chunk has: {none}.
@@ -181,6 +201,15 @@ def registered_layouts(table, level):
     yield '}'
 
 
+def flags(row):
+    """The flags of a chunk that Registered reads."""
+    yield from ['', *comment(f'The flags of {row.name} ({reference(row)}).'), 'const (']
+    for it in row.flags:
+        own = camel(f'{row.identifier} {it.flag.identifier}')
+        yield from [*comment(f'{own} is {lower(it.about)}', '\t'), f'\t{own} = {it.flag.number:#04x}']
+    yield ')'
+
+
 def item(level):
     """What comes in lists: its type, and what reads and writes it."""
     for line in ITEM.replace('\\\n', '').format(level=level, **ITEMS[level]).rstrip().split('\n'):
@@ -199,6 +228,8 @@ def registry(table):
         lines += item(level)
     for level in LISTS:
         lines += registered_layouts(table, level)
+    for row in (row for row in registered_of(table, 'chunk') if row.flags):
+        lines += flags(row)
     return HEAD + '\n'.join(lines) + '\n'
 
 

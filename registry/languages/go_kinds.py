@@ -151,6 +151,11 @@ def reader_lines(name, rows, records):
         yield from ['', *comment(f'{camel(name)} reads {names}; false for another type.'),
                     f'func (parsed *Parsed) {camel(name)}(i int) (it {camel(name)}, ok bool) {{', '\trow := &parsed.rows[i]',
                     '\tok = it.read(row.chunkType, row.flags, row.value(parsed.packet))', '\treturn it, ok', '}']
+    else:
+        yield from ['', *comment(f'{camel(name)} reads {about}, by the indices of its chunk and its own; false for another type, and in another '
+                                 'chunk.'),
+                    f'func (parsed *Parsed) {camel(name)}(i, index int) (it {camel(name)}, ok bool) {{',
+                    '\tok = it.read(parsed.reConfigAt(i, index))', '\treturn it, ok', '}']
 
 
 def number_lines(row):
@@ -243,7 +248,14 @@ def list_lines(name, rows, records):
         read = read_list(method, item, one, own, records, 'nil', f'{owner}.{TYPED[level]}', one.name)
         yield from ['', *comment(f'{method} goes over the {one.name} of {either([row.name for row in own])}; another type has none.'),
                     f'func ({owner} {owner.capitalize()}) {method}() *Iterator[{item}] {{',
-                    f'\t{given} := listsOf{struct}({owner}.{TYPED[level]}, {owner}.Value)', f'\treturn &Iterator[{item}]{{items: {read}}}', '}']
+                    f'\treturn &Iterator[{item}]{{items: {owner}.{method[0].lower()}{method[1:]}()}}', '}',
+                    '', f'func ({owner} {owner.capitalize()}) {method[0].lower()}{method[1:]}() []{item} {{',
+                    f'\t{given} := listsOf{struct}({owner}.{TYPED[level]}, {owner}.Value)', f'\treturn {read}', '}']
+    if level == 'parameter':
+        yield from ['', *comment(f'{method} returns the {one.name} of {either([row.name for row in own])}, by the same indices, and none of '
+                                 'another type.'),
+                    f'func (parsed *Parsed) {method}(i, index int) []{item} {{',
+                    f'\treturn parsed.shortsOf(i, index, listsOf{struct}(parsed.reConfigAt(i, index)))', '}']
 
 
 def parsed_lines(table, lists, records):

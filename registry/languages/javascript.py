@@ -333,7 +333,7 @@ def record_writers(struct):
                   for i, it in enumerate(row.layout.fields)]
         yield comment(f'The numbers of a list of {row.name}, one after the other.') + '\n' + block(f'function check{row.name}s(list, name) {{', [
             'const all = [];', 'for (const it of isList(list, name)) {', f'  const {{ {takes} }} = record(it, `an item of ${{name}}`);',
-            f'  all.push({", ".join(values)});', '}', 'return all;'], '}') + '\n' + block(f'function write{row.name}s(view, at, all) {{', [
+            f'  if (all.push({", ".join(values)}) >= TOO_MANY)', '    break;', '}', 'return all;'], '}') + '\n' + block(f'function write{row.name}s(view, at, all) {{', [
                 f'for (let i = 0; i < all.length; i += {count}, at += {row.layout.size}) {{', *(f'  {line}' for line in writes), '}'], '}')
 
 
@@ -398,7 +398,7 @@ def item_writer(level, structs):
 IMPORTS = """// The kinds of chunks, parameters and error causes: what is read of their bytes, and how they are written. kinds.d.ts has the types.
 'use strict';
 
-const { u16, u32, truth, record, isList, isBytes, numbersOf, keptOf, keptList, u16sIn, u32sIn, writeU16s, writeU32s } =
+const { u16, u32, truth, record, isList, isBytes, TOO_MANY, numbersOf, keptOf, keptList, u16sIn, u32sIn, writeU16s, writeU32s } =
   this ? require('./library.js') : globalThis[Symbol.for('davgyuti')];
 """
 EXPORTS = """if (this)

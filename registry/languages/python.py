@@ -15,6 +15,7 @@ NAMES = {'ERROR': 'OperationError', 'RECONFIGURATION_RESPONSE': 'ReConfigRespons
 NUMBERS = {'chunk': ('type', 'ChunkType'), 'parameter': ('type', 'ParameterType'), 'cause': ('code', 'CauseCode')}
 ITEMS = {'parameters': 'Parameter', 'causes': 'Cause'}
 RESULTS = 'ReConfigResult'
+RESERVED = "Its reserved bytes as they were read: `value` has them, but they don't matter to `==`, and are written as zeros."
 
 
 def snake(name):
@@ -101,7 +102,7 @@ def numbers(table):
 KINDS = HEAD + '''\
 """The kinds of chunks, parameters and error causes, with their fields."""
 
-from dataclasses import dataclass, replace
+from dataclasses import dataclass, field, replace
 from typing import ClassVar, NamedTuple, TypeAlias, TypeVar
 
 from ._numbers import CauseCode, ChunkType, ParameterType, ReConfigResult
@@ -111,8 +112,9 @@ _F = TypeVar("_F", bound="UserData")'''
 # What all of a level have, and those that are of no kind.
 LEVEL = '''
 
-@dataclass(slots=True, unsafe_hash=True)
 class {name}Part(Part):
+    __slots__ = ()
+
     @property
     def name(self) -> str:
         """The name of its {column}: see {level}_name."""
@@ -127,13 +129,13 @@ class {name}Part(Part):
         return it
 
 
-@dataclass(slots=True, unsafe_hash=True)
-class Registered{name}({name}Part):
+{registered}class Registered{name}({name}Part):
     """Of {what} those of a kind of `davgyuti.registered`."""
 
     {column}: ClassVar[{enum}]
     fields: ClassVar[dict[str, str]]
     """The names of its fields."""
+    {slots}
 
 
 @dataclass(slots=True, unsafe_hash=True)
@@ -143,6 +145,10 @@ class Raw{name}({name}Part):
 
     {column}: int
     {flags}value: bytes = b""'''
+DATACLASS = '@dataclass(slots=True, unsafe_hash=True)\n'
+REGISTERED_FLAGS = '''\
+flags: int = field(default=0, kw_only=True)
+    """Its flags as the number in the chunk, as they were read, and are written."""'''
 # What chunks have that have several flags.
 FLAGS = '''\
 
@@ -183,7 +189,10 @@ def attributes(row):
             found.append((name, f'{it.form} | None', 'None', it.about))
         elif it.what == 'rest':
             item = ITEMS.get(it.form)
-            found.append((name, f'tuple[{item}, ...]' if item else 'bytes', '()' if item and not it.least else '', it.about))
+            # (by its name, which says more than all that it stands for)
+            found.append((name, f'"tuple[{item}, ...]"' if item else 'bytes', '()' if item and not it.least else '', it.about))
+        elif it.what == 'reserved' and row.level == 'parameter':
+            found.append(('reserved', 'int', 'field(default=0, compare=False, repr=False, kw_only=True)', RESERVED))
     if row.level != 'record' and not is_flagged(row):
         found += flags_of(row)
     return sorted(found, key=lambda it: bool(it[2]))
@@ -228,8 +237,9 @@ def classes(table):
         lines += record_lines(row)
     for level in ('parameter', 'cause', 'chunk'):
         name, (column, enum) = level.capitalize(), NUMBERS[level]
-        flags = 'flags: int = 0\n    ' if level == 'chunk' else ''
-        lines.append(LEVEL.format(name=name, level=level, column=column, enum=enum, what=LISTS[level], flags=flags))
+        registered, slots, flags = (DATACLASS, REGISTERED_FLAGS, 'flags: int = 0\n    ') if level == 'chunk' else ('', '__slots__ = ()', '')
+        lines.append(LEVEL.format(name=name, level=level, column=column, enum=enum, what=LISTS[level], registered=registered,
+                                  slots=slots, flags=flags))
         for row in kinds_of(table, level):
             if is_flagged(row) and not has_user_data:
                 has_user_data = True
@@ -242,28 +252,6 @@ def classes(table):
 
 # ---- the methods of a builder
 
-METHODS = HEAD + '''\
-"""The methods of a PacketBuilder that add the kinds of chunks by their fields."""
-
-from collections.abc import Iterable
-from typing import Any
-
-from . import _kinds
-from ._fast import Builder
-from ._values import Buffer
-from ._writing import ChunkWriter
-
-# (a field takes what the module in C takes, which is more than its type says)
-k: Any = _kinds
-
-
-class Methods(Builder):
-    """What a PacketBuilder has for each kind of chunk: fields are those of its kind."""
-
-    __slots__ = ()
-
-    def _listed(self, chunk: Any) -> ChunkWriter:
-        return ChunkWriter(self, self._list(chunk))'''
 # (written by hand: they are given what is in their first parameter or error cause)
 BY_HAND = ('HEARTBEAT', 'HEARTBEAT_ACK', 'ABORT')
 
@@ -276,34 +264,65 @@ def passed_as(form, table):
     return f'Iterable[{item[1]}]' if item else {'bytes': 'Buffer'}.get(form, form)
 
 
-def method_lines(row, table):
+def is_method(row):
+    return row.level == 'chunk' and row.identifier not in BY_HAND
+
+
+def words_of(row):
+    """What a method is given, as `attributes` has it, and how much of it need not be named. Its list is written by the ChunkWriter."""
     rest = row.layout.items
     own = [it for it in attributes(row) + (flags_of(row) if is_flagged(row) else []) if not rest or it[0] != snake(rest.name)]
     flags = [snake(it.name) for it in row.flags]
-    by_word = [it[0] for it in own if (is_flagged(row) and it[1] != 'bytes') or rest or it[0] in flags]
-    given = sorted(own, key=lambda it: it[0] in by_word)
-    words = ['self']
-    for name, form, default, _ in given:
-        if name in by_word and '*' not in words:
-            words.append('*')
-        words.append(f'{name}: {passed_as(form, table)}{f" = {default}" if default else ""}')
+    named = [it for it in own if (is_flagged(row) and it[1] != 'bytes') or rest or it[0] in flags]
+    plain = [it for it in own if it not in named]
+    return plain + named, len(plain)
+
+
+def method_about(row):
     about = f'Adds {row.name} ({reference(row)})' + (', by default a whole message' if is_flagged(row) else '')
-    if rest:
-        what = LISTS[ITEMS[rest.form].lower()]
-        about += f', to which {what} {"have to" if rest.least else "can"} be added'
-    yield from ['', *listed(f'def {row.identifier.lower()}(', words, f') -> {"ChunkWriter" if rest else "None"}:', '    ')]
-    yield doc(' '.join([about + '.', row.notes.get('-', '')]).strip(), '        ')
-    arguments = [f'{it[0]}={it[0]}' for it in own] + ([f'{snake(rest.name)}=()'] if rest and rest.least else [])
-    call = listed(f'{"return self._listed" if rest else "self.add"}(k.{class_of(row)}(', arguments, '))', '        ')
-    yield from call
+    if rest := row.layout.items:
+        about += f', to which {LISTS[ITEMS[rest.form].lower()]} {"have to" if rest.least else "can"} be added'
+    return ' '.join([about + '.', row.notes.get('-', '')]).strip()
+
+
+def with_star(words, plain):
+    return words[:plain] + ['*'] * (plain < len(words)) + words[plain:]
 
 
 def methods(table):
-    lines = [METHODS]
-    for row in kinds_of(table, 'chunk'):
-        if row.identifier not in BY_HAND:
-            lines += method_lines(row, table)
+    """Those of a PacketBuilder that add the kinds of chunks by their fields, for type checkers."""
+    lines = []
+    for row in filter(is_method, kinds_of(table, 'chunk')):
+        words, plain = words_of(row)
+        given = [f'{name}: {passed_as(form, table)}{f" = {default}" if default else ""}' for name, form, default, _ in words]
+        given = ['self', *with_star(given, plain)]
+        lines += listed(f'def {row.identifier.lower()}(', given, f') -> {"ChunkWriter" if row.layout.items else "None"}:', '    ')
+        lines.append(doc(method_about(row), '        '))
     return '\n'.join(lines) + '\n'
+
+
+BACKSLASH = '\\'
+DEFAULTS = {'': 'NEEDED', '0': 'ZERO', 'False': 'NO', 'True': 'YES', '()': 'NOTHING'}
+
+
+def c_methods(table):
+    """What those methods are given, in order: the step that it is, and what it is where it isn't given. And the methods, by an X macro."""
+    rows = [*filter(is_method, kinds_of(table, 'chunk'))]
+    yield '/* What the methods that add chunks are given, in order: a step, and its default; and how much of it need not be named. */'
+    yield 'static const struct words WORDS[] = {'
+    for row in rows:
+        words, plain = words_of(row)
+        steps = [name for *_, name in c_steps(row, table)]
+        given = [f'{{{steps.index(name)}, {DEFAULTS[default]}}}' for name, _, default, _ in words] or ['{0, NEEDED}']
+        yield wrapped(f'[{row.identifier}] = {{{len(words)}, {plain}, {{'.replace(' ', NO_BREAK), given, '}},', '    ', '        ').replace(NO_BREAK, ' ')
+    yield from ['};', '', '/* These methods: the name, the kind, and what help says. */', '#define CHUNK_METHODS(X) \\']
+    for row in rows:
+        words, plain = words_of(row)
+        given = with_star([name + (f'={default}' if default else '') for name, _, default, _ in words], plain)
+        name, about = row.identifier.lower(), '\\n'.join(textwrap.wrap(method_about(row), 120, break_on_hyphens=False))
+        yield f'    X({name}, {row.identifier}, "{name}({", ".join(["$self", *given])})\\n--\\n\\n" \\'
+        yield f'      "{about}"){"" if row is rows[-1] else " " + BACKSLASH}'
+    yield ''
 
 
 # ---- the types of the registry that have no kind
@@ -317,9 +336,11 @@ OF_REGISTRY = HEAD + '''\
             ...
 
 A RawChunk, a RawParameter and a RawCause are read so. What is in a list is again a parameter or an error cause, which is read
-in turn. A PacketBuilder and a ChunkWriter add all of these; reserved fields are written as zeros. A builder raises BadValue for
-what the type does not allow: an address of the other version of IP in an Ipv4Address, a broken list.
+in turn. A PacketBuilder and a ChunkWriter add all of these, a chunk with its `flags`; reserved fields are written as zeros. A builder
+raises BadValue for what the type does not allow: an address of the other version of IP in an Ipv4Address, a broken list.
 """
+
+from __future__ import annotations
 
 from dataclasses import dataclass
 from typing import ClassVar
@@ -343,7 +364,10 @@ def registry(table):
             lines += ['', '@dataclass(slots=True, unsafe_hash=True)', f'class {kind_name(row)}({base}):', doc(kind_about(row)), '',
                       f'    {column}: ClassVar[{enum}] = {enum}.{row.identifier}',
                       wrapped('fields: ClassVar[dict[str, str]] = {', forms, '}', '    ', '        '),
-                      *(f'    {name}: {FORMS.get(form, "int")}' for name, form in fields), '']
+                      *(f'    {name}: {FORMS.get(form, "int")}' for name, form in fields)]
+            for it in row.flags:
+                lines += [f'    {it.flag.identifier}: ClassVar[int] = {it.flag.number}', doc(f'Of `flags`: {it.about[0].lower()}{it.about[1:]}')]
+            lines.append('')
     for level, base in REGISTERED.items():
         column = NUMBERS[level][0]
         lines += ['', *listed(f'_{level.upper()}_KINDS: tuple[type[{base}], ...] = (', [kind_name(row) for row, _ in kinds(table, level)], ')'),
@@ -393,7 +417,8 @@ def c_steps(row, table):
         elif it.what == 'number' and it.of:
             yield 'RESULT', size, 0, name
         else:
-            yield it.what.upper(), size, 0, '' if it.what in ('reserved', 'count') else name
+            is_unnamed = it.what == 'count' or it.what == 'reserved' and row.level != 'parameter'
+            yield it.what.upper(), size, 0, '' if is_unnamed else 'reserved' if it.what == 'reserved' else name
 
 
 def c_sizes(layout, table):
@@ -426,11 +451,11 @@ def tables(table):
               '/* The kind of what has a number. */', 'static int kind_of_number(enum level level, uint32_t number)', '{',
               '    switch ((uint32_t)level << 16 | number) {']
     lines += [f'    case (uint32_t){row.level.upper()} << 16 | {row.number}: return {row.identifier};' for row in rows if row.level != 'record']
-    return '\n'.join([*lines, '    }', '    return -1;', '}', ''])
+    return '\n'.join([*lines, '    }', '    return -1;', '}', '', *c_methods(table)])
 
 
 FILES = {FOLDER + path: text for path, text in {
-    '_numbers.py': numbers, '_kinds.py': classes, '_methods.py': methods, 'registered.py': registry,
+    '_numbers.py': numbers, '_kinds.py': classes, 'registered.py': registry,
     '_header.py': lambda table: declarations(FOLDER, HEAD, listed),
     '_kinds.h': tables}.items()}
-MARKED = {}
+MARKED = {FOLDER + '_fast.pyi': lambda table: [methods(table)]}

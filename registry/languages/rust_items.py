@@ -93,7 +93,7 @@ impl FusedIterator for [List]<'_> {}
 pub struct [Item]<'a>(Item<'a>);
 
 // The [number] and the value: the length between them is that of the value.
-same_bytes!([Item]);
+same_bytes!([Item]<'_>);
 
 impl<'a> [Item]<'a> {
     /// Writes one with this [number] and this value (RFC 9260 section [section]) to the front of

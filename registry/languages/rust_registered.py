@@ -1,9 +1,10 @@
 # SPDX-License-Identifier: Apache-2.0
 """The types of IANA's registry that have no kind of their own, by field, in Rust."""
+import re
 import sys
 
 from languages.rust_words import LICENSE, arm, call, chain, docs, example
-from languages.words import C_NUMBERS, REGISTERED, kind_about, kind_name, kinds
+from languages.words import REGISTERED, kind_about, kind_name, kinds, members_of, reference
 
 FRONT = '''\
 //! The types of IANA's registry that have no kind of their own, by field.
@@ -16,10 +17,11 @@ use crate::types::{CauseCode, ChunkType, ParameterType};
 use core::fmt;
 use core::net::IpAddr;
 '''
-WORDS = {'tsn': 'TSN', 'hmac': 'HMAC', 'hmacs': 'HMACs', 'id': 'ID'}
+ABOUTS = {'RESTART_WITH_NEW_ADDRESSES': {'parameters': 'The parameters that are the new addresses: [`Parameters::addresses`] returns these.'}}
+"""What is said of a field here alone."""
 TYPES = {
     'number': 'u32', 'second_number': 'u32', 'short_number': 'u16', 'second_short_number': 'u16', 'third_short_number': 'u16',
-    'counts': '[u16; 3]', 'address': 'IpAddr', 'parameters': "Parameters<'a>", 'causes': "Causes<'a>",
+    'flags': 'u8', 'counts': '[u16; 3]', 'address': 'IpAddr', 'parameters': "Parameters<'a>", 'causes': "Causes<'a>",
     'short_numbers': "ShortNumbers<'a>", 'bytes': "&'a [u8]",
 }
 """The type of a field of each form."""
@@ -78,18 +80,29 @@ assert_eq!(cause.registered(), Some(RegisteredCause::StaleCookie { microseconds:
 """Of each level the type of its numbers, its method here, what the enum is, and an example."""
 
 
+def flags_of(row):
+    """The names of the flags of a kind's chunk here, and each."""
+    return [(f'{row.identifier}_{it.flag.identifier}', it) for it in row.flags]
+
+
+def flagged(table, level):
+    """The kinds of a level, whose first field is the flags of the chunk, where these have a meaning."""
+    return [(row, [*[('flags', 'flags')] * bool(row.flags), *fields]) for row, fields in kinds(table, level)]
+
+
 def declared(row, fields):
     """A variant, and what is said of it."""
     name = kind_name(row)
-    text = docs(kind_about(row).replace('a_rwnd', '`a_rwnd`'), 4)
+    text = docs(re.sub(r'a_rwnd|GapAckBlock\*', r'`\g<0>`', kind_about(row)), 4)
     if not fields:
         return f'{text}    {name},\n'
-    lines = ''
-    for field, form in fields:
-        words = [WORDS.get(word, word) for word in field.split('_')]
-        words[0] = words[0][0].upper() + words[0][1:]
-        size = next((f', a number of {int(size[1:]) // 8} bytes' for size, places in C_NUMBERS.items() if form in places), '')
-        lines += docs(f'{" ".join(words)}{size}.'.replace('A rwnd', '`a_rwnd`'), 8) + f'        {field}: {TYPES[form]},\n'
+    said = {it: about.replace('The octets of an', 'An') for it, _, _, about in members_of(row)} | ABOUTS.get(row.identifier, {})
+    if 'lists' in said:
+        said['counts'] = said['lists'].replace('The ', 'How many ').replace(', one after the other', '')
+    if row.flags:
+        *most, last = [f'[`{flag}`](Self::{flag})' for flag, _ in flags_of(row)]
+        said['flags'] = f'Flags: {", ".join(most)} and {last}.'
+    lines = ''.join(docs(said[field], 8) + f'        {field}: {TYPES[form]},\n' for field, form in fields)
     return f'{text}    {name} {{\n{lines}    }},\n'
 
 
@@ -131,12 +144,14 @@ def shown(row, fields):
 
 def enum(table, level):
     name, (number, method, text, lines) = REGISTERED[level], LEVELS[level]
-    rows = list(kinds(table, level))
+    rows = flagged(table, level)
     for row, fields in rows:
         forms = [form for _, form in fields]
         after = forms[forms.index('address') + 1:] if 'address' in forms else []
         if after not in ([], ['parameters'] if level == 'chunk' else []):
             sys.exit(f'{row.name}: Rust writes no {after[0]} after an address')
+    constants = ''.join(docs(f'A flag of {row.name} ({reference(row)}). {it.about}', 4) +
+                        f'    pub const {flag}: u8 = {it.flag.number:#04x};\n\n' for row, _ in rows for flag, it in flags_of(row))
     return f'''
 {docs(text)}{example(lines.split(chr(10)))}#[derive(Clone, PartialEq, Eq)]
 #[non_exhaustive]
@@ -144,7 +159,7 @@ pub enum {name}<'a> {{
 {''.join(declared(*it) for it in rows)}}}
 
 impl<'a> {name}<'a> {{
-    /// Returns the number of this kind.
+{constants}    /// Returns the number of this kind.
     ///
     /// ```
     /// use davgyuti::{{CauseCode, ParameterType, RegisteredCause, RegisteredParameter}};

@@ -138,7 +138,7 @@ def written_item(row, number, method):
     return f'        "{row.identifier}" => chunk.{method}({number}::{row.identifier}, {value}).map(|_| ()),\n'
 
 
-FORMS = {'address': 'it.address("{0}")', 'counts': 'it.counts("{0}")', 'bytes': 'it.kept("{0}")',
+FORMS = {'flags': '0', 'address': 'it.address("{0}")', 'counts': 'it.counts("{0}")', 'bytes': 'it.kept("{0}")',
          'short_numbers': 'ShortNumbers::of(it.kept_numbers("{0}"))', 'parameters': 'Parameters::of(it.kept_list("{0}", "type"))',
          'causes': 'Causes::of(it.kept_list("{0}", "code"))'}
 SHOWN = {'address': 'Json::from(*{0})', 'counts': 'Json::List({0}.map(Json::from).to_vec())', 'bytes': 'Json::from(*{0})',
@@ -147,15 +147,20 @@ SHOWN = {'address': 'Json::from(*{0})', 'counts': 'Json::List({0}.map(Json::from
          'causes': 'Json::List({0}.clone().map(|it| plain("code", it.code().0, it.value())).collect())'}
 
 
+def given(key, form):
+    """A field of a registered value as it is made of JSON, which has no flags."""
+    return f'{key}: ' + (FORMS.get(form) or 'it.number("{0}")').format(key)
+
+
 def registered(table, level):
     """What is read of a registered value as JSON, and the value of this."""
     name, (number, *_) = REGISTERED[level], REGISTERED_LEVELS[level]
     rows = list(registered_kinds(table, level))
-    read = ''.join(f'        {name}::{kind_name(row)}{" { " + ", ".join(key for key, _ in fields) + " }" if fields else ""} => '
+    read = ''.join(f'        {name}::{kind_name(row)}{" { " + ", ".join([*(key for key, _ in fields), *[".."] * bool(row.flags)]) + " }" if fields else ""} => '
                    f'object([{", ".join(f"({chr(34)}{key}{chr(34)}, " + (SHOWN.get(form) or "Json::from(*{0})").format(key) + ")" for key, form in fields)}]),\n'
                    for row, fields in rows)
     write = ''.join(f'        {number}::{row.identifier} => {name}::{kind_name(row)}'
-                    f'{" { " + ", ".join(key + ": " + (FORMS.get(form) or "it.number({1}{0}{1})").format(key, chr(34)) for key, form in fields) + " }" if fields else ""},\n'
+                    f'{" { " + ", ".join(given(*it) for it in [*fields, *[("flags", "flags")] * bool(row.flags)]) + " }" if fields else ""},\n'
                     for row, fields in rows)
     return f'''
 pub fn {name[10:].lower()}_fields(it: &{name}) -> Json {{

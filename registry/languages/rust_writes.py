@@ -34,8 +34,9 @@ def loop(indent, source, size, name, form, records, wrapped):
                     *(f'{blanks}    {line}\n' for line in lines), f'{blanks}}}\n'])
 
 
-def body(indent, row, value, adds, records):
-    """The lines that write a kind; `value` gives a field, `adds` is the call that adds it but for its numbers and its rest."""
+def body(indent, row, value, adds, records, is_any=False):
+    """The lines that write a kind; `value` gives a field, `adds` is the call that adds it but for its numbers and its rest. A list
+    that is any iterator may say a wrong length, and one that no slice has."""
     blanks, layout, lines, sizes = ' ' * indent, row.layout, [], []
     if layout.size:
         lines.append(f'let mut it = [0; {layout.size}];')
@@ -54,7 +55,7 @@ def body(indent, row, value, adds, records):
             number = value(identifier(it.name)) + ('.number()' if it.of else '')
             lines.append(f'put(&mut it, {it.at}, {number}.to_be_bytes());')
     names = [(it, identifier(it.name) if row.level != 'chunk' else kinds.list_of(row, it)[0]) for it in layout.lists]
-    sizes += [f'{size_of(it.form, records)} * {name}.len()' for it, name in names]
+    sizes += [f'{size_of(it.form, records)} * {name}.len(){".min(0xffff)" if is_any else ""}' for it, name in names]
     if layout.optional:
         name = identifier(layout.optional.name)
         lines.append(f'let size = if {name}.is_some() {{ {records[layout.optional.form].layout.size} }} else {{ 0 }};')
@@ -63,11 +64,12 @@ def body(indent, row, value, adds, records):
     if rest:
         sizes.append(f'{value(identifier(rest.name))}.len()')
     total = ' + '.join(sizes) or '0'
-    if sizes and len(sizes) > 1:
+    if len(sizes) > 1 or is_any and names:
         lines.append(f'let size = {total};')
         total = 'size'
     added = f'{adds}, {"it" if layout.size else "[]"}, {total})?;'
     lines.append(('let rest = ' if sizes else '') + added)
+    lines += ['rest.fill(0);'] * (is_any and bool(names))
     text = ''.join(f'{blanks}{line}\n' for line in lines)
     for i, (it, name) in enumerate(names):
         size, source = size_of(it.form, records), 'rest'
@@ -180,18 +182,30 @@ def requests(rows, records):
     arms = []
     for row in rows:
         names = [identifier(it.name) for it in row.layout.fields if it.name and it.what != 'count']
-        text = body(16, row, lambda key: key, f'self.item(ParameterType::{row.identifier}.0', records)
+        text = body(16, row, lambda key: key, f'self.item(ParameterType::{row.identifier}.0', records, True)
         arms.append(f'            ReConfig::{camel(row.identifier)} {{ {", ".join(names)} }} => {{\n{text}            }}\n')
     row = next(row for row in rows if row.layout.lists)
     sample = Sample(row, records)
     fields = [f'{identifier(name)}: {"&[%s]" % value if name == "streams" else value}' for name, value in sample.values.items()]
     made = f'davgyuti::ReConfig::{camel(row.identifier)} {{ {", ".join(fields)} }}'
     lines = [*BUILDER, f'packet.re_config()?.re_config(&{made})?;', f'assert_eq!(packet.as_bytes()[16..], {literal(sample.padded)});', WRITTEN]
+    errors = ERRORS % '[`WriteError::BadValue`] or [`WriteError::NoRoom`].'
+    about_any = ('Adds the same with any list of streams that knows its length: that of a request which '
+                 '[`Parameter::re_config`](crate::Parameter::re_config) read, too. Zeros follow a list that ends before the length it says.')
+    again = [*BUILDER, f'let mut parameters = davgyuti::Parameters::of({literal(sample.padded)[1:]});',
+             'let request = parameters.next().unwrap().re_config().unwrap();', 'packet.re_config()?.re_config_from(request)?;', f'assert_eq!(packet.as_bytes()[16..], {literal(sample.padded)});', WRITTEN]
     return f'''\
     /// Adds a request or the response of RE-CONFIG (RFC 6525 section 4).
-{example(lines, 4)}{ERRORS % '[`WriteError::BadValue`] or [`WriteError::NoRoom`].'}    #[doc(alias = "dcsctp_add_re_config")]
+{example(lines, 4)}{errors}    #[doc(alias = "dcsctp_add_re_config")]
     pub fn re_config(&mut self, re_config: &ReConfig<&[u16]>) -> Result<&mut Self, WriteError> {{
-        match *re_config {{
+        self.re_config_from(re_config.map_streams(|it| it.iter().copied()))
+    }}
+
+{docs(about_any, 4)}{example(again, 4)}{errors}    pub fn re_config_from(
+        &mut self,
+        re_config: ReConfig<impl IntoIterator<Item = u16, IntoIter: ExactSizeIterator>>,
+    ) -> Result<&mut Self, WriteError> {{
+        match re_config.map_streams(IntoIterator::into_iter) {{
 {''.join(arms)}        }}
         Ok(self)
     }}

@@ -1,7 +1,7 @@
 /* SPDX-License-Identifier: Apache-2.0 */
 /* Answers vectors.py by the proved calls: a line of words in, a line of JSON out. The first word is what is asked; the others
    are its arguments, as `name=value`: numbers, bytes in hexadecimal, lists with commas. */
-#include <dcsctp.h>
+#include <dcsctp_registered.h>
 #include <stdio.h>
 #include <stdlib.h>
 #include <string.h>
@@ -251,7 +251,7 @@ static void read_packet(void)
 /* ---- what is written */
 
 static uint8_t output[ROOM];
-static size_t written, start; /* how much of it is, and where its last chunk begins */
+static struct dcsctp_writer writer;
 
 #define U16(field) .field = (uint16_t)number(#field)
 #define U32(field) .field = number(#field)
@@ -261,14 +261,14 @@ static uint32_t add_data(bool is_i_data)
     const struct dcsctp_data data = {U32(tsn), U32(mid), U32(fsn), U32(ppid), U16(stream), U16(ssn), U32(is_unordered),
                                      U32(is_beginning), U32(is_end), U32(immediate_ack)};
     struct bytes payload = bytes("payload");
-    return (is_i_data ? dcsctp_add_i_data : dcsctp_add_data)(output, ROOM, &written, &data, payload.at, payload.size);
+    return (is_i_data ? dcsctp_writer_add_i_data : dcsctp_writer_add_data)(&writer, &data, payload.at, payload.size);
 }
 
 static uint32_t add_init(bool is_ack)
 {
     const struct dcsctp_init init = {U32(initiate_tag), U32(a_rwnd), U16(outbound_streams), U16(inbound_streams),
                                      U32(initial_tsn)};
-    return (is_ack ? dcsctp_add_init_ack : dcsctp_add_init)(output, ROOM, &written, &init);
+    return (is_ack ? dcsctp_writer_add_init_ack : dcsctp_writer_add_init)(&writer, &init);
 }
 
 static uint32_t add_sack(void)
@@ -277,7 +277,7 @@ static uint32_t add_sack(void)
     struct dcsctp_gap_ack_block *blocks = block(gaps.count / 2 * sizeof *blocks);
     for (size_t at = 0; at < gaps.count / 2; at++)
         blocks[at] = (struct dcsctp_gap_ack_block){gaps.shorts[2 * at], gaps.shorts[2 * at + 1]};
-    return dcsctp_add_sack(output, ROOM, &written, number("cumulative_tsn_ack"), number("a_rwnd"), blocks, gaps.count / 2,
+    return dcsctp_writer_add_sack(&writer, number("cumulative_tsn_ack"), number("a_rwnd"), blocks, gaps.count / 2,
                            duplicates.at, duplicates.count);
 }
 
@@ -291,8 +291,8 @@ static uint32_t add_forward_tsn(bool is_i_forward)
     for (size_t at = 0; at < count; at++, it += each)
         streams[at] = is_i_forward ? (struct dcsctp_skipped_stream){(uint16_t)it[0], 0, it[2], it[1]}
                                    : (struct dcsctp_skipped_stream){(uint16_t)it[0], (uint16_t)it[1], 0, false};
-    return is_i_forward ? dcsctp_add_i_forward_tsn(output, ROOM, &written, tsn, streams, count)
-                        : dcsctp_add_forward_tsn(output, ROOM, &written, tsn, streams, count);
+    return is_i_forward ? dcsctp_writer_add_i_forward_tsn(&writer, tsn, streams, count)
+                        : dcsctp_writer_add_forward_tsn(&writer, tsn, streams, count);
 }
 
 static uint32_t add_re_config(void)
@@ -302,7 +302,7 @@ static uint32_t add_re_config(void)
                                   .has_next_tsns = next.count == 2, U16(new_streams)};
     if (it.has_next_tsns)
         it.sender_next_tsn = next.at[0], it.receiver_next_tsn = next.at[1];
-    return dcsctp_add_re_config(output, ROOM, &written, start, &it, streams.shorts, streams.count);
+    return dcsctp_writer_add_re_config(&writer, &it, streams.shorts, streams.count);
 }
 
 static bool is(const char *one, const char *other)
@@ -318,12 +318,11 @@ static uint32_t add_part(const char *what)
     if (is(what, "re_config"))
         return add_re_config();
     if (is(what, "item"))
-        return dcsctp_add_parameter(output, ROOM, &written, start, (uint16_t)number("type"), value.at, value.size);
+        return dcsctp_writer_add_parameter(&writer, (uint16_t)number("type"), value.at, value.size);
     if (is(what, "number"))
-        return dcsctp_add_number(output, ROOM, &written, start, (uint16_t)number("type"), number("number"));
+        return dcsctp_writer_add_number(&writer, (uint16_t)number("type"), number("number"));
     if (is(what, "missing"))
-        return dcsctp_add_missing_parameters(output, ROOM, &written, start, types.shorts, types.count);
-    start = written;
+        return dcsctp_writer_add_missing_parameters(&writer, types.shorts, types.count);
     if (is(what, "data") || is(what, "i_data"))
         return add_data(is(what, "i_data"));
     if (is(what, "init") || is(what, "init_ack"))
@@ -331,23 +330,23 @@ static uint32_t add_part(const char *what)
     if (is(what, "sack"))
         return add_sack();
     if (is(what, "shutdown"))
-        return dcsctp_add_shutdown(output, ROOM, &written, number("cumulative_tsn_ack"));
+        return dcsctp_writer_add_shutdown(&writer, number("cumulative_tsn_ack"));
     if (is(what, "shutdown_ack"))
-        return dcsctp_add_shutdown_ack(output, ROOM, &written);
+        return dcsctp_writer_add_shutdown_ack(&writer);
     if (is(what, "shutdown_complete"))
-        return dcsctp_add_shutdown_complete(output, ROOM, &written, number("tag_reflected"));
+        return dcsctp_writer_add_shutdown_complete(&writer, number("tag_reflected"));
     if (is(what, "cookie_echo"))
-        return dcsctp_add_cookie_echo(output, ROOM, &written, cookie.at, cookie.size);
+        return dcsctp_writer_add_cookie_echo(&writer, cookie.at, cookie.size);
     if (is(what, "cookie_ack"))
-        return dcsctp_add_cookie_ack(output, ROOM, &written);
+        return dcsctp_writer_add_cookie_ack(&writer);
     if (is(what, "forward_tsn") || is(what, "i_forward_tsn"))
         return add_forward_tsn(is(what, "i_forward_tsn"));
-    return dcsctp_add_chunk(output, ROOM, &written, (uint8_t)number("type"), (uint8_t)number("flags"), value.at, value.size);
+    return dcsctp_writer_add_chunk(&writer, (uint8_t)number("type"), (uint8_t)number("flags"), value.at, value.size);
 }
 
 static void begin_packet(void)
 {
-    if (dcsctp_begin(output, ROOM, &written, 5000, 5001, 0x01020304) != DCSCTP_OK)
+    if (dcsctp_writer_begin(&writer, output, ROOM, 5000, 5001, 0x01020304) != DCSCTP_OK)
         abort();
 }
 
@@ -363,16 +362,57 @@ static void write_packet(void)
         code = add_part(words[at]);
     }
     put("code", code);
-    put_bytes("bytes", output + DCSCTP_FIRST_CHUNK, written - DCSCTP_FIRST_CHUNK);
+    put_bytes("bytes", output + DCSCTP_FIRST_CHUNK, writer.size - DCSCTP_FIRST_CHUNK);
 }
 
 /* ---- what is kept as bytes */
+
+static void put_part(const char *name, struct bytes in, size_t offset, size_t size)
+{
+    put_bytes(name, in.at + offset, size);
+}
+
+static void put_numbers(const char *name, struct bytes in, size_t offset, size_t size)
+{
+    const struct dcsctp_parameter part = {0, offset, size, offset + size};
+    put_shorts(name, shorts, dcsctp_short_numbers(in.at, in.size, &part, shorts, MOST));
+}
+
+static void put_items(const char *name, const char *number_name, struct bytes in, size_t offset, size_t size)
+{
+    begin(name, '[');
+    for (size_t at = 0, count = dcsctp_items(in.at, offset + size, offset, items, MOST); at < count; at++) {
+        begin("", '{');
+        put(number_name, items[at].type);
+        put_bytes("value", in.at + items[at].value_offset, items[at].value_size);
+        end('}');
+    }
+    end(']');
+}
+
+static struct bytes joined(struct bytes address, struct bytes rest)
+{
+    struct bytes it = {block(address.size + rest.size), address.size + rest.size};
+    memcpy(it.at, address.at, address.size);
+    memcpy(it.at + address.size, rest.at, rest.size);
+    return it;
+}
+
+static struct numbers three_numbers(const char *name)
+{
+    struct numbers it = numbers(name);
+    if (it.count != 3)
+        it.shorts = memset(block(3 * sizeof *it.shorts), 0, 3 * sizeof *it.shorts);
+    return it;
+}
+
+#include "registered.h"
 
 static void read_registered(void)
 {
     struct bytes in = bytes("value");
     struct dcsctp_registered it;
-    const struct dcsctp_chunk chunk = {(uint8_t)number("type"), 0, 0, in.size, in.size};
+    const struct dcsctp_chunk chunk = {(uint8_t)number("type"), 0xa5, 0, in.size, in.size};
     const struct dcsctp_parameter item = {(uint16_t)number("type"), 0, in.size, in.size};
     const char *level = argument("level");
     if (!(is(level, "chunk") ? dcsctp_registered_chunk(in.at, in.size, &chunk, &it)
@@ -380,49 +420,26 @@ static void read_registered(void)
                                    : dcsctp_registered_cause(in.at, in.size, &item, &it)))
         return;
     begin("fields", '{');
-    PUT(it, number), PUT(it, second_number), PUT(it, short_number), PUT(it, second_short_number);
-    const uint16_t counts[] = {it.short_number, it.second_short_number, it.third_short_number};
-    put_shorts("counts", counts, 3);
-    put_bytes("address", in.at + it.address_offset, it.address_size);
-    put_bytes("bytes", in.at + it.rest_offset, it.rest_size);
-    const size_t end_of_rest = it.rest_offset + it.rest_size;
-    const struct dcsctp_parameter rest = {0, it.rest_offset, it.rest_size, end_of_rest};
-    put_shorts("short_numbers", shorts, dcsctp_short_numbers(in.at, in.size, &rest, shorts, MOST));
-    begin("items", '[');
-    size_t count = dcsctp_items(in.at, end_of_rest, it.rest_offset, items, MOST);
-    for (size_t at = 0; at < count; at++) {
-        begin("", '[');
-        put("", items[at].type);
-        put_bytes("", in.at + items[at].value_offset, items[at].value_size);
-        end(']');
-    }
-    end(']');
+    if (is(level, "chunk"))
+        put_chunk(in, &chunk);
+    else
+        (is(level, "parameter") ? put_parameter : put_cause)(in, &item);
     end('}');
 }
 
 static void write_registered(void)
 {
     const char *level = argument("level");
-    struct bytes address = bytes("address"), rest = bytes("bytes");
-    struct numbers counts = numbers("counts");
-    uint8_t *in = block(address.size + rest.size);
     const uint16_t type = (uint16_t)number("type");
-    struct dcsctp_registered it = {U32(number), U32(second_number), U16(short_number), U16(second_short_number),
-                                   .address_size = address.size, .rest_offset = address.size, .rest_size = rest.size};
-    if (counts.count == 3)
-        it.short_number = counts.shorts[0], it.second_short_number = counts.shorts[1], it.third_short_number = counts.shorts[2];
-    memcpy(in, address.at, address.size);
-    memcpy(in + address.size, rest.at, rest.size);
+    size_t start = DCSCTP_FIRST_CHUNK;
     begin_packet();
-    start = written;
     uint32_t code;
     if (is(level, "chunk")) {
-        code = dcsctp_add_registered_chunk(output, ROOM, &written, (uint8_t)type, &it, in, address.size + rest.size);
+        code = add_chunk(type);
     } else {
-        if (dcsctp_add_chunk(output, ROOM, &written, DCSCTP_CHUNK_ERROR, 0, NULL, 0) != DCSCTP_OK)
+        if (dcsctp_writer_add_chunk(&writer, DCSCTP_CHUNK_ERROR, 0, NULL, 0) != DCSCTP_OK)
             abort();
-        code = (is(level, "parameter") ? dcsctp_add_registered_parameter : dcsctp_add_registered_cause)(
-            output, ROOM, &written, start, type, &it, in, address.size + rest.size);
+        code = (is(level, "parameter") ? add_parameter : add_cause)(type);
         start += 4;
     }
     put("code", code);
@@ -450,7 +467,6 @@ static void call(void)
         length = chunk.value_offset + chunk.value_size - dcsctp_list_offset(&chunk);
     }
     begin_packet();
-    start = written;
     if (is(name, "unrecognized_chunk"))
         put("returns", dcsctp_unrecognized_chunk((uint8_t)number("type")));
     else if (is(name, "unrecognized_parameter"))
@@ -468,29 +484,29 @@ static void call(void)
     else if (is(name, "adds_addresses"))
         put("returns", dcsctp_adds_addresses(list, length, known.at, known.size));
     if (is(name, "reply") || is(name, "init_abort")) {
-        code = is(name, "reply") ? dcsctp_reply(output, ROOM, &written, &header, number("answer"))
-                                 : dcsctp_init_abort(output, ROOM, &written, &header, number("initiate_tag"), number("fault"));
-        if (code == DCSCTP_OK && dcsctp_seal(output, written) == DCSCTP_OK)
-            put_bytes("returns", output, written);
+        code = is(name, "reply") ? dcsctp_reply(output, ROOM, &writer.size, &header, number("answer"))
+                                 : dcsctp_init_abort(output, ROOM, &writer.size, &header, number("initiate_tag"), number("fault"));
+        if (code == DCSCTP_OK && dcsctp_writer_seal(&writer) == DCSCTP_OK)
+            put_bytes("returns", output, writer.size);
     }
     if (strncmp(name, "add_", 4))
         return;
     if (is(name, "add_new_addresses")) {
-        code = dcsctp_add_chunk(output, ROOM, &written, DCSCTP_CHUNK_ABORT, 0, NULL, 0);
-        code += dcsctp_add_new_addresses(output, ROOM, &written, start, list, length, known.at, known.size);
+        code = dcsctp_writer_add_chunk(&writer, DCSCTP_CHUNK_ABORT, 0, NULL, 0);
+        code += dcsctp_writer_add_new_addresses(&writer, list, length, known.at, known.size);
     } else if (is(name, "add_unrecognized_parameters")) {
-        code = dcsctp_add_init_ack(output, ROOM, &written, &(struct dcsctp_init){0});
-        code += dcsctp_add_unrecognized_parameters(output, ROOM, &written, start, list, length, types.shorts, types.count,
+        code = dcsctp_writer_add_init_ack(&writer, &(struct dcsctp_init){0});
+        code += dcsctp_writer_add_unrecognized_parameters(&writer, list, length, types.shorts, types.count,
                                                    &stop);
     } else if (is(name, "add_unrecognized_parameters_error")) {
-        code = dcsctp_add_unrecognized_parameters_error(output, ROOM, &written, list, length, types.shorts, types.count, &stop);
+        code = dcsctp_writer_add_unrecognized_parameters_error(&writer, list, length, types.shorts, types.count, &stop);
     } else if (is(name, "add_unrecognized_chunks")) {
         length = in.size;
-        code = dcsctp_add_unrecognized_chunks(output, ROOM, &written, in.at, in.size, types.octets, types.count, &stop);
+        code = dcsctp_writer_add_unrecognized_chunks(&writer, in.at, in.size, types.octets, types.count, &stop);
     }
     if (code != DCSCTP_OK)
         return;
-    put_bytes("returns", output + start, written - start);
+    put_bytes("returns", output + DCSCTP_FIRST_CHUNK, writer.size - DCSCTP_FIRST_CHUNK);
     if (stop < length)
         put("end", stop);
 }

@@ -32,8 +32,8 @@ WRONG = [
     ('U16(outbound_streams)', '.outbound_streams = 1'),
     ('U32(immediate_ack)', '.immediate_ack = false'),
     ('number("tag_reflected")', 'false'),
-    ('U32(second_number)', '.second_number = 0'),
-    ('PUT(it, second_short_number)', 'put("second_short_number", it.short_number)'),
+    ('put(number_name, items[at].type)', 'put(number_name, at)'),
+    ('memcpy(it.at + address.size, rest.at, rest.size)', 'memset(it.at + address.size, 0, rest.size)'),
     ('number("is_unicast")', 'true'),
     ('U32(awaits_cookie)', '.awaits_cookie = false'),
     ('U32(has_i_data)', '.has_i_data = false'),
@@ -78,8 +78,32 @@ def compared(answers, folder):
     return re.findall(r'^(\w+\.jsonl:\d+): ', said.getvalue(), re.M)
 
 
+def shows_swaps(line):
+    """Whether a swap of parts shows, or of a part's bytes: numbers, an address, bytes, and two at least of a list, which all differ."""
+    found = []
+    for name, form in vectors.REGISTERED[line['level'], line['type']]:
+        its = line['fields'][name]
+        size = 4 if form in vectors.words.C_NUMBERS['u32'] else 2
+        for it in its if isinstance(its, list) else [its]:
+            it = it[vectors.NUMBERED[vectors.ITEMS[form]]] if form in vectors.ITEMS else it
+            found.append(bytes.fromhex(it) if isinstance(it, str) else it.to_bytes(size, 'big'))
+        if isinstance(its, list) and len(its) < 2:
+            return False
+    return len({int.from_bytes(it, 'big') for it in found}) == len(found) and all(it != it[::-1] for it in found)
+
+
+def registered_types():
+    """Whether each type that is no kind has two lines, and one in which a swap of any two parts shows."""
+    with open(os.path.join(vectors.HERE, 'registered.jsonl'), encoding='ascii') as file:
+        lines = [json.loads(line) for line in file]
+    for level, number in vectors.REGISTERED:
+        own = [line for line in lines if (line['level'], line['type']) == (level, number) and 'value' in line]
+        yield f'{level} {number} has two lines', len(own) > 1
+        yield f'a swap in {level} {number} shows', any(line['fields'] is not None and shows_swaps(line) for line in own)
+
+
 def main():
-    results, chance = [], random.Random(1)
+    results, chance = [*registered_types()], random.Random(1)
     with tempfile.TemporaryDirectory() as folder:
         answers = vectors.Answers(folder)
         results.append(('what is there is right', not compared(answers, vectors.HERE)))

@@ -50,7 +50,7 @@ class Answers:
         library = f'dist/dcsctp-{machine}-{"macho" if sys.platform == "darwin" else "elf"}.s'
         self.path = os.path.join(folder, 'answers')
         subprocess.run([*os.environ.get('CC', 'cc').split(), '-O1', '-o', self.path, source, os.path.join(ROOT, library),
-                        f'-I{os.path.join(ROOT, "dist")}'], check=True)
+                        f'-I{os.path.join(ROOT, "dist")}', f'-I{HERE}'], check=True)
 
     def ask(self, request_of, lines):
         """The answers to the requests that are made of these lines; {} for one of which none can be made."""
@@ -194,11 +194,11 @@ def written_registered(line):
     for name, form in REGISTERED[line['level'], line['type']]:
         value = line['fields'][name]
         if form in ITEMS:
-            yield said('bytes', items_bytes(NUMBERED[ITEMS[form]], value))
+            yield said(name, items_bytes(NUMBERED[ITEMS[form]], value))
         elif form == 'short_numbers':
-            yield said('bytes', ''.join(f'{number:04x}' for number in value))
+            yield said(name, ''.join(f'{number:04x}' for number in value))
         else:
-            yield said(form, value)
+            yield said(name, value)
 
 
 def compare_registered(answers, lines):
@@ -209,9 +209,7 @@ def compare_registered(answers, lines):
         if 'value' not in line:
             it |= {'fields': line['fields']} | ({'refused': True} if written.get('code') else {})
             continue
-        it['fields'] = own.get('fields') and {
-            name: [{NUMBERED[ITEMS[form]]: number, 'value': value} for number, value in own['fields']['items']]
-            if form in ITEMS else own['fields'][form] for name, form in REGISTERED[line['level'], line['type']]}
+        it['fields'] = own.get('fields')
         if line['fields'] is not None and written.get('value') != line['value']:
             it['written'] = written.get('value', 'refused')
     return found

@@ -31,18 +31,19 @@ static size_t bytes_of(const char *hexadecimal, uint8_t *bytes)
     return size;
 }
 
-static const uint8_t key[] = {'a', ' ', 'k', 'e', 'y'}, addresses[] = {192, 0, 2, 1};
+static const uint8_t key[] = {'a', ' ', 'k', 'e', 'y'}, extra[] = {192, 0, 2, 1};
 
 /* ---- State Cookies */
 
 static const char sealed[] =
-    "0f4058d455d989f64110ebd32badc1d936581848510b55101d06d10654512b4e00000000000f"
-    "424000000000039387000102030405060708090a0b0c0d0e0f1013881389000a0014c0000201";
+    "0e7f54ce817b4159983e9114aa8511194e5e71af023a055c38cb78f905a9ac0400000000000f4240"
+    "000000000393870001020304050607081112131415161718090a0b0c0d0e0f1013881389000a0014c0000201";
 
 static const struct dcsctp_cookie says = {.created = 1000000, .lifespan = 60000000, .local_tag = 0x01020304, .peer_tag = 0x05060708,
+                                          .local_tie_tag = 0x11121314, .peer_tie_tag = 0x15161718,
                                           .local_initial_tsn = 0x090a0b0c, .peer_initial_tsn = 0x0d0e0f10, .local_port = 5000,
                                           .peer_port = 5001, .outbound_streams = 10, .inbound_streams = 20,
-                                          .addresses_offset = SIZE_MAX, .addresses_size = SIZE_MAX};
+                                          .extra_offset = SIZE_MAX, .extra_size = SIZE_MAX};
 
 static uint32_t open_at(const uint8_t *bytes, size_t size, uint64_t now, struct dcsctp_cookie *cookie, uint64_t *staleness)
 {
@@ -64,42 +65,43 @@ static void cookies(void)
     struct dcsctp_cookie cookie;
     uint64_t staleness;
     size_t length = bytes_of(sealed, wanted), size = 77;
-    CHECK(length == 76);
+    CHECK(length == 84);
     memset(written, 0x5a, ROOM);
     memcpy(before, written, ROOM);
-    CHECK(dcsctp_seal_cookie(written, 75, &size, key, sizeof key, &says, addresses, 4) == DCSCTP_NO_ROOM);
+    CHECK(dcsctp_seal_cookie(written, 83, &size, key, sizeof key, &says, extra, 4) == DCSCTP_NO_ROOM);
     CHECK(size == 77 && !memcmp(written, before, ROOM));
-    CHECK(dcsctp_seal_cookie(written, ROOM, &size, key, sizeof key, &says, addresses, 4) == DCSCTP_OK && size == 76);
-    CHECK(!memcmp(written, wanted, 76) && !memcmp(written + 76, before, ROOM - 76));
+    CHECK(dcsctp_seal_cookie(written, ROOM, &size, key, sizeof key, &says, extra, 4) == DCSCTP_OK && size == 84);
+    CHECK(!memcmp(written, wanted, 84) && !memcmp(written + 84, before, ROOM - 84));
 
     /* good to the end of its life, and on a clock that was set back; then stale */
     const struct {
         uint64_t now, staleness;
     } times[] = {{0, 0}, {1000000, 0}, {61000000, 0}, {61000001, 1}, {UINT64_MAX, UINT64_MAX - 61000000}};
     for (size_t i = 0; i < sizeof times / sizeof *times; i++) {
-        uint32_t state = open_at(wanted, 76, times[i].now, &cookie, &staleness);
+        uint32_t state = open_at(wanted, 84, times[i].now, &cookie, &staleness);
         CHECK(state == (times[i].staleness ? DCSCTP_COOKIE_STALE : DCSCTP_COOKIE_GOOD) && staleness == times[i].staleness);
         CHECK(cookie.created == 1000000 && cookie.lifespan == 60000000 && cookie.local_tag == 0x01020304);
-        CHECK(cookie.peer_tag == 0x05060708 && cookie.local_initial_tsn == 0x090a0b0c && cookie.peer_initial_tsn == 0x0d0e0f10);
+        CHECK(cookie.peer_tag == 0x05060708 && cookie.local_tie_tag == 0x11121314 && cookie.peer_tie_tag == 0x15161718);
+        CHECK(cookie.local_initial_tsn == 0x090a0b0c && cookie.peer_initial_tsn == 0x0d0e0f10);
         CHECK(cookie.local_port == 5000 && cookie.peer_port == 5001 && cookie.outbound_streams == 10);
-        CHECK(cookie.inbound_streams == 20 && cookie.addresses_offset == 72 && cookie.addresses_size == 4);
-        CHECK(!memcmp(wanted + cookie.addresses_offset, addresses, 4));
+        CHECK(cookie.inbound_streams == 20 && cookie.extra_offset == 80 && cookie.extra_size == 4);
+        CHECK(!memcmp(wanted + cookie.extra_offset, extra, 4));
     }
 
     /* cut off, with a byte changed, or under another key */
-    for (size_t i = 0; i < 76; i++) {
+    for (size_t i = 0; i < 84; i++) {
         CHECK(open_at(wanted, i, 1000000, &cookie, &staleness) == DCSCTP_COOKIE_INVALID && staleness == 77 && is_untouched(&cookie));
         wanted[i] ^= 1;
-        CHECK(open_at(wanted, 76, 1000000, &cookie, &staleness) == DCSCTP_COOKIE_INVALID && staleness == 77 && is_untouched(&cookie));
+        CHECK(open_at(wanted, 84, 1000000, &cookie, &staleness) == DCSCTP_COOKIE_INVALID && staleness == 77 && is_untouched(&cookie));
         wanted[i] ^= 1;
     }
-    CHECK(dcsctp_open_cookie(key, 4, wanted, 76, 1000000, &cookie, &staleness) == DCSCTP_COOKIE_INVALID);
-    CHECK(dcsctp_open_cookie(NULL, 0, wanted, 76, 1000000, &cookie, &staleness) == DCSCTP_COOKIE_INVALID);
+    CHECK(dcsctp_open_cookie(key, 4, wanted, 84, 1000000, &cookie, &staleness) == DCSCTP_COOKIE_INVALID);
+    CHECK(dcsctp_open_cookie(NULL, 0, wanted, 84, 1000000, &cookie, &staleness) == DCSCTP_COOKIE_INVALID);
     CHECK(dcsctp_open_cookie(NULL, 0, NULL, 0, 1000000, &cookie, &staleness) == DCSCTP_COOKIE_INVALID);
 
-    /* without a key, and without addresses */
-    CHECK(dcsctp_seal_cookie(written, 72, &size, NULL, 0, &says, NULL, 0) == DCSCTP_OK && size == 72);
-    CHECK(dcsctp_open_cookie(NULL, 0, written, 72, 1000000, &cookie, &staleness) == DCSCTP_COOKIE_GOOD && cookie.addresses_size == 0);
+    /* without a key, and without further bytes */
+    CHECK(dcsctp_seal_cookie(written, 80, &size, NULL, 0, &says, NULL, 0) == DCSCTP_OK && size == 80);
+    CHECK(dcsctp_open_cookie(NULL, 0, written, 80, 1000000, &cookie, &staleness) == DCSCTP_COOKIE_GOOD && cookie.extra_size == 0);
 }
 
 /* ---- AUTH, and a DATA chunk after it */

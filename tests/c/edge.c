@@ -1249,8 +1249,20 @@ static void names(void)
     CHECK(dcsctp_version_number() == DCSCTP_VERSION_NUMBER && DCSCTP_VERSION_NUMBER == 256);
 }
 
+/* RFC 9260's own: table 1 of section 3.2 without ECNE and CWR, which it reserves, and sections 3.3.2, 3.3.3 and 3.3.5. */
+static void base_types(void)
+{
+    static const uint8_t chunks[] = {DCSCTP_BASE_CHUNKS}, table[] = {0, 1, 2, 3, 4, 5, 6, 7, 8, 9, 10, 11, 14};
+    static const uint16_t parameters[] = {DCSCTP_BASE_PARAMETERS}, values[] = {1, 5, 6, 7, 8, 9, 11, 12};
+    CHECK(sizeof chunks == sizeof table && memcmp(chunks, table, sizeof table) == 0);
+    CHECK(sizeof parameters == sizeof values && memcmp(parameters, values, sizeof values) == 0);
+    const struct dcsctp_policy *usual = dcsctp_usual_policy();
+    CHECK(!usual->any_checksum && !usual->zero_checksum && !usual->strict_padding && usual->reserved[0] + usual->reserved[4] == 0);
+}
+
 int main(void)
 {
+    base_types();
     captured_data();
     captured_lists();
     whole_lists();

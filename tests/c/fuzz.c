@@ -459,7 +459,8 @@ static void require_registered(bool is_read, const struct dcsctp_registered *fou
         REQUIRE(!found->rest_offset || found->rest_offset + found->rest_size == offset + size);
     } else {
         REQUIRE(found->number == 77 && found->second_number == 77 && found->short_number == 77 && found->third_short_number == 77);
-        REQUIRE(found->address_offset == 77 && found->address_size == 77 && found->rest_offset == 77 && found->rest_size == 77);
+        REQUIRE(found->flags == 77 && found->address_offset == 77 && found->address_size == 77);
+        REQUIRE(found->rest_offset == 77 && found->rest_size == 77);
     }
 }
 
@@ -473,11 +474,11 @@ static void rewrite_registered(enum registered_level level, uint16_t type, const
     size_t size;
     struct dcsctp_chunk chunk;
     struct dcsctp_parameter item;
-    struct dcsctp_registered again = {77, 77, 77, 77, 77, 77, 77, 77, 77};
+    struct dcsctp_registered again = {77, 77, 77, 77, 77, 77, 77, 77, 77, 77};
     REQUIRE(dcsctp_begin(packet, sizeof packet, &size, 1, 2, 3) == DCSCTP_OK);
     if (level == REGISTERED_CHUNK) {
         REQUIRE(dcsctp_add_registered_chunk(packet, sizeof packet, &size, (uint8_t)type, found, bytes, length) == DCSCTP_OK);
-        REQUIRE(dcsctp_chunk_at(packet, size, 12, &chunk) && chunk.type == type && chunk.flags == 0 && chunk.next == size);
+        REQUIRE(dcsctp_chunk_at(packet, size, 12, &chunk) && chunk.type == type && chunk.flags == found->flags && chunk.next == size);
         REQUIRE(dcsctp_registered_chunk(packet, size, &chunk, &again));
     } else {
         REQUIRE(dcsctp_add_chunk(packet, sizeof packet, &size, DCSCTP_CHUNK_ERROR, 0, NULL, 0) == DCSCTP_OK);
@@ -488,7 +489,7 @@ static void rewrite_registered(enum registered_level level, uint16_t type, const
     }
     REQUIRE(again.number == found->number && again.second_number == found->second_number && again.short_number == found->short_number);
     REQUIRE(again.second_short_number == found->second_short_number && again.third_short_number == found->third_short_number);
-    REQUIRE(again.address_size == found->address_size && again.rest_size == found->rest_size);
+    REQUIRE(again.flags == found->flags && again.address_size == found->address_size && again.rest_size == found->rest_size);
     REQUIRE(!memcmp(packet + again.address_offset, bytes + found->address_offset, again.address_size));
     REQUIRE(!memcmp(packet + again.rest_offset, bytes + found->rest_offset, again.rest_size));
 }
@@ -508,7 +509,7 @@ static void try_item(const uint8_t *bytes, size_t length, const struct dcsctp_pa
     REQUIRE(dcsctp_short_numbers(bytes, length, item, shorts, 2) == short_count);
     REQUIRE(shorts[0] == (short_count > 0 ? u16(value) : 77) && shorts[1] == (short_count > 1 ? u16(value + 2) : 77));
 
-    struct dcsctp_registered as_parameter = {77, 77, 77, 77, 77, 77, 77, 77, 77}, as_cause = as_parameter;
+    struct dcsctp_registered as_parameter = {77, 77, 77, 77, 77, 77, 77, 77, 77, 77}, as_cause = as_parameter;
     bool is_read = dcsctp_registered_parameter(bytes, length, item, &as_parameter);
     REQUIRE(is_there || !is_read);
     require_registered(is_read, &as_parameter, item->value_offset, size);
@@ -644,7 +645,7 @@ static void try_parts(const uint8_t *bytes, size_t length, const struct dcsctp_c
                                            (uint16_t)u16(value + 10), u32(value + 12)};
     REQUIRE(dcsctp_init(bytes, length, chunk, &init) == is_init && !memcmp(&init, &init_wanted, sizeof init));
 
-    struct dcsctp_registered registered = {77, 77, 77, 77, 77, 77, 77, 77, 77};
+    struct dcsctp_registered registered = {77, 77, 77, 77, 77, 77, 77, 77, 77, 77};
     bool is_registered = dcsctp_registered_chunk(bytes, length, chunk, &registered);
     REQUIRE(is_there || !is_registered);
     require_registered(is_registered, &registered, offset, size);

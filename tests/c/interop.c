@@ -1256,7 +1256,7 @@ static void run_cookies(void)
         const char *row = table_12[i / 2], action = row[4];
         const bool is_old = i % 2 == 0;
         struct dcsctp_cookie cookie = before.association;
-        uint8_t sealed[72 + 12], ties[12] = {0, DCSCTP_PARAMETER_HEARTBEAT_INFO, 0, sizeof ties};
+        uint8_t sealed[80 + 12], ties[12] = {0, DCSCTP_PARAMETER_HEARTBEAT_INFO, 0, sizeof ties};
         size_t sealed_size;
         cookie.created = now * 1000 - is_old;
         cookie.lifespan = 0;

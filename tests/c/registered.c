@@ -2,7 +2,7 @@
 /* What IANA's registry has beyond the kinds: each field of each type, read from bytes that were laid out by hand as the RFCs
    say, and written as these bytes again; values of another size, broken lists, and values that don't lie within the bytes; and
    lists at any place. */
-#include <dcsctp.h>
+#include <dcsctp_registered.h>
 #include <stdint.h>
 #include <stdio.h>
 #include <stdlib.h>
@@ -66,7 +66,7 @@ static const struct row rows[] = {
     {CHUNK, "0d00 0008 01020304", {.number = 0x01020304}},
     /* AUTH: RFC 4895 section 5.1 */
     {CHUNK, "0fff 000c 0102 0003 01020304",
-     {.short_number = 0x0102, .second_short_number = 3, .rest_offset = 8, .rest_size = 4}},
+     {.short_number = 0x0102, .second_short_number = 3, .flags = 0xff, .rest_offset = 8, .rest_size = 4}},
     {CHUNK, "0f00 0008 0102 0001", {.short_number = 0x0102, .second_short_number = 1, .rest_offset = 8}},
     /* NR-SACK: draft-tuexen-tsvwg-sctp-multipath */
     {CHUNK, "1000 002c 01020304 00050607 0001 0002 0003 0000 0002 0103 0205 0206 0408 0509 01020303 01020204 01020105",
@@ -252,7 +252,8 @@ static bool are_same(const struct dcsctp_registered *read, const struct dcsctp_r
 {
     return read->number == fields->number && read->second_number == fields->second_number
         && read->short_number == fields->short_number && read->second_short_number == fields->second_short_number
-        && read->third_short_number == fields->third_short_number && read->address_offset == place(fields->address_offset)
+        && read->third_short_number == fields->third_short_number && read->flags == fields->flags
+        && read->address_offset == place(fields->address_offset)
         && read->address_size == fields->address_size && read->rest_offset == place(fields->rest_offset)
         && read->rest_size == fields->rest_size;
 }
@@ -277,10 +278,8 @@ static void outside(const struct row *row, struct bytes in, struct item item)
 
 /* ---- what is written */
 
-/* Rows whose flags or reserved bytes aren't zero, and how they are written. */
+/* Rows whose reserved bytes aren't zero, and how they are written. */
 static const char *const zeroed[][2] = {
-    {"0fff 000c 0102 0003 01020304",
-     "0f00 000c 0102 0003 01020304"},
     {"1000 0014 01020304 00050607 0000 0000 0000 ffff",
      "1000 0014 01020304 00050607 0000 0000 0000 0000"},
     {"8100 0010 0c0d0e0f 000007d0 0000 ffff",
@@ -432,20 +431,23 @@ static void unwritable(void)
     free(in.bytes);
 }
 
-/* A PKTDROP with its flags (draft-stewart-sctp-pktdrprep): its value is that of one that was added to a packet of its own. */
+/* A PKTDROP with its flags (draft-stewart-sctp-pktdrprep), by the struct of its own too. */
 static void with_flags(void)
 {
     const struct bytes in = bytes_of("810d 0014 0c0d0e0f 000007d0 05dc 0000 13881389");
     struct dcsctp_chunk chunk = {0};
     struct dcsctp_registered registered;
-    struct packet own = begun(CHUNK), packet = begun(CHUNK);
-    CHECK(dcsctp_chunk_at(in.bytes, in.length, BEFORE, &chunk) && chunk.flags == 0x0d);
-    CHECK(dcsctp_registered_chunk(in.bytes, in.length, &chunk, &registered));
-    CHECK(write_item(CHUNK, DCSCTP_CHUNK_PKTDROP, &own, ROOM, &registered, in) == DCSCTP_OK);
-    CHECK(dcsctp_chunk_at(own.bytes, own.size, HEADER, &chunk) && chunk.flags == 0);
-    CHECK(dcsctp_add_chunk(packet.bytes, ROOM, &packet.size, chunk.type, 0x0d, own.bytes + chunk.value_offset,
-                           chunk.value_size) == DCSCTP_OK);
+    struct dcsctp_pktdrop pktdrop = {0};
+    struct packet packet = begun(CHUNK), again = begun(CHUNK);
+    CHECK(dcsctp_chunk_at(in.bytes, in.length, BEFORE, &chunk));
+    CHECK(dcsctp_registered_chunk(in.bytes, in.length, &chunk, &registered) && registered.flags == 0x0d);
+    CHECK(write_item(CHUNK, DCSCTP_CHUNK_PKTDROP, &packet, ROOM, &registered, in) == DCSCTP_OK);
     CHECK(packet.size == HEADER + in.length - BEFORE && !memcmp(packet.bytes + HEADER, in.bytes + BEFORE, in.length - BEFORE));
+    CHECK(dcsctp_read_pktdrop(in.bytes, in.length, &chunk, &pktdrop));
+    CHECK(pktdrop.flags & DCSCTP_PKTDROP_MIDDLEBOX && pktdrop.flags & DCSCTP_PKTDROP_TRUNCATED);
+    CHECK(!(pktdrop.flags & DCSCTP_PKTDROP_BAD_CHECKSUM));
+    CHECK(dcsctp_write_pktdrop(again.bytes, ROOM, &again.size, &pktdrop, in.bytes, in.length) == DCSCTP_OK);
+    CHECK(again.size == packet.size && !memcmp(again.bytes, packet.bytes, packet.size));
     free(in.bytes);
 }
 
@@ -544,9 +546,46 @@ static void short_numbers(void)
     free(in.bytes);
 }
 
+/* A struct of several types reads and writes no other one, whose value has the same form. */
+static void other_types(void)
+{
+    struct bytes in = bytes_of("0c00 0008 01020304");
+    struct dcsctp_chunk chunk;
+    struct dcsctp_congestion congestion = {7, 7};
+    struct dcsctp_parameter item = {DCSCTP_PARAMETER_PADDING, BEFORE + 4, 4, BEFORE + 8};
+    struct dcsctp_random_or_padding data = {7, 7};
+    uint8_t packet[ROOM];
+    size_t size = HEADER;
+    CHECK(dcsctp_chunk_at(in.bytes, in.length, BEFORE, &chunk));
+    chunk.type = DCSCTP_CHUNK_SHUTDOWN;
+    CHECK(!dcsctp_read_congestion(in.bytes, in.length, &chunk, &congestion));
+    CHECK(congestion.flags == 7 && congestion.lowest_tsn == 7);
+    chunk.type = DCSCTP_CHUNK_CWR, chunk.flags = 0xa5;
+    CHECK(dcsctp_read_congestion(in.bytes, in.length, &chunk, &congestion));
+    CHECK(congestion.flags == 0xa5 && congestion.lowest_tsn == 0x01020304);
+    CHECK(dcsctp_write_congestion(packet, ROOM, &size, DCSCTP_CHUNK_SHUTDOWN, &congestion) == DCSCTP_BAD_VALUE);
+    CHECK(dcsctp_read_random_or_padding(in.bytes, in.length, &item, &data));
+    CHECK(data.data_offset == BEFORE + 4 && data.data_size == 4 && size == HEADER);
+    item.type = DCSCTP_PARAMETER_CHUNK_LIST, data.data_size = 7;
+    CHECK(!dcsctp_read_random_or_padding(in.bytes, in.length, &item, &data) && data.data_size == 7);
+    const struct dcsctp_random_or_padding of = {BEFORE + 4, 4};
+    const struct dcsctp_address_request request = {1, BEFORE + 4, 4};
+    const struct dcsctp_parameters_cause cause = {0, 0};
+    CHECK(dcsctp_add_chunk(packet, ROOM, &size, DCSCTP_CHUNK_ERROR, 0, NULL, 0) == DCSCTP_OK && size == HEADER + 4);
+    CHECK(dcsctp_write_random_or_padding(packet, ROOM, &size, HEADER, DCSCTP_PARAMETER_CHUNK_LIST, &of, in.bytes, in.length)
+          == DCSCTP_BAD_VALUE);
+    CHECK(dcsctp_write_address_request(packet, ROOM, &size, HEADER, DCSCTP_PARAMETER_SUCCESS_INDICATION, &request, in.bytes,
+                                       in.length)
+          == DCSCTP_BAD_VALUE);
+    CHECK(dcsctp_write_parameters_cause(packet, ROOM, &size, HEADER, DCSCTP_CAUSE_OUT_OF_RESOURCE, &cause, NULL, 0)
+          == DCSCTP_BAD_VALUE && size == HEADER + 4);
+    free(in.bytes);
+}
+
 int main(void)
 {
     each_row();
+    other_types();
     with_flags();
     unwritable();
     nested();

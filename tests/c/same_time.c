@@ -24,7 +24,7 @@ static void spoil(uint8_t *hmac, size_t size)
 static bool open_cookie(void)
 {
     const struct dcsctp_cookie cookie = {.created = 1, .lifespan = 2, .local_tag = 3, .peer_tag = 4};
-    uint8_t sealed[72];
+    uint8_t sealed[80];
     struct dcsctp_cookie opened;
     uint64_t staleness;
     size_t size;

@@ -117,7 +117,7 @@ compile_sanitized() {
 }
 
 header_is_c99() {
-    echo '#include <dcsctp.h>' | "$cc" -std=c99 -pedantic -Wall -Wextra -Werror -I"$prefix/include" -fsyntax-only -x c -
+    echo '#include <dcsctp_registered.h>' | "$cc" -std=c99 -pedantic -Wall -Wextra -Werror -I"$prefix/include" -fsyntax-only -x c -
 }
 
 assertions_hold() {
@@ -130,7 +130,7 @@ interface_is_the_compilers() {
 }
 
 header_is_cxx() {
-    echo '#include <dcsctp.h>
+    echo '#include <dcsctp_registered.h>
 static_assert(sizeof(struct dcsctp_re_config) == 48, "its size");' >"$work/header.cc" &&
         "$cxx" -std=c++11 -pedantic -Wall -Wextra -Werror -I"$prefix/include" -c -o "$work/header.o" "$work/header.cc"
 }

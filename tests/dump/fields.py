@@ -265,7 +265,7 @@ PACKAGE_BITS = {'beginning': 'is_beginning', 'end': 'is_end', 'immediate': 'imme
 
 
 class Package:
-    """Reads by the kinds of the package; a chunk's flags and length, which they don't have, by `raw_chunks`."""
+    """Reads by the kinds of the package; a chunk's flags and length, which most of them don't have, by `raw_chunks`."""
 
     def __init__(self, folder):
         python = os.path.join(ROOT, 'bindings', 'python')
@@ -297,7 +297,7 @@ class Package:
     def fields(self, part):
         kind = type(part).__name__
         values = {it.name: getattr(part, it.name) for it in dataclasses.fields(part)}
-        values = {key: it for key, it in values.items() if it is not None and key not in (*PACKAGE_BITS.values(), 'offset')}
+        values = {key: it for key, it in values.items() if it is not None and key not in (*PACKAGE_BITS.values(), 'offset', 'flags', 'reserved')}
         if kind.startswith('Raw'):
             values = {'value': values['value']}
         if kind == 'IData':

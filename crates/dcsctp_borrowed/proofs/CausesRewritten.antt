@@ -8,7 +8,7 @@ use Rattle.dcsctp_cause.specs.NoUserData as no_user_data
 use Rattle.dcsctp_cause.specs.CookieReceivedWhileShuttingDown as cookie_received
 use Rattle.dcsctp_cause.specs.UserInitiatedAbort as abort
 use Rattle.dcsctp_cause.specs.ProtocolViolation as violation
-use Rattle.dcsctp_cause.specs.{Text.{text_or}, Cause.{CauseTree, MissingMandatoryParameter, UnrecognizedChunk, NoUserData, CookieReceivedWhileShuttingDown, UserInitiatedAbort, ProtocolViolation, Unknown, kinds, trees, table, row, causes, tlv}}
+use Rattle.dcsctp_cause.specs.{Text.{text_or}, Cause.{CauseTree, MissingMandatoryParameter, UnrecognizedChunk, NoUserData, CookieReceivedWhileShuttingDown, UserInitiatedAbort, ProtocolViolation, Unknown, members, table, row, causes, tlv}}
 use Rattle.dcsctp_borrowed.{specs.Rewritten.{IsByteItem, item_again, cause_value, cause_again}, proofs.FrameItems.{bytes_after}, proofs.Rewritten.{word_again, half_again, fields_again, same_tlv, none, typed_is}, proofs.TreeRows.{of_typed_as}}
 
 abbrev CauseAgain : ℕ → List ℕ → CauseTree → Type 0
@@ -82,7 +82,7 @@ others code isnt value u e fits =
 -- of what a value of a code means, in bytes
 pub cause_is : (code : ℕ) (value : List ℕ) (t : CauseTree) → (row code).means value t
     → AreBytes value → tlv t ≡ typed_tlv code (cause_value code value)
-cause_is code = of_typed_as CauseAgain code kinds trees Unknown
+cause_is code = of_typed_as CauseAgain code members Unknown
     (missing_again & chunk_again & no_user_data_again & cookie_again & abort_again
     & violation_again & tt)
     (others code)

@@ -8,8 +8,8 @@ use Rattle.dcsctp_wire.specs.InitFields as init
 use Rattle.dcsctp_wire.specs.ParameterList as list
 use Rattle.dcsctp_wire.specs.Abort as abort
 use Rattle.dcsctp_wire.specs.Error as error
-use Rattle.dcsctp_wire.specs.Chunk.{ChunkTree, Init, InitAck, HeartbeatRequest, HeartbeatAck, Abort, Error, ReConfig, Unknown, table, chunks, chunk_row, tlv}
-use Rattle.dcsctp_borrowed.{specs.Rewritten.{IsByteItem, item_again, listed_again, parameter_again, cause_again, chunk_again}, proofs.FrameItems.{bytes_after}, proofs.ItemsRewritten.{listed_is}, proofs.CausesRewritten.{each_cause}, proofs.ParametersRewritten.{each_parameter}, proofs.PlainRewritten.{one_flag, app, word_at, half_at, data_again, sack_again, shutdown_again, shutdown_ack_again, cookie_echo_again, cookie_ack_again, shutdown_complete_again, idata_again, forward_again, iforward_again}, proofs.TreeRows.{of_listed, of_chunk_as}}
+use Rattle.dcsctp_wire.specs.Chunk.{ChunkTree, Unknown, table, chunks, chunk_row, tlv}
+use Rattle.dcsctp_borrowed.{specs.Rewritten.{IsByteItem, item_again, listed_again, parameter_again, cause_again, chunk_again}, proofs.FrameItems.{bytes_after}, proofs.ItemsRewritten.{listed_is}, proofs.CausesRewritten.{each_cause}, proofs.ParametersRewritten.{each_parameter}, proofs.PlainRewritten.{one_flag, app, word_at, half_at, data_again, sack_again, shutdown_again, shutdown_ack_again, cookie_echo_again, cookie_ack_again, shutdown_complete_again, idata_again, forward_again, iforward_again}, proofs.TreeRows.{of_chunk_as}}
 
 -- what a value of a type means, in bytes
 abbrev ChunkAgain : ℕ → ℕ → List ℕ → ChunkTree → Type 0
@@ -80,21 +80,21 @@ others flags typ isnt value u e fits =
     let at : unknown.Tree = record { typ = typ; flags = flags; value = value } in
     let is : at ≡ u = of_ok _ u e in
     rw (
-      ne_eqb typ 1 isnt.0,
-      ne_eqb typ 2 isnt.1.0,
-      ne_eqb typ 4 isnt.1.1.0,
-      ne_eqb typ 5 isnt.1.1.1.0,
-      ne_eqb typ 6 isnt.1.1.1.1.0,
-      ne_eqb typ 9 isnt.1.1.1.1.1.0,
-      ne_eqb typ 130 isnt.1.1.1.1.1.1.0,
-      ne_eqb typ 0 isnt.1.1.1.1.1.1.1.0,
-      ne_eqb typ 3 isnt.1.1.1.1.1.1.1.1.0,
-      ne_eqb typ 7 isnt.1.1.1.1.1.1.1.1.1.0,
-      ne_eqb typ 8 isnt.1.1.1.1.1.1.1.1.1.1.0,
-      ne_eqb typ 10 isnt.1.1.1.1.1.1.1.1.1.1.1.0,
-      ne_eqb typ 11 isnt.1.1.1.1.1.1.1.1.1.1.1.1.0,
-      ne_eqb typ 14 isnt.1.1.1.1.1.1.1.1.1.1.1.1.1.0,
-      ne_eqb typ 64 isnt.1.1.1.1.1.1.1.1.1.1.1.1.1.1.0,
+      ne_eqb typ 0 isnt.0,
+      ne_eqb typ 1 isnt.1.0,
+      ne_eqb typ 2 isnt.1.1.0,
+      ne_eqb typ 3 isnt.1.1.1.0,
+      ne_eqb typ 4 isnt.1.1.1.1.0,
+      ne_eqb typ 5 isnt.1.1.1.1.1.0,
+      ne_eqb typ 6 isnt.1.1.1.1.1.1.0,
+      ne_eqb typ 7 isnt.1.1.1.1.1.1.1.0,
+      ne_eqb typ 8 isnt.1.1.1.1.1.1.1.1.0,
+      ne_eqb typ 9 isnt.1.1.1.1.1.1.1.1.1.0,
+      ne_eqb typ 10 isnt.1.1.1.1.1.1.1.1.1.1.0,
+      ne_eqb typ 11 isnt.1.1.1.1.1.1.1.1.1.1.1.0,
+      ne_eqb typ 14 isnt.1.1.1.1.1.1.1.1.1.1.1.1.0,
+      ne_eqb typ 64 isnt.1.1.1.1.1.1.1.1.1.1.1.1.1.0,
+      ne_eqb typ 130 isnt.1.1.1.1.1.1.1.1.1.1.1.1.1.1.0,
       ne_eqb typ 192 isnt.1.1.1.1.1.1.1.1.1.1.1.1.1.1.1.0,
       ne_eqb typ 194 isnt.1.1.1.1.1.1.1.1.1.1.1.1.1.1.1.1.0,
     ) (ap (λ (v : unknown.Tree). tlv (Unknown v)) (sym is))
@@ -104,21 +104,13 @@ pub chunk_is : (typ flags : ℕ) (value : List ℕ) (t : ChunkTree)
     → (chunk_row lenient typ flags).means value t
     → AreBytes value → tlv t ≡ chunk_again typ flags value
 chunk_is typ flags =
-    let holds : ℕ → List ℕ → ChunkTree → Type 0 = ChunkAgain flags in
-    of_chunk_as holds typ flags
-    (of_listed holds 1 Init (init.row lenient) (init_is 1)
-    & of_listed holds 2 InitAck (init.row lenient) (init_is 2)
-    & of_listed holds 4 HeartbeatRequest (list.row lenient) (list_is 4)
-    & of_listed holds 5 HeartbeatAck (list.row lenient) (list_is 5)
-    & of_listed holds 6 Abort (abort.row lenient flags) (abort_is flags)
-    & of_listed holds 9 Error (error.row lenient) error_is
-    & of_listed holds 130 ReConfig (list.row lenient) (list_is 130) & tt)
-    (data_again flags & sack_again & shutdown_again
-    & (λ value t e fits. shutdown_ack_again value t e)
-    & (λ value t e fits. cookie_echo_again value t e)
+    of_chunk_as (ChunkAgain flags) typ flags
+    (data_again flags & init_is 1 & init_is 2 & sack_again & list_is 4 & list_is 5
+    & abort_is flags & shutdown_again & (λ value t e fits. shutdown_ack_again value t e)
+    & error_is & (λ value t e fits. cookie_echo_again value t e)
     & (λ value t e fits. cookie_ack_again value t e)
     & (λ value t e fits. shutdown_complete_again flags value t e) & idata_again flags
-    & forward_again & iforward_again & tt)
+    & list_is 130 & forward_again & iforward_again & tt)
     (others flags typ)
 
 pub each_chunk : (i : Item) (t : ChunkTree) → IsByteItem i

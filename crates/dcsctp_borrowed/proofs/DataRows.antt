@@ -3,7 +3,7 @@ use Rattle.std.{proofs.Common.{◌≡◌, ℕ, List, Some, Result, Ok, ap, rules
 use Rattle.dcsctp_tlv.specs.{Fault.{Fault}, Frame.{lenient}}
 use Rattle.dcsctp_chunk.specs.{Data.{Tree}, DataChunk.{read as data_at}, IDataChunk.{read as idata_at}}
 use Rattle.dcsctp_wire.specs.Chunk.{ChunkTree, chunk_row}
-use Rattle.dcsctp_borrowed.{specs.UserData.{data_of, read_user_data}, proofs.TreeRows.{of_listed, of_chunk}}
+use Rattle.dcsctp_borrowed.{specs.UserData.{data_of, read_user_data}, proofs.TreeRows.{of_chunk}}
 
 abbrev ReadsAs : ℕ → ℕ → List ℕ → ChunkTree → Type 0
 ReadsAs flags typ value t = read_user_data typ flags value ≡ data_of t
@@ -16,6 +16,5 @@ own read value c e = ap result_ok e
 pub reads_alike : (typ flags : ℕ) (value : List ℕ) (t : ChunkTree)
     → (chunk_row lenient typ flags).means value t → read_user_data typ flags value ≡ data_of t
 reads_alike typ flags =
-    of_chunk (ReadsAs flags) typ flags (search (rules, of_listed (ReadsAs flags)))
-    (assumption (own (data_at flags), own (idata_at flags)))
+    of_chunk (ReadsAs flags) typ flags (assumption (own (data_at flags), own (idata_at flags)))
     (λ isnt value u. search (rules, ne_eqb))

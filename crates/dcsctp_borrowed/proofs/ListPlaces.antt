@@ -4,7 +4,7 @@ use Rattle.std.proofs.Common.{◌≡◌, ℕ, List, Option, Some, None, refl, ap
 use Rattle.dcsctp_tlv.specs.{Frame.{lenient}, Level.{Level, MeansSome}, Parameter.{ParameterTree, parameters}}
 use Rattle.dcsctp_cause.specs.Cause.{CauseTree, causes}
 use Rattle.dcsctp_wire.specs.{InitFields.{Tree as InitTree, row as init_row}, ParameterList.{row as parameter_list_row}, Abort.{Tree as AbortTree, row as abort_row}, Error.{row as error_row}, Chunk.{ChunkTree, Init, HeartbeatRequest, Abort, Error, chunk_row}}
-use Rattle.dcsctp_borrowed.{specs.Front.{GivesList, MeansList}, specs.RawParameters.{parameter_bytes, parameters_of}, specs.RawCauses.{cause_bytes, causes_of}, proofs.TreeRows.{of_listed, of_chunk}}
+use Rattle.dcsctp_borrowed.{specs.Front.{GivesList, MeansList}, specs.RawParameters.{parameter_bytes, parameters_of}, specs.RawCauses.{cause_bytes, causes_of}, proofs.TreeRows.{of_chunk}}
 
 -- ---- what is given of a place
 
@@ -40,8 +40,7 @@ listed value ps m = rw m.1.2 m.1.1
 pub parameters_there : (typ flags : ℕ) (value : List ℕ) (t : ChunkTree)
     → (chunk_row lenient typ flags).means value t
     → MeansList (parameters lenient) (parameter_bytes typ value) (parameters_of t)
-parameters_there typ flags = of_chunk HasParameters typ flags
-    (search (rules, of_listed HasParameters, init, listed)) (assumption)
+parameters_there typ flags = of_chunk HasParameters typ flags (assumption (init, listed))
     (λ isnt value u. search (rules, ne_eqb))
 
 -- ---- error causes
@@ -61,6 +60,5 @@ error value cs m = rw (m.0, m.1.2) m.1.1
 pub causes_there : (typ flags : ℕ) (value : List ℕ) (t : ChunkTree)
     → (chunk_row lenient typ flags).means value t
     → MeansList (causes lenient) (cause_bytes typ value) (causes_of t)
-causes_there typ flags = of_chunk HasCauses typ flags
-    (search (rules, of_listed HasCauses, abort, error)) (assumption)
+causes_there typ flags = of_chunk HasCauses typ flags (assumption (abort flags, error))
     (λ isnt value u. search (rules, ne_eqb))

@@ -14,7 +14,7 @@ use Rattle.dcsctp_tlv.specs.AddStreamsRequest as add_streams
 use Rattle.dcsctp_tlv.specs.AddOutgoingStreamsRequest as add_outgoing
 use Rattle.dcsctp_tlv.specs.AddIncomingStreamsRequest as add_incoming
 use Rattle.dcsctp_tlv.specs.ReconfigurationResponse as response
-use Rattle.dcsctp_tlv.specs.Parameter.{ParameterTree, HeartbeatInfo, StateCookie, OutgoingSsnResetRequest, IncomingSsnResetRequest, SsnTsnResetRequest, ReconfigurationResponse, ZeroChecksumAcceptable, SupportedExtensions, ForwardTsnSupported, Unknown, kinds, trees, table, row, parameters, tlv}
+use Rattle.dcsctp_tlv.specs.Parameter.{ParameterTree, HeartbeatInfo, StateCookie, OutgoingSsnResetRequest, IncomingSsnResetRequest, SsnTsnResetRequest, ReconfigurationResponse, ZeroChecksumAcceptable, SupportedExtensions, ForwardTsnSupported, Unknown, members, table, row, parameters, tlv}
 use Rattle.dcsctp_borrowed.{specs.Rewritten.{IsByteItem, item_again, without_reserved, parameter_value, parameter_again}, proofs.FrameItems.{bytes_after}, proofs.Rewritten.{word_again, half_again, fields_again, same_tlv, none, typed_is}, proofs.TreeRows.{of_typed_as}}
 
 abbrev ParameterAgain : ℕ → List ℕ → ParameterTree → Type 0
@@ -218,7 +218,7 @@ others typ isnt value u e fits =
 -- what a value of a type means, in bytes
 pub parameter_is : (typ : ℕ) (value : List ℕ) (t : ParameterTree) → (row typ).means value t
     → AreBytes value → tlv t ≡ typed_tlv typ (parameter_value typ value)
-parameter_is typ = of_typed_as ParameterAgain typ kinds trees Unknown
+parameter_is typ = of_typed_as ParameterAgain typ members Unknown
     (info_again & cookie_again & outgoing_again & incoming_again & ssn_tsn_again & response_again
     & add_streams_again 17 add_outgoing.name & add_streams_again 18 add_incoming.name
     & zero_checksum_again & extensions_again & forward_tsn_again & tt)

@@ -1,6 +1,6 @@
 -- What `ReConfigRef` reads of a parameter is what the parameter's row of the table means.
 use Rattle.std.{proofs.Common.{◌≡◌, ℕ, List, Some, Result, Ok, ap, rules, ne_eqb, option_map}, specs.Result.{result_ok}}
-use Rattle.dcsctp_tlv.specs.{Fault.{Fault}, Parameter.{ParameterTree, OutgoingSsnResetRequest, IncomingSsnResetRequest, SsnTsnResetRequest, ReconfigurationResponse, AddOutgoingStreamsRequest, AddIncomingStreamsRequest, Unknown, kinds, trees, row}}
+use Rattle.dcsctp_tlv.specs.{Fault.{Fault}, Parameter.{ParameterTree, OutgoingSsnResetRequest, IncomingSsnResetRequest, SsnTsnResetRequest, ReconfigurationResponse, AddOutgoingStreamsRequest, AddIncomingStreamsRequest, Unknown, members, row}}
 use Rattle.dcsctp_tlv.specs.OutgoingSsnResetRequest as outgoing_kind
 use Rattle.dcsctp_tlv.specs.IncomingSsnResetRequest as incoming_kind
 use Rattle.dcsctp_tlv.specs.SsnTsnResetRequest as ssn_tsn_kind
@@ -18,7 +18,7 @@ own {X} tree read value x e = ap (λ (r : Result X Fault). option_map tree (resu
 
 pub requests_alike : (typ : ℕ) (value : List ℕ) (t : ParameterTree) → (row typ).means value t
     → read_re_config typ value ≡ re_config_of t
-requests_alike typ = of_typed ReadsAs typ kinds trees Unknown
+requests_alike typ = of_typed ReadsAs typ members Unknown
     (assumption (
       own OutgoingSsnResetRequest outgoing_kind.read,
       own IncomingSsnResetRequest incoming_kind.read,

@@ -26,8 +26,8 @@ use Rattle.dcsctp_wire.specs.InitFields as init
 use Rattle.dcsctp_wire.specs.ParameterList as list
 use Rattle.dcsctp_wire.specs.Abort as abort
 use Rattle.dcsctp_wire.specs.Error as error
-use Rattle.dcsctp_wire.specs.Chunk.{ChunkTree, Init, InitAck, HeartbeatRequest, HeartbeatAck, Abort, Error, ReConfig, Unknown, chunks, chunk_row, IsInWidth}
-use Rattle.dcsctp_borrowed.{specs.Rewritten.{IsByteItem}, proofs.FrameItems.{bytes_after}, proofs.ItemsRewritten.{byte_items}, proofs.ParametersRewritten.{response_with}, proofs.Rewritten.{first_bytes}, proofs.TreeRows.{of_listed, of_typed_as, of_chunk_as}}
+use Rattle.dcsctp_wire.specs.Chunk.{ChunkTree, Unknown, chunks, chunk_row, IsInWidth}
+use Rattle.dcsctp_borrowed.{specs.Rewritten.{IsByteItem}, proofs.FrameItems.{bytes_after}, proofs.ItemsRewritten.{byte_items}, proofs.ParametersRewritten.{response_with}, proofs.Rewritten.{first_bytes}, proofs.TreeRows.{of_typed_as, of_chunk_as}}
 
 -- ---- numbers and fields
 
@@ -185,7 +185,7 @@ ParameterFits typ value t = AreBytes value → parameter.IsInWidth t
 parameter_fits : (typ : ℕ) → typ < 2 ^ 16 → (value : List ℕ) (t : parameter.ParameterTree)
     → (parameter.row typ).means value t → ParameterFits typ value t
 parameter_fits typ small =
-    of_typed_as ParameterFits typ parameter.kinds parameter.trees parameter.Unknown
+    of_typed_as ParameterFits typ parameter.members parameter.Unknown
     (whole_fits & whole_fits & outgoing_fits & incoming_fits & word_fits & response_fits
     & add_streams_fits & add_streams_fits & word_fits & whole_fits & (λ value t e fits. tt) & tt)
     (λ isnt value u e fits. subst unnamed.IsInWidth (of_ok _ u e)
@@ -210,7 +210,7 @@ CauseFits code value t = AreBytes value → cause.IsInWidth t
 cause_fits : (code : ℕ) → code < 2 ^ 16 → (value : List ℕ) (t : cause.CauseTree)
     → (cause.row code).means value t → CauseFits code value t
 cause_fits code small =
-    of_typed_as CauseFits code cause.kinds cause.trees cause.Unknown
+    of_typed_as CauseFits code cause.members cause.Unknown
     (missing_fits & whole_fits & word_fits & (λ value t e fits. tt)
     & text_fits abort_cause.unreadable (ascii_is abort_cause.unreadable refl)
     & text_fits violation.unreadable (ascii_is violation.unreadable refl) & tt)
@@ -331,15 +331,10 @@ pub chunk_fits : (typ flags : ℕ) → typ < 2 ^ 8 → flags < 2 ^ 8 → (value 
     → (chunk_row lenient typ flags).means value t → ChunkFits typ value t
 chunk_fits typ flags small few =
     of_chunk_as ChunkFits typ flags
-    (of_listed ChunkFits 1 Init (init.row lenient) init_fits
-    & of_listed ChunkFits 2 InitAck (init.row lenient) init_fits
-    & of_listed ChunkFits 4 HeartbeatRequest (list.row lenient) parameter_list_fits
-    & of_listed ChunkFits 5 HeartbeatAck (list.row lenient) parameter_list_fits
-    & of_listed ChunkFits 6 Abort (abort.row lenient flags) (abort_fits flags)
-    & of_listed ChunkFits 9 Error (error.row lenient) error_fits
-    & of_listed ChunkFits 130 ReConfig (list.row lenient) parameter_list_fits & tt)
-    (data_fits flags & sack_fits & word_fits & (λ value t e fits. tt) & cookie_echo_fits
-    & (λ value t e fits. tt) & (λ value t e fits. tt) & idata_fits flags
+    (data_fits flags & init_fits & init_fits & sack_fits & parameter_list_fits
+    & parameter_list_fits & abort_fits flags & word_fits & (λ value t e fits. tt) & error_fits
+    & cookie_echo_fits & (λ value t e fits. tt) & (λ value t e fits. tt) & idata_fits flags
+    & parameter_list_fits
     & streams_fit forward.stream_at 4 (λ bytes are. (half_at 0 bytes are, half_at 2 bytes are))
     & streams_fit iforward.stream_at 8 (λ bytes are. (half_at 0 bytes are, word_at 4 bytes are))
     & tt)

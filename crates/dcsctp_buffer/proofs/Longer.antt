@@ -1,9 +1,9 @@
 -- What a chunk reads as after an item was added to its list.
-use Rattle.std.{proofs.Common.{◌≡◌, ℕ, ◌+◌, ◌/◌, ◌%◌, ◌<◌, ◌≤◌, ◌^◌, ◌==◌, ◌&&◌, Bool, true, false, List, [], ◌∷◌, ◌++◌, length, drop, replicate, refl, sym, ap, subst, ◌∙◌, append_assoc, append-nil, arith, Option, Some, None, nat_le, nat_lt, leb-true, le-leb, ltb-true, lt-ltb, length-append, length-drop}, specs.Int.{Width, w16, w32, byte_len, from_be_bytes}, specs.List.{flat_map}, proofs.lemmas.List.{length-replicate, drop-append-le, take-append-le}, proofs.lemmas.List.Folds.{list_all-append}}
-use Rattle.dcsctp_tlv.{specs.Frame.{lenient, padding_size, header, typed_header, Item, item_bytes, PaddingRule, zero_padding, are_zeros, AreFormed}, specs.Image.{gap, zeroed}, specs.Level.{Row, Level, plain, map_ok, as_row, listed, ItemsMean, MeansTrees}, specs.Number.{number}, specs.Parameter.{ParameterTree, row as parameter_row}, specs.Kinds.{Kind, row_as, rows, TreesOf}, specs.Table.{◌&◌}, specs.Typed.{typed_level}, proofs.Accounts.{length-item}, proofs.KindLaws.{of_map_ok}, proofs.Local.{local_means}, proofs.ParameterKinds.{type_back}, proofs.ReadsBack.{zeros_accepted, none_accepted}, proofs.Satisfies.{down}, proofs.Tables.{EachNamed, of_table}}
-use Rattle.dcsctp_chunk.specs.{Unknown.{Tree as UnknownTree, read as unknown_at}, PlainKinds.{plain_kinds}}
+use Rattle.std.{proofs.Common.{rules, inl, inr, ◌⊎◌, ◌≡◌, ℕ, ◌+◌, ◌/◌, ◌%◌, ◌<◌, ◌≤◌, ◌^◌, ◌==◌, ◌&&◌, Bool, true, false, List, [], ◌∷◌, ◌++◌, length, drop, replicate, refl, sym, ap, subst, ◌∙◌, append_assoc, append-nil, arith, Option, Some, None, nat_le, nat_lt, leb-true, le-leb, ltb-true, lt-ltb, length-append, length-drop}, specs.Int.{Width, w16, w32, byte_len, from_be_bytes}, specs.List.{flat_map}, proofs.lemmas.List.{length-replicate, drop-append-le, take-append-le}, proofs.lemmas.List.Folds.{list_all-append}}
+use Rattle.dcsctp_tlv.{specs.Frame.{padding_size, header, typed_header, Item, item_bytes, PaddingRule, zero_padding, are_zeros, AreFormed}, specs.Image.{gap, zeroed}, specs.Level.{Row, Level, plain, map_ok, as_row, listed, ItemsMean, MeansTrees}, specs.Number.{number}, specs.Parameter.{ParameterTree, row as parameter_row}, specs.Kinds.{Member, row_as, rows}, specs.Typed.{typed_level}, proofs.Accounts.{length-item}, proofs.KindLaws.{of_map_ok}, proofs.Local.{local_means}, proofs.ParameterKinds.{type_back}, proofs.ReadsBack.{zeros_accepted, none_accepted}, proofs.Satisfies.{down}, proofs.Tables.{EachNamed, of_table}}
+use Rattle.dcsctp_chunk.specs.Unknown.{Tree as UnknownTree, read as unknown_at}
 use Rattle.dcsctp_cause.specs.Cause.{CauseTree, row as cause_row}
-use Rattle.dcsctp_wire.specs.{Chunk.{ChunkTree, Init, InitAck, HeartbeatRequest, HeartbeatAck, Abort, Error, ReConfig, Unknown, plain_trees, table, chunk_row, tlv as chunk_tlv}, InitFields.{Tree as InitTree, tree_of as init_of}, Init.{kind as init_kind}, InitAck.{kind as init_ack_kind}, HeartbeatRequest.{kind as heartbeat_kind}, HeartbeatAck.{kind as heartbeat_ack_kind}, Abort.{tree_of as abort_of, kind as abort_kind}, Error.{kind as error_kind}, ReConfig.{kind as re_config_kind}}
+use Rattle.dcsctp_wire.specs.{Chunk.{ChunkTree, Init, InitAck, HeartbeatRequest, HeartbeatAck, Abort, Error, ReConfig, Unknown, members, table, chunk_row, tlv as chunk_tlv}, InitFields.{Tree as InitTree, tree_of as init_of}, Abort.{tree_of as abort_of}}
 use Rattle.dcsctp_buffer.{specs.Buffer.{ReadsAs}, specs.Item.{with_last, extended, with_parameter, with_cause, ExtendsParameters, ExtendsCauses, MakesError}, proofs.Items.{zeroed-solid}}
 
 -- ---- a list whose last item gets all its padding
@@ -187,30 +187,33 @@ module _ (typ : ℕ) (item : List ℕ) (with : ChunkTree → Option ChunkTree) w
   Extends row = (value : List ℕ) (t u : ChunkTree) → row.means value t → with t ≡ Some u
       → row.means (with_last value typ item) u
 
-  -- a kind without such a list
-  extends_none : (strict : Bool) (flags : ℕ) (k : Kind) (tree : k.Tree → ChunkTree)
-      → ((x : k.Tree) → with (tree x) ≡ None) → Extends (row_as strict flags tree k.reader)
-  extends_none strict flags k tree none value t u m e =
-      let d = down tree strict flags k.reader value t m in
+  -- a kind has no such list, or its row extends
+  abbrev MayExtend : Bool → ℕ → Member ChunkTree → Type 0
+  MayExtend strict flags m = ((x : m.kind.Tree) → with (m.tree x) ≡ None)
+      ⊎ Extends (row_as strict flags m.tree m.kind.reader)
+
+  extends : (strict : Bool) (flags : ℕ) (m : Member ChunkTree) → MayExtend strict flags m
+      → Extends (row_as strict flags m.tree m.kind.reader)
+  extends strict flags m (inl none) value t u means e =
+      let d = down m.tree strict flags m.kind.reader value t means in
       let is = ap with d.1.1 in
       let no = none d.0 in
       absurd (let f : None ≡ Some u = sym no ∙ sym is ∙ e in cc)
+  extends strict flags m (inr own) value t u means e = own value t u means e
 
-  abbrev AllNone : (ks : List Kind) → TreesOf ks ChunkTree → Type 0
-  AllNone [] trees = Unit {0}
-  AllNone (k ∷ ks) trees = ((x : k.Tree) → with (trees.0 x) ≡ None) × AllNone ks trees.1
+  abbrev AllMayExtend : Bool → ℕ → List (Member ChunkTree) → Type 0
+  AllMayExtend strict flags [] = Unit {0}
+  AllMayExtend strict flags (m ∷ ms) = MayExtend strict flags m × AllMayExtend strict flags ms
 
-  all_none : (strict : Bool) (flags : ℕ) (ks : List Kind) (trees : TreesOf ks ChunkTree)
-      → AllNone ks trees → EachNamed (λ n row. Extends row) (rows strict flags ks trees)
-  all_none strict flags [] trees none = tt
-  all_none strict flags (k ∷ ks) trees none = (
-    extends_none strict flags k trees.0 none.0,
-    all_none strict flags ks trees.1 none.1,
-  )
+  all_extend : (strict : Bool) (flags : ℕ) (ms : List (Member ChunkTree))
+      → AllMayExtend strict flags ms → EachNamed (λ n row. Extends row) (rows strict flags ms)
+  all_extend strict flags [] may = tt
+  all_extend strict flags (m ∷ ms) may =
+      (extends strict flags m may.0, all_extend strict flags ms may.1)
 
-  -- so does the row of each type, where those of the kinds with a list do
+  -- so does the row of each type
   chunk_extends : (strict : Bool) (t u : ChunkTree)
-      → ((flags : ℕ) → EachNamed (λ n row. Extends row) (table strict flags))
+      → ((flags : ℕ) → AllMayExtend strict flags members)
       → ((x : UnknownTree) → with (Unknown x) ≡ None) → ReadsAs strict t u
       → (v : ChunkTree) → with u ≡ Some v → ReadsAs strict (extended t typ item) v
   chunk_extends strict t u each none m v e =
@@ -218,7 +221,8 @@ module _ (typ : ℕ) (item : List ℕ) (with : ChunkTree → Option ChunkTree) w
       subst (λ (bytes : List ℕ). (chunk_row strict x.first x.second).means bytes v)
       (sym (zeroed-solid (with_last (zeroed x.value) typ item)))
       (of_table (λ n row. Extends row) (table strict x.second) x.first
-      (plain (λ value. map_ok Unknown (unknown_at x.first x.second value))) (each x.second)
+      (plain (λ value. map_ok Unknown (unknown_at x.first x.second value)))
+      (all_extend strict x.second members (each x.second))
       (λ unnamed value t2 u2 means is.
       (let d = of_map_ok Unknown (unknown_at x.first x.second value) t2 means in
       let no = none d.0 in let same = ap with d.1.1 in
@@ -253,7 +257,7 @@ module _ {U : Type 0} (row : ℕ → Row U) (strict : Bool) (typ : ℕ) (item : 
 module _ (typ : ℕ) (item : List ℕ) (small : 4 + length item < 2 ^ 16) where
   parameters_extend : (p : ParameterTree) → (parameter_row typ).means item p
       → (strict : Bool) (flags : ℕ)
-      → EachNamed (λ n row. Extends typ item (λ t. with_parameter t p) row) (table strict flags)
+      → AllMayExtend typ item (λ t. with_parameter t p) strict flags members
   parameters_extend p means strict flags =
       let with = λ (t : ChunkTree). with_parameter t p in
       let init = λ (tree : InitTree → ChunkTree)
@@ -269,16 +273,16 @@ module _ (typ : ℕ) (item : List ℕ) (small : 4 + length item < 2 ^ 16) where
       list_extends parameter_row strict typ item p small means (λ value. true) 0
       (λ value ps. ps) tree (λ ps. ps ++ p ∷ []) with grown (λ value us. refl) refl
       (λ value h. omega arith) (λ value more h. refl) (λ value more us h. refl) in
-      init Init (λ i. refl) &
-      init InitAck (λ i. refl) &
-      list HeartbeatRequest (λ ps. refl) &
-      list HeartbeatAck (λ ps. refl) &
-      extends_none typ item with strict flags abort_kind Abort (λ a. refl) &
-      extends_none typ item with strict flags error_kind Error (λ cs. refl) &
-      list ReConfig (λ ps. refl) &
-      all_none typ item with lenient flags plain_kinds plain_trees
-      ((λ x. refl) & (λ x. refl) & (λ x. refl) & (λ x. refl) & (λ x. refl) & (λ x. refl)
-      & (λ x. refl) & (λ x. refl) & (λ x. refl) & (λ x. refl) & tt)
+      search (
+        rules,
+        inl,
+        inr,
+        init Init (λ i. refl),
+        init InitAck (λ i. refl),
+        list HeartbeatRequest (λ ps. refl),
+        list HeartbeatAck (λ ps. refl),
+        list ReConfig (λ ps. refl),
+      )
 
   pub extends_parameters : ExtendsParameters typ item
   extends_parameters strict t u longer p means reads is =
@@ -286,24 +290,19 @@ module _ (typ : ℕ) (item : List ℕ) (small : 4 + length item < 2 ^ 16) where
       (λ x. refl) reads longer is
 
   causes_extend : (c : CauseTree) → (cause_row typ).means item c → (strict : Bool) (flags : ℕ)
-      → EachNamed (λ n row. Extends typ item (λ t. with_cause t c) row) (table strict flags)
+      → AllMayExtend typ item (λ t. with_cause t c) strict flags members
   causes_extend c means strict flags =
       let with = λ (t : ChunkTree). with_cause t c in
-      extends_none typ item with strict flags init_kind Init (λ i. refl) &
-      extends_none typ item with strict flags init_ack_kind InitAck (λ i. refl) &
-      extends_none typ item with strict flags heartbeat_kind HeartbeatRequest (λ ps. refl) &
-      extends_none typ item with strict flags heartbeat_ack_kind HeartbeatAck (λ ps. refl) &
+      let abort =
       list_extends cause_row strict typ item c small means (λ value. true) 0
       (λ value cs. abort_of flags cs) Abort (λ a. record a { causes = a.causes ++ c ∷ [] }) with
       (λ a. refl) (λ value us. refl) refl (λ value h. omega arith) (λ value more h. refl)
-      (λ value more us h. refl) &
+      (λ value more us h. refl) in
+      let error =
       list_extends cause_row strict typ item c small means (λ value. nat_lt 0 (length value)) 0
       (λ value cs. cs) Error (λ cs. cs ++ c ∷ []) with (λ cs. refl) (λ value us. refl) refl
-      (λ value h. omega arith) more_than_none (λ value more us h. refl) &
-      extends_none typ item with strict flags re_config_kind ReConfig (λ ps. refl) &
-      all_none typ item with lenient flags plain_kinds plain_trees
-      ((λ x. refl) & (λ x. refl) & (λ x. refl) & (λ x. refl) & (λ x. refl) & (λ x. refl)
-      & (λ x. refl) & (λ x. refl) & (λ x. refl) & (λ x. refl) & tt)
+      (λ value h. omega arith) more_than_none (λ value more us h. refl) in
+      search (rules, inl, inr, abort, error)
 
   pub extends_causes : ExtendsCauses typ item
   extends_causes strict t u longer c means reads is =

@@ -15,16 +15,16 @@ at_end bytes xs k fits is =
 
 pub holds_opened : (key bytes : List ℕ) (tree : CookieTree) (opened : StateCookie)
     (new : DcsctpCookie) → bytes ≡ cookie_bytes key tree → view opened ≡ tree
-    → cookie_tree new opened.addresses.now ≡ view opened → new.addresses_offset ≡ 72
-    → new.addresses_size ≡ length opened.addresses.now → HoldsCookie bytes tree new
+    → cookie_tree new opened.extra.now ≡ view opened → new.extra_offset ≡ 80
+    → new.extra_size ≡ length opened.extra.now → HoldsCookie bytes tree new
 holds_opened key bytes tree opened new is means numbers offset size =
     let sealed = cookie_is_sealed key tree bytes is in
-    let same : opened.addresses.now ≡ tree.addresses =
-    ap (λ (t : CookieTree). t.addresses) means in
-    let rest : drop 72 bytes ≡ tree.addresses =
-    sym (drop-drop 40 32 bytes) ∙ ap (drop 40) sealed.rest
-    ∙ drop_at (fixed_bytes tree) tree.addresses 40 refl in
+    let same : opened.extra.now ≡ tree.extra =
+    ap (λ (t : CookieTree). t.extra) means in
+    let rest : drop 80 bytes ≡ tree.extra =
+    sym (drop-drop 48 32 bytes) ∙ ap (drop 48) sealed.rest
+    ∙ drop_at (fixed_bytes tree) tree.extra 48 refl in
     record {
       numbers = ap (cookie_tree new) (sym same) ∙ numbers ∙ means;
-      addresses = rw (offset, size, same) (at_end bytes tree.addresses 72 sealed.size rest);
+      extra = rw (offset, size, same) (at_end bytes tree.extra 80 sealed.size rest);
     }

@@ -2,7 +2,7 @@
 use Rattle.std.{proofs.Common.{◌≡◌, ℕ, Bool, List, [], Option, Some, None, refl, sym, ap, subst, ◌∙◌, rules, option_map, false, ne_eqb}, specs.Option.{option_and_then}}
 use Rattle.dcsctp_tlv.specs.Frame.{lenient}
 use Rattle.dcsctp_wire.specs.{Chunk.{ChunkTree, Init, chunk_row}, InitFields.{Tree, row}}
-use Rattle.dcsctp_borrowed.proofs.TreeRows.{of_listed, of_chunk}
+use Rattle.dcsctp_borrowed.proofs.TreeRows.{of_chunk}
 use Rattle.dcsctp_c.specs.{Part.{Reads, ReadsInto, ChunkMeans, read_init, init_of, init_at, HoldsInit}, declared.structs.DcsctpChunk.{DcsctpChunk}, declared.structs.DcsctpInit.{DcsctpInit}}
 
 -- the tree without its parameters
@@ -19,8 +19,7 @@ reads_alike : (typ flags : ℕ) (value : List ℕ) (t : ChunkTree)
     → (chunk_row lenient typ flags).means value t
     → read_init typ value ≡ option_map bare (init_of t)
 reads_alike typ flags =
-    of_chunk ReadsAs typ flags (search (rules, of_listed ReadsAs, own)) (assumption)
-    (λ isnt value u. search (rules, ne_eqb))
+    of_chunk ReadsAs typ flags (assumption own) (λ isnt value u. search (rules, ne_eqb))
 
 -- what holds the numbers holds those of the tree with its parameters
 with_parameters : (o : Option Tree) (old new : DcsctpInit) (done : Bool)

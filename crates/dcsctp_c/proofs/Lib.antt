@@ -3,6 +3,7 @@ pub mod Cookies
 pub mod Fills
 pub mod Places
 pub mod InitRows
+pub mod LaidOut
 pub mod NumberRows
 pub mod PlacedPackets
 pub mod RegisteredPlaces

@@ -1,14 +1,14 @@
 -- What a value of four bytes reads as is what the tables mean, of each kind whose value is one
 -- number.
 use Rattle.std.{proofs.Common.{◌≡◌, ◌∙◌, ℕ, Bool, true, false, List, Option, Some, None, Result, Ok, Err, ap, rules, ne_eqb, ◌==◌, if◌then◌else◌, length}, specs.Option.{option_and_then}}
-use Rattle.dcsctp_tlv.specs.{Fault.{Fault, Length}, Frame.{lenient}, Number.{number32}, Parameter.{ParameterTree, row as parameter_row, kinds as parameter_kinds, trees as parameter_trees, Unknown as UnknownParameter}}
+use Rattle.dcsctp_tlv.specs.{Fault.{Fault, Length}, Frame.{lenient}, Number.{number32}, Parameter.{ParameterTree, row as parameter_row, members as parameter_members, Unknown as UnknownParameter}}
 use Rattle.dcsctp_tlv.specs.SsnTsnResetRequest as reset_kind
 use Rattle.dcsctp_tlv.specs.ZeroChecksumAcceptable as method_kind
-use Rattle.dcsctp_cause.specs.Cause.{CauseTree, row as cause_row, kinds as cause_kinds, trees as cause_trees, Unknown as UnknownCause}
+use Rattle.dcsctp_cause.specs.Cause.{CauseTree, row as cause_row, members as cause_members, Unknown as UnknownCause}
 use Rattle.dcsctp_cause.specs.NoUserData as cause_kind
 use Rattle.dcsctp_chunk.specs.Shutdown as shutdown_kind
 use Rattle.dcsctp_wire.specs.Chunk.{ChunkTree, chunk_row}
-use Rattle.dcsctp_borrowed.proofs.TreeRows.{of_listed, of_chunk, of_typed}
+use Rattle.dcsctp_borrowed.proofs.TreeRows.{of_chunk, of_typed}
 use Rattle.dcsctp_c.specs.{Part.{ChunkMeans, read_number, read_shutdown, shutdown_of, shutdown_at}, Parameter.{ParameterMeans, CauseMeans, number_at, number_of, cause_number_of}, declared.structs.DcsctpChunk.{DcsctpChunk}, declared.structs.DcsctpParameter.{DcsctpParameter}}
 
 is_number : (test : Bool) (n m : ℕ) → (if test then Ok n else Err Length) ≡ Ok m
@@ -35,8 +35,8 @@ ReadsAs typ value t = read_shutdown typ value ≡ shutdown_of t
 
 shutdown_alike : (typ flags : ℕ) (value : List ℕ) (t : ChunkTree)
     → (chunk_row lenient typ flags).means value t → read_shutdown typ value ≡ shutdown_of t
-shutdown_alike typ flags = of_chunk ReadsAs typ flags (search (rules, of_listed ReadsAs))
-    (assumption shutdown) (λ isnt value u. search (rules, ne_eqb))
+shutdown_alike typ flags = of_chunk ReadsAs typ flags (assumption shutdown)
+    (λ isnt value u. search (rules, ne_eqb))
 
 pub shutdown_there : (bytes : List ℕ) (c : DcsctpChunk) (tree : ChunkTree)
     → ChunkMeans bytes c tree → shutdown_at bytes c ≡ shutdown_of tree
@@ -63,13 +63,13 @@ parameter_number : (typ : ℕ) (value : List ℕ) (t : ParameterTree)
     → (parameter_row typ).means value t → (n : ℕ) → number_of t ≡ Some n
     → read_number value ≡ Some n
 parameter_number typ =
-    of_typed (IsNumber number_of) typ parameter_kinds parameter_trees UnknownParameter
+    of_typed (IsNumber number_of) typ parameter_members UnknownParameter
     (search (rules, other, one reset_kind.read reset, one method_kind.read method))
     (λ isnt value u n e. other n e)
 
 cause_number : (code : ℕ) (value : List ℕ) (t : CauseTree) → (cause_row code).means value t
     → (n : ℕ) → cause_number_of t ≡ Some n → read_number value ≡ Some n
-cause_number code = of_typed (IsNumber cause_number_of) code cause_kinds cause_trees UnknownCause
+cause_number code = of_typed (IsNumber cause_number_of) code cause_members UnknownCause
     (search (rules, other, one cause_kind.read no_data)) (λ isnt value u n e. other n e)
 
 pub parameter_number_there : (bytes : List ℕ) (p : DcsctpParameter) (tree : ParameterTree)

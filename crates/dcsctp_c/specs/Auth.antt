@@ -9,26 +9,28 @@ use Rattle.dcsctp_c.specs.declared.structs.DcsctpCookie.{DcsctpCookie}
 abbrev pub room_code : ℕ → ℕ → ℕ
 room_code needed room = if nat_le needed room then 0 else no_room_code
 
--- the struct's numbers, and these addresses
+-- the struct's numbers, and these further bytes
 abbrev pub cookie_tree : DcsctpCookie → List ℕ → CookieTree
-cookie_tree c addresses = record {
+cookie_tree c extra = record {
   created = c.created;
   lifespan = c.lifespan;
   local_tag = c.local_tag;
   peer_tag = c.peer_tag;
+  local_tie_tag = c.local_tie_tag;
+  peer_tie_tag = c.peer_tie_tag;
   local_initial_tsn = c.local_initial_tsn;
   peer_initial_tsn = c.peer_initial_tsn;
   local_port = c.local_port;
   peer_port = c.peer_port;
   outbound_streams = c.outbound_streams;
   inbound_streams = c.inbound_streams;
-  addresses = addresses;
+  extra = extra;
 }
 
--- the struct holds the cookie, whose addresses lie in the bytes
+-- the struct holds the cookie, whose further bytes lie in these
 pub record HoldsCookie (bytes : List ℕ) (tree : CookieTree) (c : DcsctpCookie) : Type 0 where
-  pub numbers : cookie_tree c tree.addresses ≡ tree
-  pub addresses : part_at bytes c.addresses_offset c.addresses_size ≡ Some tree.addresses
+  pub numbers : cookie_tree c tree.extra ≡ tree
+  pub extra : part_at bytes c.extra_offset c.extra_size ≡ Some tree.extra
 
 -- What the call wrote and returned of a cookie at a time: the cookie, and for how many microseconds
 -- it hasn't been good; 0 while it is good, and then 1.

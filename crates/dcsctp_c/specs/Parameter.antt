@@ -3,7 +3,7 @@
 use Rattle.std.specs.{Prelude.{◌≡◌, ◌+◌, ℕ, List, Option, Some, None, length, drop}, Option.{option_and_then}}
 use Rattle.dcsctp_tlv.specs.{Frame.{lenient}, Number.{number16}, Parameter.{ParameterTree, SsnTsnResetRequest, ZeroChecksumAcceptable, parameters, row as parameter_row}}
 use Rattle.dcsctp_cause.specs.Cause.{CauseTree, NoUserData, causes, row as cause_row}
-use Rattle.dcsctp_registry.specs.Shapes.{short_numbers_of}
+use Rattle.dcsctp_registry.specs.ShortNumbers.{short_numbers_of}
 use Rattle.dcsctp_c.specs.Part.{part_at, ValueMeans, IsItemAt, MeansFirst, value_from, read_number}
 use Rattle.dcsctp_c.specs.declared.structs.{DcsctpChunk.{DcsctpChunk}, DcsctpParameter.{DcsctpParameter}}
 

@@ -92,8 +92,8 @@ pub extern "C" fn dcsctp_sign_auth(key: &[u8], bytes: &mut [u8]) -> bool
     sign(key, bytes)
 }
 
-/// Writes a State Cookie (RFC 9260 section 5.1.3) to the front of the output, and its size: 72
-/// bytes with a MAC under the key, and the addresses. Where the struct says that they are is
+/// Writes a State Cookie (RFC 9260 section 5.1.3) to the front of the output, and its size: 80
+/// bytes with a MAC under the key, and the further ones. Where the struct says that they are is
 /// ignored.
 ///
 /// Returns 0; or changes nothing, and returns `NO_ROOM`.
@@ -103,16 +103,16 @@ pub extern "C" fn dcsctp_seal_cookie(
     size: &mut usize,
     key: &[u8],
     cookie: &DcsctpCookie,
-    addresses: &[u8],
+    extra: &[u8],
 ) -> u32
-    ensures code { result ≡ room_code (72 + length addresses.now) (length output.old) }
-    ensures size { result ≡ 0 → size.new ≡ 72 + length addresses.now }
+    ensures code { result ≡ room_code (80 + length extra.now) (length output.old) }
+    ensures size { result ≡ 0 → size.new ≡ 80 + length extra.now }
     ensures bytes { result ≡ 0 → output.new
-        ≡ put output.old 0 (cookie_bytes key.now (cookie_tree cookie.now addresses.now)) }
-    ensures width { result ≡ 0 → IsInWidth (cookie_tree cookie.now addresses.now) }
+        ≡ put output.old 0 (cookie_bytes key.now (cookie_tree cookie.now extra.now)) }
+    ensures width { result ≡ 0 → IsInWidth (cookie_tree cookie.now extra.now) }
     ensures declined { result ≢ 0 → (output.new ≡ output.old) × (size.new ≡ size.old) }
 {
-    match seal_cookie(output, key, &state_cookie(cookie, addresses)) {
+    match seal_cookie(output, key, &state_cookie(cookie, extra)) {
         Some(written) => {
             *size = written;
             OK
@@ -122,8 +122,8 @@ pub extern "C" fn dcsctp_seal_cookie(
 }
 
 /// Opens a State Cookie (RFC 9260 section 5.1.5) at a time in microseconds, on the clock of whoever
-/// sealed it: writes what it says, where its addresses are in the bytes, and for how many
-/// microseconds its lifespan has been over, the Measure of Staleness (section 3.3.10.3).
+/// sealed it: writes what it says, where its further bytes are, and for how many microseconds its
+/// lifespan has been over, the Measure of Staleness (section 3.3.10.3).
 ///
 /// Returns `COOKIE_GOOD` up to the end of its lifespan, with a staleness of 0, and then
 /// `COOKIE_STALE`. Changes nothing, and returns `COOKIE_INVALID`, if and only if the bytes are no
@@ -159,43 +159,47 @@ pub extern "C" fn dcsctp_open_cookie(
 
 // ---- helpers
 
-/// Returns what the struct says, with these addresses.
-fn state_cookie<'a>(cookie: &DcsctpCookie, addresses: &'a [u8]) -> StateCookie<'a>
-    ensures { cookie_view result ≡ cookie_tree cookie.now addresses.now }
+/// Returns what the struct says, with these further bytes.
+fn state_cookie<'a>(cookie: &DcsctpCookie, extra: &'a [u8]) -> StateCookie<'a>
+    ensures { cookie_view result ≡ cookie_tree cookie.now extra.now }
 {
     StateCookie {
         created: cookie.created,
         lifespan: cookie.lifespan,
         local_tag: cookie.local_tag,
         peer_tag: cookie.peer_tag,
+        local_tie_tag: cookie.local_tie_tag,
+        peer_tie_tag: cookie.peer_tie_tag,
         local_initial_tsn: cookie.local_initial_tsn,
         peer_initial_tsn: cookie.peer_initial_tsn,
         local_port: cookie.local_port,
         peer_port: cookie.peer_port,
         outbound_streams: cookie.outbound_streams,
         inbound_streams: cookie.inbound_streams,
-        addresses,
+        extra,
     }
 }
 
-/// Returns the struct of a cookie, whose addresses end its bytes.
+/// Returns the struct of a cookie, whose further bytes end it.
 fn opened_cookie(cookie: &StateCookie<'_>) -> DcsctpCookie
-    ensures numbers { cookie_tree result cookie.now.addresses.now ≡ cookie_view cookie.now }
-    ensures offset { result.addresses_offset ≡ 72 }
-    ensures size { result.addresses_size ≡ length cookie.now.addresses.now }
+    ensures numbers { cookie_tree result cookie.now.extra.now ≡ cookie_view cookie.now }
+    ensures offset { result.extra_offset ≡ 80 }
+    ensures size { result.extra_size ≡ length cookie.now.extra.now }
 {
     DcsctpCookie {
         created: cookie.created,
         lifespan: cookie.lifespan,
         local_tag: cookie.local_tag,
         peer_tag: cookie.peer_tag,
+        local_tie_tag: cookie.local_tie_tag,
+        peer_tie_tag: cookie.peer_tie_tag,
         local_initial_tsn: cookie.local_initial_tsn,
         peer_initial_tsn: cookie.peer_initial_tsn,
         local_port: cookie.local_port,
         peer_port: cookie.peer_port,
         outbound_streams: cookie.outbound_streams,
         inbound_streams: cookie.inbound_streams,
-        addresses_offset: MIN_COOKIE_SIZE,
-        addresses_size: cookie.addresses.len(),
+        extra_offset: MIN_COOKIE_SIZE,
+        extra_size: cookie.extra.len(),
     }
 }

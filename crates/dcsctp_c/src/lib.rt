@@ -20,6 +20,7 @@ mod read;
 mod read_many;
 mod receive;
 mod registered;
+mod registered_by_type;
 mod report;
 mod rules;
 mod structs;

@@ -10,7 +10,7 @@ ghost use Rattle.dcsctp_c.specs.{Part.{ReadsInto, Holds, value_at, value_from, C
 use crate::parts::{part_at, put_found, read_number};
 use crate::structs::{DcsctpChunk, DcsctpParameter};
 use dcsctp_borrowed::numbers::Numbers;
-use dcsctp_registry::shapes::short_numbers;
+use dcsctp_registry::short_numbers::short_numbers;
 use dcsctp_tlv::frame::split_frame;
 use dcsctp_wire::packet::init_chunk::{self, InitNumbers};
 use dcsctp_wire::packet::{

@@ -188,6 +188,8 @@ pub struct DcsctpRegistered {
     pub second_short_number: u16,
     /// The third one: the number of duplicate TSNs of NR-SACK.
     pub third_short_number: u16,
+    /// The flags of a chunk, as they came or are to be written; of all else 0.
+    pub flags: u8,
     /// The offset of an address.
     pub address_offset: usize,
     /// The octets of the address: 4 or 16.
@@ -314,6 +316,10 @@ pub struct DcsctpCookie {
     pub local_tag: u32,
     /// The Initiate Tag of the INIT.
     pub peer_tag: u32,
+    /// The Local Tie-Tag (RFC 9260 section 5.2.2): 0 where the INIT came without an association.
+    pub local_tie_tag: u32,
+    /// The Peer's Tie-Tag (RFC 9260 section 5.2.2): 0 where the INIT came without an association.
+    pub peer_tie_tag: u32,
     /// The Initial TSN of the INIT ACK.
     pub local_initial_tsn: u32,
     /// The Initial TSN of the INIT.
@@ -326,8 +332,8 @@ pub struct DcsctpCookie {
     pub outbound_streams: u16,
     /// How many streams the peer sends on.
     pub inbound_streams: u16,
-    /// The offset of the addresses in the cookie.
-    pub addresses_offset: usize,
-    /// The size of the addresses in bytes.
-    pub addresses_size: usize,
+    /// The offset in the cookie of the caller's further bytes.
+    pub extra_offset: usize,
+    /// The size of the caller's further bytes.
+    pub extra_size: usize,
 }

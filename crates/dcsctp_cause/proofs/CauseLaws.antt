@@ -3,7 +3,7 @@ use Rattle.std.{proofs.Common.{rules, ◌≡◌, ℕ, Bool, List, length, Result
 use Rattle.dcsctp_tlv.{specs.Decided.{LawfulRow, IgnoresPadding}, specs.Frame.{Item, AreItems, any_padding, lenient}, specs.Image.{Tlv, zeroed, size_of, image_of}, specs.Level.{MeansTrees}, specs.Table.{Content, Text, ◌&◌}, specs.declared.error.ChunkParseError.{ChunkParseError}, specs.Kinds.{ChecksKind}, specs.Reading.{Answers, checking, RowAnswer, Counted, Unplaced}, proofs.Lengths.{length-format}, proofs.Laws.{Lawful}, proofs.Satisfies.{AllSatisfy, SatisfiesOf, plain_satisfies, satisfies_if, back_of}, proofs.Lenient.{Loosens}, proofs.TableLaws.{TypedFacts, typed_row_lawful, typed_lawful, typed_looser, typed_form, typed_account, typed_unpadded, typed_tested, unknown_means}, proofs.ReadsBack.{ReadsBack}, proofs.KindLaws.{IsGood, of_ok, of_map_ok}, proofs.Forms.{FormsTrees}, proofs.Accounts.{Accounts, items_kept}, proofs.Decided.{splits_one_way}}
 use Rattle.dcsctp_cause.specs.UserInitiatedAbort as abort
 use Rattle.dcsctp_cause.specs.ProtocolViolation as violation
-use Rattle.dcsctp_cause.{specs.Cause.{CauseTree, UserInitiatedAbort, ProtocolViolation, Unknown, kinds, trees, table, row, causes, entry, format, tlv, IsWellFormed, HoldsText, IsTextKept, HasOwnText}, proofs.Texts.{utf8_unless}, proofs.CauseKinds.{missing_laws, chunk_laws, no_user_data_laws, cookie_received_laws, abort_laws, violation_laws}}
+use Rattle.dcsctp_cause.{specs.Cause.{CauseTree, UserInitiatedAbort, ProtocolViolation, Unknown, members, kinds, table, row, causes, entry, format, tlv, IsWellFormed, HoldsText, IsTextKept, HasOwnText}, proofs.Texts.{utf8_unless}, proofs.CauseKinds.{missing_laws, chunk_laws, no_user_data_laws, cookie_received_laws, abort_laws, violation_laws}}
 
 -- ---- what each kind satisfies
 
@@ -12,7 +12,7 @@ abbrev Keeps : Content → List ℕ → Type 0
 Keeps Text value = IsUtf8 value
 Keeps content value = Unit {0}
 
-satisfied : AllSatisfy Keeps kinds
+satisfied : AllSatisfy Keeps members
 satisfied =
     plain_satisfies 2 _ missing_laws &
     plain_satisfies 6 _ chunk_laws &
@@ -28,11 +28,11 @@ satisfies_of t = assumption satisfied
 
 -- ---- what the level has
 
-facts : TypedFacts kinds trees entry Unknown Keeps (λ code value. HoldsText code → IsUtf8 value)
+facts : TypedFacts members entry Unknown Keeps (λ code value. HoldsText code → IsUtf8 value)
 facts = record {
   satisfied = satisfied;
   found = search (rules, inl, inr);
-  fixed = search rules;
+  single = search rules;
   same = λ u. refl;
   formed = λ u unnamed. unnamed;
   one = λ u. refl;

@@ -1,6 +1,6 @@
 -- The table of error causes (RFC 9260 section 3.3.10).
 use Rattle.std.specs.{Prelude.{◌≡◌, ◌≢◌, ℕ, Bool, List, [], ◌∷◌, map}, String.{string_len, string_capacity}, Str.{IsUtf8}}
-use Rattle.dcsctp_tlv.specs.{Frame.{Item, lenient}, Image.{Tlv}, Level.{Row, Level}, Table.{Named, IsUnnamed, is_fixed, is_text, types_where, IsOneOf, ◌&◌}, Format.{Format}, Tight.{IsTightList}, Kinds.{Kind, TreesOf, rows, Entry, Of, Unnamed, format_of}, Typed.{item_type, typed_row, typed_level}}
+use Rattle.dcsctp_tlv.specs.{Frame.{Item, lenient}, Image.{Tlv}, Level.{Row, Level}, Table.{Named, IsUnnamed, is_fixed, is_text, types_where, IsOneOf}, Format.{Format}, Tight.{IsTightList}, Kinds.{Kind, Member, member, kinds_of, rows, Entry, Of, Unnamed, format_of}, Typed.{item_type, typed_row, typed_level}}
 use Rattle.dcsctp_tlv.specs.UnknownParameter as unknown
 use Rattle.dcsctp_cause.specs as kind
 use Rattle.dcsctp_cause.specs.declared.error_causes.ErrorCause.{ErrorCause}
@@ -16,23 +16,22 @@ pub data CauseTree : Type 0 where
   ProtocolViolation : List ℕ → CauseTree
   Unknown : unknown.Tree → CauseTree
 
--- the kinds that are named, by code; and their trees as trees of a cause, in the same order
-abbrev pub kinds : List Kind
-kinds =
-    kind.MissingMandatoryParameter.kind ∷
-    kind.UnrecognizedChunk.kind ∷
-    kind.NoUserData.kind ∷
-    kind.CookieReceivedWhileShuttingDown.kind ∷
-    kind.UserInitiatedAbort.kind ∷
-    kind.ProtocolViolation.kind ∷ []
+-- the kinds that are named, by code
+abbrev pub members : List (Member CauseTree)
+members =
+    member kind.MissingMandatoryParameter.kind MissingMandatoryParameter ∷  -- 2
+    member kind.UnrecognizedChunk.kind UnrecognizedChunk ∷  -- 6
+    member kind.NoUserData.kind NoUserData ∷  -- 9
+    member kind.CookieReceivedWhileShuttingDown.kind (λ _. CookieReceivedWhileShuttingDown) ∷  -- 10
+    member kind.UserInitiatedAbort.kind UserInitiatedAbort ∷  -- 12
+    member kind.ProtocolViolation.kind ProtocolViolation ∷  -- 13
+    []
 
-abbrev pub trees : TreesOf kinds CauseTree
-trees =
-    MissingMandatoryParameter & UnrecognizedChunk & NoUserData
-    & (λ _. CookieReceivedWhileShuttingDown) & UserInitiatedAbort & ProtocolViolation & tt
+abbrev pub kinds : List Kind
+kinds = kinds_of members
 
 abbrev pub table : List (Named CauseTree)
-table = rows lenient 0 kinds trees
+table = rows lenient 0 members
 
 -- what the value of a code means, and its faults
 abbrev pub row : ℕ → Row CauseTree

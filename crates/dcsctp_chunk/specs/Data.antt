@@ -3,7 +3,7 @@
 -- and the others are ignored; the value begins with the TSN in four bytes and the stream id in two,
 -- and ends with the payload.
 use Rattle.std.specs.{Prelude.{ℕ, ◌<◌, ◌^◌, Bool, false, List, [], ◌∷◌, ◌++◌, not, if◌then◌else◌, length, codes}, Fmt.{decimal}}
-use Rattle.dcsctp_types.specs.{StreamKey.{stream_of, is_ordered_key}, declared.types.tsn.Tsn.{Tsn}, declared.api.stream_id.StreamId.{StreamId}}
+use Rattle.dcsctp_types.specs.{StreamKey.{stream_of, is_ordered_key}, declared.types.tsn.Tsn.{Tsn}}
 use Rattle.dcsctp_tlv.specs.Kind.{AreBytes}
 use Rattle.dcsctp_chunk.specs.{Flags.{is_set, flag_byte}, declared.data.Data.{Data}}
 
@@ -69,12 +69,12 @@ pub record Tree : Type 0 where
   pub immediate_ack : Bool
 
 -- what the flags, the TSN and the stream id say of user data with these other numbers
-abbrev pub chunk_of : ℕ → Tsn → StreamId → DataTree → Tree
-chunk_of flags tsn stream_id numbers = record {
-  tsn = tsn.0;
+abbrev pub chunk_of : ℕ → ℕ → ℕ → DataTree → Tree
+chunk_of flags tsn stream numbers = record {
+  tsn = tsn;
   user_data = record numbers {
     unordered = is_set flags 2;
-    stream = stream_id.0;
+    stream = stream;
     beginning = is_set flags 1;
     ending = is_set flags 0;
   };

@@ -4,38 +4,22 @@ use Rattle.std.specs.{Prelude.{◌≡◌, ℕ, ◌+◌, List, ◌++◌, nat_lt, 
 use Rattle.dcsctp_tlv.{specs.Kind.{Fault, Length, number16, number32, Format, flagged_tlv, Kind, kept_kind, Varied}, proofs.Lengths.{length-fixed}}
 use Rattle.dcsctp_chunk.specs.{Data.{Tree, no_data, chunk_of, flags_of, text, tree_of, IsInWidth}, declared.data_chunk.{DataChunk.{DataChunk}, DataNumbers.{DataNumbers}}}
 
--- the numbers before the payload, as they are read and written
-abbrev pub numbers_at : List ℕ → DataNumbers
-numbers_at value = record {
-  tsn = record { 0 = number32 value };
-  stream_id = record { 0 = number16 (drop 4 value) };
-  ssn = record { 0 = number16 (drop 6 value) };
-  ppid = record { 0 = number32 (drop 8 value) };
-}
-
-abbrev pub number_bytes : DataNumbers → List ℕ
-number_bytes n =
-    to_be_bytes w32 n.tsn.0 ++ (to_be_bytes w16 n.stream_id.0
-    ++ (to_be_bytes w16 n.ssn.0 ++ to_be_bytes w32 n.ppid.0))
-
 abbrev pub read : ℕ → List ℕ → Result Tree Fault
 read flags value =
-    let n = numbers_at value in
     if nat_lt (length value) 12 then Err Length else
-    Ok (chunk_of flags n.tsn n.stream_id (record no_data {
-      ssn = n.ssn.0;
-      ppid = n.ppid.0;
+    Ok (chunk_of flags (number32 value) (number16 (drop 4 value)) (record no_data {
+      ssn = number16 (drop 6 value);
+      ppid = number32 (drop 8 value);
       payload = drop 12 value;
     }))
 
 -- the value as it is written: what is before the payload, and the payload
+abbrev pub leading : ℕ → ℕ → ℕ → ℕ → List ℕ
+leading tsn stream ssn ppid =
+    to_be_bytes w32 tsn ++ (to_be_bytes w16 stream ++ (to_be_bytes w16 ssn ++ to_be_bytes w32 ppid))
+
 abbrev pub fixed : Tree → List ℕ
-fixed c = number_bytes (record {
-  tsn = record { 0 = c.tsn };
-  stream_id = record { 0 = c.user_data.stream };
-  ssn = record { 0 = c.user_data.ssn };
-  ppid = record { 0 = c.user_data.ppid };
-})
+fixed c = leading c.tsn c.user_data.stream c.user_data.ssn c.user_data.ppid
 
 abbrev pub bytes : Tree → List ℕ
 bytes c = fixed c ++ c.user_data.payload
@@ -53,6 +37,18 @@ format c = record {
   IsInWidth = IsInWidth c;
   IsWellFormed = IsWellFormed c;
 }
+
+-- the numbers of the code before the payload, as they are read and written
+abbrev pub numbers_at : List ℕ → DataNumbers
+numbers_at value = record {
+  tsn = record { 0 = number32 value };
+  stream_id = record { 0 = number16 (drop 4 value) };
+  ssn = record { 0 = number16 (drop 6 value) };
+  ppid = record { 0 = number32 (drop 8 value) };
+}
+
+abbrev pub number_bytes : DataNumbers → List ℕ
+number_bytes n = leading n.tsn.0 n.stream_id.0 n.ssn.0 n.ppid.0
 
 abbrev pub view : DataChunk → Tree
 view c = tree_of c.tsn c.user_data c.immediate_ack

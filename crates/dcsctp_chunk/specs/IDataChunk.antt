@@ -6,28 +6,13 @@ use Rattle.std.specs.{Prelude.{◌≡◌, ℕ, ◌+◌, List, ◌++◌, nat_lt, 
 use Rattle.dcsctp_tlv.{specs.Kind.{Fault, Length, number16, number32, Format, flagged_tlv, Kind, kept_kind, Varied}, proofs.Lengths.{length-fixed}}
 use Rattle.dcsctp_chunk.specs.{Data.{DataTree, Tree, no_data, chunk_of, flags_of, text, tree_of, IsInWidth}, Flags.{is_set}, declared.idata_chunk.{IDataChunk.{IDataChunk}, IDataNumbers.{IDataNumbers}}}
 
--- the numbers before the payload, as they are read and written
-abbrev pub numbers_at : List ℕ → IDataNumbers
-numbers_at value = record {
-  tsn = record { 0 = number32 value };
-  stream_id = record { 0 = number16 (drop 4 value) };
-  mid = record { 0 = number32 (drop 8 value) };
-  ppid_or_fsn = number32 (drop 12 value);
-}
-
-abbrev pub number_bytes : IDataNumbers → List ℕ
-number_bytes n =
-    to_be_bytes w32 n.tsn.0 ++ (to_be_bytes w16 n.stream_id.0 ++ (to_be_bytes w16 0
-    ++ (to_be_bytes w32 n.mid.0 ++ to_be_bytes w32 n.ppid_or_fsn)))
-
 abbrev pub read : ℕ → List ℕ → Result Tree Fault
 read flags value =
-    let n = numbers_at value in
     if nat_lt (length value) 16 then Err Length else
-    Ok (chunk_of flags n.tsn n.stream_id (record no_data {
-      mid = n.mid.0;
-      fsn = if is_set flags 1 then 0 else n.ppid_or_fsn;
-      ppid = if is_set flags 1 then n.ppid_or_fsn else 0;
+    Ok (chunk_of flags (number32 value) (number16 (drop 4 value)) (record no_data {
+      mid = number32 (drop 8 value);
+      fsn = if is_set flags 1 then 0 else number32 (drop 12 value);
+      ppid = if is_set flags 1 then number32 (drop 12 value) else 0;
       payload = drop 16 value;
     }))
 
@@ -36,13 +21,13 @@ abbrev pub ppid_or_fsn : DataTree → ℕ
 ppid_or_fsn d = if d.beginning then d.ppid else d.fsn
 
 -- the value as it is written: what is before the payload, and the payload
+abbrev pub leading : ℕ → ℕ → ℕ → ℕ → List ℕ
+leading tsn stream mid ppid_or_fsn =
+    to_be_bytes w32 tsn ++ (to_be_bytes w16 stream ++ (to_be_bytes w16 0
+    ++ (to_be_bytes w32 mid ++ to_be_bytes w32 ppid_or_fsn)))
+
 abbrev pub fixed : Tree → List ℕ
-fixed c = number_bytes (record {
-  tsn = record { 0 = c.tsn };
-  stream_id = record { 0 = c.user_data.stream };
-  mid = record { 0 = c.user_data.mid };
-  ppid_or_fsn = ppid_or_fsn c.user_data;
-})
+fixed c = leading c.tsn c.user_data.stream c.user_data.mid (ppid_or_fsn c.user_data)
 
 abbrev pub bytes : Tree → List ℕ
 bytes c = fixed c ++ c.user_data.payload
@@ -61,6 +46,18 @@ format c = record {
   IsInWidth = IsInWidth c;
   IsWellFormed = IsWellFormed c;
 }
+
+-- the numbers of the code before the payload, as they are read and written
+abbrev pub numbers_at : List ℕ → IDataNumbers
+numbers_at value = record {
+  tsn = record { 0 = number32 value };
+  stream_id = record { 0 = number16 (drop 4 value) };
+  mid = record { 0 = number32 (drop 8 value) };
+  ppid_or_fsn = number32 (drop 12 value);
+}
+
+abbrev pub number_bytes : IDataNumbers → List ℕ
+number_bytes n = leading n.tsn.0 n.stream_id.0 n.mid.0 n.ppid_or_fsn
 
 abbrev pub view : IDataChunk → Tree
 view c = tree_of c.tsn c.user_data c.immediate_ack

@@ -19,44 +19,25 @@ block_at bytes = record { start = number16 bytes; end = number16 (drop 2 bytes) 
 abbrev pub block_bytes : GapAckBlock → List ℕ
 block_bytes b = numbers w16 (b.start ∷ b.end ∷ [])
 
--- the numbers before the lists, as they are read and written
-abbrev pub numbers_at : List ℕ → SackNumbers
-numbers_at value = record {
-  cumulative_tsn_ack = record { 0 = number32 value };
-  a_rwnd = number32 (drop 4 value);
-  gap_ack_block_count = number16 (drop 8 value);
-  duplicate_tsn_count = number16 (drop 10 value);
-}
-
-abbrev pub number_bytes : SackNumbers → List ℕ
-number_bytes n =
-    numbers w32 (n.cumulative_tsn_ack.0 ∷ n.a_rwnd ∷ [])
-    ++ numbers w16 (n.gap_ack_block_count ∷ n.duplicate_tsn_count ∷ [])
-
--- the size of a value with as many blocks and duplicates as the numbers say
-abbrev pub size_of_value : SackNumbers → ℕ
-size_of_value n = 12 + 4 * n.gap_ack_block_count + 4 * n.duplicate_tsn_count
-
 abbrev pub read : List ℕ → Result Tree Fault
 read value =
-    let n = numbers_at value in
-    if length value == size_of_value n then Ok (record {
-      tsn = n.cumulative_tsn_ack.0;
-      a_rwnd = n.a_rwnd;
-      blocks = fields block_at 4 n.gap_ack_block_count (drop 12 value);
-      duplicates =
-          fields number32 4 n.duplicate_tsn_count (drop (12 + 4 * n.gap_ack_block_count) value);
+    let blocks = number16 (drop 8 value) in
+    let duplicates = number16 (drop 10 value) in
+    if length value == 12 + 4 * blocks + 4 * duplicates then Ok (record {
+      tsn = number32 value;
+      a_rwnd = number32 (drop 4 value);
+      blocks = fields block_at 4 blocks (drop 12 value);
+      duplicates = fields number32 4 duplicates (drop (12 + 4 * blocks) value);
     }) else
     Err Length
 
 -- the value as it is written: what is before the lists, and the lists
+abbrev pub leading : ℕ → ℕ → ℕ → ℕ → List ℕ
+leading tsn a_rwnd blocks duplicates =
+    numbers w32 (tsn ∷ a_rwnd ∷ []) ++ numbers w16 (blocks ∷ duplicates ∷ [])
+
 abbrev pub fixed : Tree → List ℕ
-fixed s = number_bytes (record {
-  cumulative_tsn_ack = record { 0 = s.tsn };
-  a_rwnd = s.a_rwnd;
-  gap_ack_block_count = length s.blocks;
-  duplicate_tsn_count = length s.duplicates;
-})
+fixed s = leading s.tsn s.a_rwnd (length s.blocks) (length s.duplicates)
 
 abbrev pub lists : Tree → List ℕ
 lists s = flat_map block_bytes s.blocks ++ numbers w32 s.duplicates
@@ -87,6 +68,23 @@ format s = record {
   IsInWidth = IsInWidth s;
   IsWellFormed = Unit {0};
 }
+
+-- the numbers of the code before the lists, as they are read and written
+abbrev pub numbers_at : List ℕ → SackNumbers
+numbers_at value = record {
+  cumulative_tsn_ack = record { 0 = number32 value };
+  a_rwnd = number32 (drop 4 value);
+  gap_ack_block_count = number16 (drop 8 value);
+  duplicate_tsn_count = number16 (drop 10 value);
+}
+
+abbrev pub number_bytes : SackNumbers → List ℕ
+number_bytes n =
+    leading n.cumulative_tsn_ack.0 n.a_rwnd n.gap_ack_block_count n.duplicate_tsn_count
+
+-- the size of a value with as many blocks and duplicates as they say
+abbrev pub size_of_value : SackNumbers → ℕ
+size_of_value n = 12 + 4 * n.gap_ack_block_count + 4 * n.duplicate_tsn_count
 
 abbrev pub duplicate_numbers : List Tsn → List ℕ
 duplicate_numbers tsns = map (λ tsn. tsn.0) tsns

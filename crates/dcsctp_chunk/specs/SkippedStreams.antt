@@ -41,13 +41,6 @@ pub record Tree : Type 0 where
 abbrev pub tree_of : Tsn → List SkippedStream → Tree
 tree_of tsn streams = record { tsn = tsn.0; streams = skipped_stream_views streams }
 
--- the number before the streams, as it is read and written
-abbrev pub numbers_at : List ℕ → ForwardTsnNumbers
-numbers_at value = record { new_cumulative_tsn = record { 0 = number32 value } }
-
-abbrev pub number_bytes : ForwardTsnNumbers → List ℕ
-number_bytes n = to_be_bytes w32 n.new_cumulative_tsn.0
-
 -- how many streams of a size follow the TSN
 abbrev pub stream_count : ℕ → List ℕ → ℕ
 stream_count size value = (length value - 4) / size
@@ -57,10 +50,17 @@ stream_count size value = (length value - 4) / size
 abbrev pub read_of : (List ℕ → SkippedStreamTree) → ℕ → List ℕ → Result Tree Fault
 read_of stream_at size value =
     if length value == 4 + size * stream_count size value then Ok (record {
-      tsn = (numbers_at value).new_cumulative_tsn.0;
+      tsn = number32 value;
       streams = fields stream_at size (stream_count size value) (drop 4 value);
     }) else
     Err Length
+
+-- the number of the code before the streams, as it is read and written
+abbrev pub numbers_at : List ℕ → ForwardTsnNumbers
+numbers_at value = record { new_cumulative_tsn = record { 0 = number32 value } }
+
+abbrev pub number_bytes : ForwardTsnNumbers → List ℕ
+number_bytes n = to_be_bytes w32 n.new_cumulative_tsn.0
 
 -- every number lies in its field's width
 pub record IsInWidth (t : Tree) : Type 0 where

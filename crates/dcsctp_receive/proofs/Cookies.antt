@@ -17,13 +17,15 @@ read_of_written c fits = λ i.
       lifespan = from_be_bytes-to_be_bytes_8 c.lifespan fits.lifespan i;
       local_tag = from_be_bytes-to_be_bytes_4 c.local_tag fits.local_tag i;
       peer_tag = from_be_bytes-to_be_bytes_4 c.peer_tag fits.peer_tag i;
+      local_tie_tag = from_be_bytes-to_be_bytes_4 c.local_tie_tag fits.local_tie_tag i;
+      peer_tie_tag = from_be_bytes-to_be_bytes_4 c.peer_tie_tag fits.peer_tie_tag i;
       local_initial_tsn = from_be_bytes-to_be_bytes_4 c.local_initial_tsn fits.local_initial_tsn i;
       peer_initial_tsn = from_be_bytes-to_be_bytes_4 c.peer_initial_tsn fits.peer_initial_tsn i;
       local_port = from_be_bytes-to_be_bytes_2 c.local_port fits.local_port i;
       peer_port = from_be_bytes-to_be_bytes_2 c.peer_port fits.peer_port i;
       outbound_streams = from_be_bytes-to_be_bytes_2 c.outbound_streams fits.outbound_streams i;
       inbound_streams = from_be_bytes-to_be_bytes_2 c.inbound_streams fits.inbound_streams i;
-      addresses = c.addresses;
+      extra = c.extra;
     }
 
 -- ---- what was read is written as it was
@@ -69,7 +71,7 @@ again_2 n bytes fits size =
     (are_bytes n 2 bytes fits) refl)
     ∙ split_at n 2 bytes
 
-pub written_of_read : (bytes : List ℕ) → AreBytes bytes → 40 ≤ length bytes
+pub written_of_read : (bytes : List ℕ) → AreBytes bytes → 48 ≤ length bytes
     → body (body_read bytes) ≡ bytes
 written_of_read bytes fits size =
     let at_0 = to_be_bytes w64 (number64 bytes) in
@@ -78,22 +80,28 @@ written_of_read bytes fits size =
     let at_20 = to_be_bytes w32 (number32 (drop 20 bytes)) in
     let at_24 = to_be_bytes w32 (number32 (drop 24 bytes)) in
     let at_28 = to_be_bytes w32 (number32 (drop 28 bytes)) in
-    let at_32 = to_be_bytes w16 (number16 (drop 32 bytes)) in
-    let at_34 = to_be_bytes w16 (number16 (drop 34 bytes)) in
-    let at_36 = to_be_bytes w16 (number16 (drop 36 bytes)) in
+    let at_32 = to_be_bytes w32 (number32 (drop 32 bytes)) in
+    let at_36 = to_be_bytes w32 (number32 (drop 36 bytes)) in
+    let at_40 = to_be_bytes w16 (number16 (drop 40 bytes)) in
+    let at_42 = to_be_bytes w16 (number16 (drop 42 bytes)) in
+    let at_44 = to_be_bytes w16 (number16 (drop 44 bytes)) in
     let to_8 : List ℕ → List ℕ = λ rest. at_0 ++ rest in
     let to_16 : List ℕ → List ℕ = λ rest. to_8 (at_8 ++ rest) in
     let to_20 : List ℕ → List ℕ = λ rest. to_16 (at_16 ++ rest) in
     let to_24 : List ℕ → List ℕ = λ rest. to_20 (at_20 ++ rest) in
     let to_28 : List ℕ → List ℕ = λ rest. to_24 (at_24 ++ rest) in
     let to_32 : List ℕ → List ℕ = λ rest. to_28 (at_28 ++ rest) in
-    let to_34 : List ℕ → List ℕ = λ rest. to_32 (at_32 ++ rest) in
-    let to_36 : List ℕ → List ℕ = λ rest. to_34 (at_34 ++ rest) in
-    let to_38 : List ℕ → List ℕ = λ rest. to_36 (at_36 ++ rest) in
-    ap to_38 (again_2 38 bytes fits (omega arith))
-    ∙ ap to_36 (again_2 36 bytes fits (omega arith))
-    ∙ ap to_34 (again_2 34 bytes fits (omega arith))
-    ∙ ap to_32 (again_2 32 bytes fits (omega arith))
+    let to_36 : List ℕ → List ℕ = λ rest. to_32 (at_32 ++ rest) in
+    let to_40 : List ℕ → List ℕ = λ rest. to_36 (at_36 ++ rest) in
+    let to_42 : List ℕ → List ℕ = λ rest. to_40 (at_40 ++ rest) in
+    let to_44 : List ℕ → List ℕ = λ rest. to_42 (at_42 ++ rest) in
+    let to_46 : List ℕ → List ℕ = λ rest. to_44 (at_44 ++ rest) in
+    ap to_46 (again_2 46 bytes fits (omega arith))
+    ∙ ap to_44 (again_2 44 bytes fits (omega arith))
+    ∙ ap to_42 (again_2 42 bytes fits (omega arith))
+    ∙ ap to_40 (again_2 40 bytes fits (omega arith))
+    ∙ ap to_36 (again_4 36 bytes fits (omega arith))
+    ∙ ap to_32 (again_4 32 bytes fits (omega arith))
     ∙ ap to_28 (again_4 28 bytes fits (omega arith))
     ∙ ap to_24 (again_4 24 bytes fits (omega arith))
     ∙ ap to_20 (again_4 20 bytes fits (omega arith))
@@ -104,7 +112,7 @@ written_of_read bytes fits size =
 -- ---- the MAC at the front
 
 -- bytes that begin with their MAC are those of a cookie
-pub authentic_is_cookie : (key bytes : List ℕ) → AreBytes bytes → 72 ≤ length bytes
+pub authentic_is_cookie : (key bytes : List ℕ) → AreBytes bytes → 80 ≤ length bytes
     → IsAuthentic key bytes → bytes ≡ cookie_bytes key (body_read (drop 32 bytes))
 authentic_is_cookie key bytes fits size authentic =
     let rest = drop 32 bytes in
@@ -115,7 +123,7 @@ authentic_is_cookie key bytes fits size authentic =
     ∙ ap (λ text. hmac Sha256 key text ++ text) (sym same)
 
 pub record IsSealed (key : List ℕ) (c : CookieTree) (bytes : List ℕ) : Type 0 where
-  pub size : 72 ≤ length bytes
+  pub size : 80 ≤ length bytes
   pub authentic : IsAuthentic key bytes
   pub rest : drop 32 bytes ≡ body c
 
@@ -131,7 +139,7 @@ cookie_is_sealed key c bytes is =
         ap length is,
         length-append mac (body c),
         length-append (fixed_bytes c)
-            c.addresses,
+            c.extra,
         long,
       );
       authentic = ap (take 32) is ∙ take_at mac (body c) 32 long
@@ -147,7 +155,7 @@ same_cookie key c t bytes fits is read =
     ∙ read_of_written c fits
 
 pub was_sealed : (key bytes : List ℕ) (t : CookieTree) → AreBytes bytes
-    → (72 ≤ length bytes) × IsAuthentic key bytes
+    → (80 ≤ length bytes) × IsAuthentic key bytes
     → t ≡ body_read (take (length bytes - 32) (drop 32 bytes)) → bytes ≡ cookie_bytes key t
 was_sealed key bytes t fits sealed read =
     authentic_is_cookie key bytes fits sealed.0 sealed.1

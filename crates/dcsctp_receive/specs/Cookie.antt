@@ -1,7 +1,7 @@
 -- State Cookies (RFC 9260 section 5.1.3): a MAC, and after it what it authenticates.
 --
---   | MAC, 32 bytes | created u64 | lifespan u64 | tags u32 u32 | initial TSNs u32 u32
---   | ports u16 u16 | streams u16 u16 | addresses .. |
+--   | MAC, 32 bytes | created u64 | lifespan u64 | tags u32 u32 | Tie-Tags u32 u32
+--   | initial TSNs u32 u32 | ports u16 u16 | streams u16 u16 | extra .. |
 use Rattle.std.specs.Prelude.{◌≡◌, ℕ, ◌+◌, ◌<◌, ◌≤◌, ◌^◌, List, [], ◌∷◌, ◌++◌, drop, take}
 use Rattle.std.specs.Int.{w16, w32, w64}
 use Rattle.dcsctp_tlv.specs.Number.{number16, number32, number64, numbers}
@@ -17,13 +17,15 @@ pub record CookieTree : Type 0 where
   pub lifespan : ℕ
   pub local_tag : ℕ
   pub peer_tag : ℕ
+  pub local_tie_tag : ℕ
+  pub peer_tie_tag : ℕ
   pub local_initial_tsn : ℕ
   pub peer_initial_tsn : ℕ
   pub local_port : ℕ
   pub peer_port : ℕ
   pub outbound_streams : ℕ
   pub inbound_streams : ℕ
-  pub addresses : List ℕ
+  pub extra : List ℕ
 
 -- the struct
 abbrev pub view : StateCookie → CookieTree
@@ -33,13 +35,15 @@ view c =
       lifespan = c.lifespan;
       local_tag = c.local_tag;
       peer_tag = c.peer_tag;
+      local_tie_tag = c.local_tie_tag;
+      peer_tie_tag = c.peer_tie_tag;
       local_initial_tsn = c.local_initial_tsn;
       peer_initial_tsn = c.peer_initial_tsn;
       local_port = c.local_port;
       peer_port = c.peer_port;
       outbound_streams = c.outbound_streams;
       inbound_streams = c.inbound_streams;
-      addresses = c.addresses.now;
+      extra = c.extra.now;
     }
 
 -- each number is small enough for its field
@@ -48,6 +52,8 @@ pub record IsInWidth (c : CookieTree) : Type 0 where
   pub lifespan : c.lifespan < 2 ^ 64
   pub local_tag : c.local_tag < 2 ^ 32
   pub peer_tag : c.peer_tag < 2 ^ 32
+  pub local_tie_tag : c.local_tie_tag < 2 ^ 32
+  pub peer_tie_tag : c.peer_tie_tag < 2 ^ 32
   pub local_initial_tsn : c.local_initial_tsn < 2 ^ 32
   pub peer_initial_tsn : c.peer_initial_tsn < 2 ^ 32
   pub local_port : c.local_port < 2 ^ 16
@@ -61,12 +67,13 @@ pub record IsInWidth (c : CookieTree) : Type 0 where
 abbrev pub fixed_bytes : CookieTree → List ℕ
 fixed_bytes c =
     numbers w64 (c.created ∷ c.lifespan ∷ [])
-    ++ (numbers w32 (c.local_tag ∷ c.peer_tag ∷ c.local_initial_tsn ∷ c.peer_initial_tsn ∷ [])
+    ++ (numbers w32 (c.local_tag ∷ c.peer_tag ∷ c.local_tie_tag ∷ c.peer_tie_tag
+    ∷ c.local_initial_tsn ∷ c.peer_initial_tsn ∷ [])
     ++ numbers w16 (c.local_port ∷ c.peer_port ∷ c.outbound_streams ∷ c.inbound_streams ∷ []))
 
 -- what the MAC authenticates
 abbrev pub body : CookieTree → List ℕ
-body c = fixed_bytes c ++ c.addresses
+body c = fixed_bytes c ++ c.extra
 
 -- the cookie under a key
 abbrev pub cookie_bytes : List ℕ → CookieTree → List ℕ
@@ -80,13 +87,15 @@ body_read bytes =
       lifespan = number64 (drop 8 bytes);
       local_tag = number32 (drop 16 bytes);
       peer_tag = number32 (drop 20 bytes);
-      local_initial_tsn = number32 (drop 24 bytes);
-      peer_initial_tsn = number32 (drop 28 bytes);
-      local_port = number16 (drop 32 bytes);
-      peer_port = number16 (drop 34 bytes);
-      outbound_streams = number16 (drop 36 bytes);
-      inbound_streams = number16 (drop 38 bytes);
-      addresses = drop 40 bytes;
+      local_tie_tag = number32 (drop 24 bytes);
+      peer_tie_tag = number32 (drop 28 bytes);
+      local_initial_tsn = number32 (drop 32 bytes);
+      peer_initial_tsn = number32 (drop 36 bytes);
+      local_port = number16 (drop 40 bytes);
+      peer_port = number16 (drop 42 bytes);
+      outbound_streams = number16 (drop 44 bytes);
+      inbound_streams = number16 (drop 46 bytes);
+      extra = drop 48 bytes;
     }
 
 -- ---- opening

@@ -17,9 +17,9 @@ use dcsctp_tlv::number::{put_u16, put_u32, read_u16_be, read_u32_be, read_u64_be
 const MAC_SIZE: usize = 32;
 
 /// The bytes of the numbers after the MAC.
-const NUMBERS_SIZE: usize = 40;
+const NUMBERS_SIZE: usize = 48;
 
-/// The bytes of a cookie without addresses.
+/// The bytes of a cookie without further bytes.
 pub const MIN_COOKIE_SIZE: usize = MAC_SIZE + NUMBERS_SIZE;
 
 /// What a State Cookie says: what its sender needs to set up the association, when it was created,
@@ -36,6 +36,10 @@ pub struct StateCookie<'a> {
     pub local_tag: u32,
     /// The Initiate Tag of the INIT.
     pub peer_tag: u32,
+    /// The Local Tie-Tag (RFC 9260 section 5.2.2): 0 where the INIT came without an association.
+    pub local_tie_tag: u32,
+    /// The Peer's Tie-Tag (RFC 9260 section 5.2.2): 0 where the INIT came without an association.
+    pub peer_tie_tag: u32,
     /// The Initial TSN of the INIT ACK.
     pub local_initial_tsn: u32,
     /// The Initial TSN of the INIT.
@@ -49,8 +53,8 @@ pub struct StateCookie<'a> {
     /// How many streams the peer sends on.
     pub inbound_streams: u16,
     /// Further bytes of the caller's, of any length: the peer's addresses, the parameters of its
-    /// INIT.
-    pub addresses: &'a [u8],
+    /// INIT, AUTH's key vectors.
+    pub extra: &'a [u8],
 }
 
 /// What a cookie is, at the time at which it is opened (RFC 9260 section 5.1.5).
@@ -66,27 +70,27 @@ pub enum OpenedCookie<'a> {
     Invalid,
 }
 
-/// Writes the cookie to the front of the buffer, sealed under a key of any length: 72 bytes, and
-/// the addresses. Returns its size.
+/// Writes the cookie to the front of the buffer, sealed under a key of any length: 80 bytes, and
+/// the further ones. Returns its size.
 ///
 /// Returns `None`, and changes nothing, if and only if the buffer has no room for it. All bytes
 /// after it stay.
 pub fn seal_cookie(buffer: &mut [u8], key: &[u8], cookie: &StateCookie) -> Option<usize>
-    ensures room { IsSome result ↔ (72 + length cookie.now.addresses.now ≤ length buffer.old) }
-    ensures size { IfSome result (λ size. size ≡ 72 + length cookie.now.addresses.now) }
+    ensures room { IsSome result ↔ (80 + length cookie.now.extra.now ≤ length buffer.old) }
+    ensures size { IfSome result (λ size. size ≡ 80 + length cookie.now.extra.now) }
     ensures bytes { IfSome result (λ size. buffer.new
         ≡ put buffer.old 0 (cookie_bytes key.now (view cookie.now))) }
     ensures width { IsSome result → IsInWidth (view cookie.now) }
     ensures unchanged { IfNone result (buffer.new ≡ buffer.old) }
 {
-    let addresses = cookie.addresses;
-    if buffer.len() < MIN_COOKIE_SIZE || buffer.len() - MIN_COOKIE_SIZE < addresses.len() {
+    let extra = cookie.extra;
+    if buffer.len() < MIN_COOKIE_SIZE || buffer.len() - MIN_COOKIE_SIZE < extra.len() {
         return None;
     }
     let fixed = fixed_bytes(cookie);
-    let mac = body_mac(key, &fixed, addresses);
-    put_three(buffer, mac.as_bytes(), &fixed, addresses);
-    Some(MIN_COOKIE_SIZE + addresses.len())
+    let mac = body_mac(key, &fixed, extra);
+    put_three(buffer, mac.as_bytes(), &fixed, extra);
+    Some(MIN_COOKIE_SIZE + extra.len())
 }
 
 /// Reads a cookie that was sealed under the key, at a time in microseconds on the same clock.
@@ -118,7 +122,7 @@ pub fn open_cookie<'a>(key: &[u8], bytes: &'a [u8], now: u64) -> OpenedCookie<'a
 
 /// Returns whether the bytes are as long as a cookie is, and begin with the MAC over the rest.
 fn is_authentic(key: &[u8], bytes: &[u8]) -> bool
-    ensures { IsTrue result ↔ ((72 ≤ length bytes.now) × IsAuthentic key.now bytes.now) }
+    ensures { IsTrue result ↔ ((80 ≤ length bytes.now) × IsAuthentic key.now bytes.now) }
 {
     if bytes.len() < MIN_COOKIE_SIZE {
         return false;
@@ -128,13 +132,13 @@ fn is_authentic(key: &[u8], bytes: &[u8]) -> bool
     are_equal(front, mac.as_bytes())
 }
 
-/// Returns the MAC over these numbers and addresses.
-fn body_mac(key: &[u8], fixed: &[u8], addresses: &[u8]) -> Mac
-    ensures { mac_bytes result ≡ hmac Sha256 key.now (fixed.now ++ addresses.now) }
+/// Returns the MAC over these numbers and further bytes.
+fn body_mac(key: &[u8], fixed: &[u8], extra: &[u8]) -> Mac
+    ensures { mac_bytes result ≡ hmac Sha256 key.now (fixed.now ++ extra.now) }
 {
     let mut hmac = Hmac::new(HashFunction::Sha256, key);
     hmac.update(fixed);
-    hmac.update(addresses);
+    hmac.update(extra);
     hmac.finalize()
 }
 
@@ -148,18 +152,20 @@ fn fixed_bytes(cookie: &StateCookie) -> [u8; NUMBERS_SIZE]
     put_bytes(&mut bytes, 8, &cookie.lifespan.to_be_bytes());
     put_u32(&mut bytes, 16, cookie.local_tag);
     put_u32(&mut bytes, 20, cookie.peer_tag);
-    put_u32(&mut bytes, 24, cookie.local_initial_tsn);
-    put_u32(&mut bytes, 28, cookie.peer_initial_tsn);
-    put_u16(&mut bytes, 32, cookie.local_port);
-    put_u16(&mut bytes, 34, cookie.peer_port);
-    put_u16(&mut bytes, 36, cookie.outbound_streams);
-    put_u16(&mut bytes, 38, cookie.inbound_streams);
+    put_u32(&mut bytes, 24, cookie.local_tie_tag);
+    put_u32(&mut bytes, 28, cookie.peer_tie_tag);
+    put_u32(&mut bytes, 32, cookie.local_initial_tsn);
+    put_u32(&mut bytes, 36, cookie.peer_initial_tsn);
+    put_u16(&mut bytes, 40, cookie.local_port);
+    put_u16(&mut bytes, 42, cookie.peer_port);
+    put_u16(&mut bytes, 44, cookie.outbound_streams);
+    put_u16(&mut bytes, 46, cookie.inbound_streams);
     bytes
 }
 
 /// Reads what the MAC authenticates.
 fn read_body(body: &[u8]) -> StateCookie
-    requires { 40 ≤ length body.now }
+    requires { 48 ≤ length body.now }
     ensures value { view result ≡ body_read body.now }
     ensures width { IsInWidth (view result) }
 {
@@ -168,12 +174,14 @@ fn read_body(body: &[u8]) -> StateCookie
         lifespan: read_u64_be(&body[8..]),
         local_tag: read_u32_be(&body[16..]),
         peer_tag: read_u32_be(&body[20..]),
-        local_initial_tsn: read_u32_be(&body[24..]),
-        peer_initial_tsn: read_u32_be(&body[28..]),
-        local_port: read_u16_be(&body[32..]),
-        peer_port: read_u16_be(&body[34..]),
-        outbound_streams: read_u16_be(&body[36..]),
-        inbound_streams: read_u16_be(&body[38..]),
-        addresses: &body[NUMBERS_SIZE..],
+        local_tie_tag: read_u32_be(&body[24..]),
+        peer_tie_tag: read_u32_be(&body[28..]),
+        local_initial_tsn: read_u32_be(&body[32..]),
+        peer_initial_tsn: read_u32_be(&body[36..]),
+        local_port: read_u16_be(&body[40..]),
+        peer_port: read_u16_be(&body[42..]),
+        outbound_streams: read_u16_be(&body[44..]),
+        inbound_streams: read_u16_be(&body[46..]),
+        extra: &body[NUMBERS_SIZE..],
     }
 }

@@ -1,5 +1,3 @@
 pub mod Kept
-pub mod NrSacks
+pub mod ReadBack
 pub mod Walks
-pub mod Written
-pub mod WrittenChunks

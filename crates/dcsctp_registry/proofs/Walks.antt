@@ -1,8 +1,7 @@
--- A walk over bytes that are items, or aren't: what is known of what is left.
-use Rattle.std.proofs.Common.{◌≡◌, ◌≢◌, ◌≤◌, ◌&&◌, ℕ, zero, suc, Bool, true, false, List, [], ◌∷◌, ◌++◌, length, refl, ◌∙◌, arith, Some}
-use Rattle.dcsctp_tlv.{specs.Number.{AreBytes}, specs.Frame.{lenient, BeginsWithFrame, frame_value, frame_rest}, specs.Level.{MeansSome, front_row}, specs.UnknownParameter.{Tree}, proofs.Lists.{Progress, begin, step, finish}, proofs.Checks.{frame_shrinks}}
-use Rattle.dcsctp_borrowed.proofs.Fronts.{front}
-use Rattle.dcsctp_registry.specs.RawItems.{raw_items, has_frame, are_items_of, items}
+-- Bytes are items if what is left after the first is.
+use Rattle.std.proofs.Common.{◌≡◌, ◌≢◌, ◌≤◌, ◌&&◌, ℕ, zero, suc, Bool, true, false, List, [], ◌∷◌, length, refl, arith}
+use Rattle.dcsctp_tlv.{specs.Frame.{BeginsWithFrame, frame_rest}, proofs.Checks.{frame_shrinks}}
+use Rattle.dcsctp_registry.specs.Items.{has_frame, are_items_of}
 
 -- ---- frames
 
@@ -59,66 +58,3 @@ of_none (b ∷ bs) frame some = rw (has_no_frame (b ∷ bs) frame) refl
 pub of_nil : (bytes : List ℕ) → bytes ≡ [] → are_items_of (length bytes) bytes ≡ true
 unfolding are_items_of
 of_nil bytes none = rw none refl
-
--- ---- all of them
-
--- bytes that mean items are items
-pub all_items : (n : ℕ) (bytes : List ℕ) → length bytes ≤ n
-    → MeansSome (raw_items lenient) bytes × AreBytes bytes → are_items_of n bytes ≡ true
-unfolding are_items_of
-all_items n [] few known = refl
-all_items zero (b ∷ bs) few known = absurd (omega (arith, few))
-all_items (suc n) (b ∷ bs) few known =
-    let f = front (raw_items lenient) (b ∷ bs) known (λ e. absurd (cc)) in
-    let shrinks = frame_shrinks (b ∷ bs) f.frame in
-    let low = f.frame.low in
-    rw (is_framed (b ∷ bs) f.frame) (all_items n (frame_rest (b ∷ bs))
-    (omega (arith, shrinks, low, few)) f.left)
-
-pub items_again : (bytes : List ℕ) → MeansSome (raw_items lenient) bytes × AreBytes bytes
-    → items bytes ≡ Some bytes
-unfolding items
-items_again bytes known = rw (all_items (length bytes) bytes (omega arith) known) refl
-
--- ---- what was passed, and what is left
-
--- What was passed are items; and if all bytes are items, so is what is left.
-pub record Walked (bytes rest : List ℕ) : Type 0 where
-  pub trees : List Tree
-  pub progress : Progress (raw_items lenient) bytes trees rest
-  pub left : MeansSome (raw_items lenient) bytes → MeansSome (raw_items lenient) rest
-  pub same : are_items_of (length bytes) bytes ≡ are_items_of (length rest) rest
-
-pub start : (bytes : List ℕ) → AreBytes bytes → Walked bytes bytes
-start bytes fits = record {
-  trees = [];
-  progress = begin (raw_items lenient) bytes fits;
-  left = λ m. m;
-  same = refl;
-}
-
--- any value means a tree
-has_tree : (rest : List ℕ) → (t : Tree) × (front_row (raw_items lenient) rest).means
-    (frame_value rest) t
-has_tree rest = (record { typ = _; value = frame_value rest }, refl)
-
-pub next : (bytes rest : List ℕ) → Walked bytes rest → rest ≢ [] → BeginsWithFrame rest
-    → Walked bytes (frame_rest rest)
-next bytes rest w some frame =
-    let t = has_tree rest in
-    record {
-      trees = w.trees ++ t.0 ∷ [];
-      progress = step (raw_items lenient) bytes w.trees rest t.0 w.progress frame t.1 refl;
-      left = λ m. (front (raw_items lenient) rest (w.left m, w.progress.fits) some).left.0;
-      same = w.same ∙ of_rest rest frame some;
-    }
-
-pub done : (bytes rest : List ℕ) → Walked bytes rest → rest ≡ []
-    → MeansSome (raw_items lenient) bytes
-done bytes rest w none = (w.trees, finish (raw_items lenient) bytes w.trees rest w.progress none)
-
--- no frame, and so no items
-pub not_items : (bytes rest : List ℕ) → Walked bytes rest → rest ≢ [] → ¬ BeginsWithFrame rest
-    → ¬ MeansSome (raw_items lenient) bytes
-not_items bytes rest w some no_frame m =
-    no_frame (front (raw_items lenient) rest (w.left m, w.progress.fits) some).frame

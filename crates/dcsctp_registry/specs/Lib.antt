@@ -1,7 +1,9 @@
 pub mod Address
-pub mod RawItems
-pub mod RegisteredCause
-pub mod RegisteredChunk
-pub mod RegisteredParameter
-pub mod Shape
-pub mod Shapes
+pub mod CauseLayouts
+pub mod ChunkLayouts
+pub mod Items
+pub mod Layout
+pub mod ParameterLayouts
+pub mod Registered
+pub mod Row
+pub mod ShortNumbers

@@ -2,17 +2,19 @@
 
 use crate::causes::Causes;
 use crate::channel::walk_channel;
-use crate::fields::{Block, Bytes, Fields, Flag, Form, HEADER_SIZE, Number, walk_numbers};
-use crate::lists::{list_after, walk_list};
+use crate::fields::{Block, Fields, Flag, Form, HEADER_SIZE, Number, walk_numbers};
+use crate::held::walk_held;
+use crate::lists::walk_list;
 use crate::names::Level;
 use crate::parameters::Parameters;
-use crate::registry::{hmac_name, payload_protocol};
+use crate::registered::held_in_chunk;
+use crate::registry::payload_protocol;
 use dcsctp_borrowed::forward_tsn_ref::ForwardTsnRef;
 use dcsctp_borrowed::part::{Item, Part};
 use dcsctp_borrowed::user_data::UserData;
-use dcsctp_registry::registered_chunk::{
-    self, AUTH_VALUE_SIZE, NR_SACK_BLOCKS, NR_SACK_DUPLICATES, NR_SACK_NR_BLOCKS, NR_SACK_SIZE,
-    PKTDROP_SIZE, SEQUENCE_NUMBER_SIZE,
+use dcsctp_registry::chunk_layouts::{
+    NR_SACK, NR_SACK_BLOCKS_OFFSET, NR_SACK_DUPLICATES_OFFSET, NR_SACK_LISTS_OFFSET,
+    NR_SACK_NR_BLOCKS_OFFSET,
 };
 use dcsctp_tlv::fields::Field;
 use dcsctp_types::api::PpId;
@@ -74,26 +76,19 @@ fn walk_meaning<F: Fields>(chunk: &Item<'_>, fields: &mut F) -> bool {
             fields.number(&Number::read(": cumulative tsn ", "cumulative_tsn_ack", chunk, 4, 4));
         }
         shutdown_ack_chunk::CHUNK_TYPE | cookie_ack_chunk::CHUNK_TYPE if value.size == 0 => {}
-        registered_chunk::ECNE | registered_chunk::CWR if value.is_whole() && size == 4 => {
-            fields.number(&Number::at(": lowest tsn ", "lowest_tsn", chunk, 0, 4));
-        }
         shutdown_complete_chunk::CHUNK_TYPE if value.size == 0 => {
             fields.flag(&tag_reflected(chunk));
         }
-        registered_chunk::AUTH if size >= AUTH_VALUE_SIZE => walk_auth(chunk, fields),
-        registered_chunk::NR_SACK => return walk_nr_sack(chunk, fields),
-        registered_chunk::ASCONF_ACK | registered_chunk::ASCONF => {
-            let Some(parameters) = list_after(value, SEQUENCE_NUMBER_SIZE) else {
-                return false;
-            };
-            fields.number(&Number::at(": sequence number ", "sequence_number", chunk, 0, 4));
-            walk_list::<Parameters, F>(parameters, fields);
-        }
-        registered_chunk::PKTDROP if size >= PKTDROP_SIZE => walk_dropped(chunk, fields),
+        NR_SACK => return walk_nr_sack(chunk, fields),
         forward_tsn_chunk::CHUNK_TYPE | iforward_tsn_chunk::CHUNK_TYPE if value.is_whole() => {
             return walk_forward_tsn(chunk, fields);
         }
-        _ => return false,
+        typ => {
+            let Some(held) = held_in_chunk(typ) else {
+                return false;
+            };
+            return walk_held::<Parameters, Causes, F>(&held, chunk, fields);
+        }
     }
     true
 }
@@ -186,25 +181,25 @@ fn walk_sack<F: Fields>(chunk: &Item<'_>, fields: &mut F) -> bool {
 /// Hands over an NR-SACK (draft-tuexen-tsvwg-sctp-multipath), as `walk_sack` does.
 fn walk_nr_sack<F: Fields>(chunk: &Item<'_>, fields: &mut F) -> bool {
     let bytes = chunk.value.bytes;
-    if bytes.len() < NR_SACK_SIZE {
+    if bytes.len() < NR_SACK_LISTS_OFFSET {
         return false;
     }
-    let blocks = read_u16_be(&bytes[NR_SACK_BLOCKS..]) as usize;
-    let nr_blocks = read_u16_be(&bytes[NR_SACK_NR_BLOCKS..]) as usize;
-    let duplicates = read_u16_be(&bytes[NR_SACK_DUPLICATES..]) as usize;
+    let blocks = read_u16_be(&bytes[NR_SACK_BLOCKS_OFFSET..]) as usize;
+    let nr_blocks = read_u16_be(&bytes[NR_SACK_NR_BLOCKS_OFFSET..]) as usize;
+    let duplicates = read_u16_be(&bytes[NR_SACK_DUPLICATES_OFFSET..]) as usize;
     let entries = blocks + nr_blocks + duplicates;
-    if chunk.value.size != NR_SACK_SIZE + SACK_ENTRY_SIZE * entries {
+    if chunk.value.size != NR_SACK_LISTS_OFFSET + SACK_ENTRY_SIZE * entries {
         return false;
     }
     let cumulative = Number::at(": cumulative tsn ", "cumulative_tsn_ack", chunk, 0, 4);
     let tsn = cumulative.value;
     fields.number(&cumulative);
     fields.number(&Number::at(", a_rwnd ", "a_rwnd", chunk, 4, 4));
-    let captured = (bytes.len() - NR_SACK_SIZE) / SACK_ENTRY_SIZE;
-    let first = Number::at("\n  block ", "start", chunk, NR_SACK_SIZE, 2);
+    let captured = (bytes.len() - NR_SACK_LISTS_OFFSET) / SACK_ENTRY_SIZE;
+    let first = Number::at("\n  block ", "start", chunk, NR_SACK_LISTS_OFFSET, 2);
     walk_blocks("blocks", blocks.min(captured), first, tsn, chunk, fields);
     let captured = captured.saturating_sub(blocks);
-    let place = NR_SACK_SIZE + SACK_ENTRY_SIZE * blocks;
+    let place = NR_SACK_LISTS_OFFSET + SACK_ENTRY_SIZE * blocks;
     let first = Number::at("\n  nr block ", "start", chunk, place, 2);
     let count = nr_blocks.min(captured);
     walk_blocks("nr_blocks", count, first, tsn, chunk, fields);
@@ -238,26 +233,6 @@ fn walk_blocks<F: Fields>(
         start = end.next(chunk);
     }
     fields.end_list()
-}
-
-/// Hands over an AUTH (RFC 4895 section 5.1).
-fn walk_auth<F: Fields>(chunk: &Item<'_>, fields: &mut F) {
-    fields.number(&Number::at(": shared key ", "shared_key", chunk, 0, 2));
-    let hmac = Number::at(", hmac identifier ", "hmac_identifier", chunk, 2, 2);
-    fields.named(&hmac, hmac_name(hmac.value));
-    fields.bytes(&Bytes::after("\n  hmac: ", "hmac", chunk, AUTH_VALUE_SIZE))
-}
-
-/// Hands over a PKTDROP (draft-stewart-sctp-pktdrprep): what a router or a receiver dropped.
-fn walk_dropped<F: Fields>(chunk: &Item<'_>, fields: &mut F) {
-    fields.number(&Number::at(": bandwidth ", "bandwidth", chunk, 0, 4));
-    fields.number(&Number::at(", queued ", "queued", chunk, 4, 4));
-    fields.number(&Number::at(", truncated length ", "truncated_length", chunk, 8, 2));
-    let flags = chunk.second;
-    fields.flag(&set_flag(", from a middlebox", "middlebox", flags % 2 == 1));
-    fields.flag(&set_flag(", bad checksum", "bad_checksum", flags / 2 % 2 == 1));
-    fields.flag(&set_flag(", truncated", "truncated", flags / 4 % 2 == 1));
-    fields.bytes(&Bytes::after("\n  packet: ", "packet", chunk, PKTDROP_SIZE))
 }
 
 /// Hands over a FORWARD-TSN or an I-FORWARD-TSN, as `walk_meaning` does.
@@ -354,7 +329,7 @@ fn walk_bits<F: Fields>(data: &UserData<'_>, fields: &mut F) {
 }
 
 /// Returns a bit of a chunk's flags; of one that isn't set nothing is said.
-fn set_flag(words: &'static str, key: &'static str, is_set: bool) -> Flag {
+pub fn set_flag(words: &'static str, key: &'static str, is_set: bool) -> Flag {
     Flag {
         words: (words, ""),
         key,

@@ -12,9 +12,27 @@ pub trait Listed {
     /// What an item is.
     const LEVEL: Level;
 
+    /// Whether its items are handed over.
+    const IS_OPENED: bool;
+
     /// Hands over what an item means; returns false, and hands over nothing, where its value isn't
     /// known to mean anything but its bytes.
     fn walk_meaning<F: Fields>(item: &Item<'_>, fields: &mut F) -> bool;
+}
+
+/// A list that isn't opened.
+pub struct Unopened;
+
+impl Listed for Unopened {
+    const KEY: &'static str = "";
+
+    const LEVEL: Level = Level::Parameter;
+
+    const IS_OPENED: bool = false;
+
+    fn walk_meaning<F: Fields>(_item: &Item<'_>, _fields: &mut F) -> bool {
+        false
+    }
 }
 
 /// Hands over each item of a list, as far as there are items.
@@ -38,14 +56,4 @@ pub fn is_list(list: Part<'_>) -> bool {
     }
     // (an item whose header wasn't captured may be one)
     rest.size == 0 || rest.size >= HEADER_SIZE && rest.bytes.len() < HEADER_SIZE
-}
-
-/// Returns the list that lies after the first bytes; `None` where these aren't there, or no list
-/// is.
-pub fn list_after(value: Part<'_>, count: usize) -> Option<Part<'_>> {
-    let list = value.after(count);
-    if value.bytes.len() < count || !is_list(list) {
-        return None;
-    }
-    Some(list)
 }

@@ -1,14 +1,14 @@
 //! What a parameter holds.
 
 use crate::causes::Causes;
-use crate::fields::{Fields, Form, Number, walk_named, walk_numbers};
-use crate::lists::{Listed, is_list, list_after, walk_list};
+use crate::fields::{Fields, Number, walk_named, walk_numbers};
+use crate::held::walk_held;
+use crate::lists::{Listed, Unopened};
 use crate::names::{Level, NamedBy};
+use crate::registered::held_in_parameter;
 use crate::registry::result_name;
 use dcsctp_borrowed::part::Item;
 use dcsctp_borrowed::re_config_ref::ReConfigRef;
-use dcsctp_registry::address::{Address, IPV4_ADDRESS, IPV6_ADDRESS};
-use dcsctp_registry::registered_parameter::{self, CORRELATION_ID_SIZE};
 use dcsctp_wire::packet::add_streams_request::AddStreamsNumbers;
 use dcsctp_wire::packet::outgoing_ssn_reset_request_parameter::{
     self, OutgoingSsnResetRequestNumbers,
@@ -33,22 +33,10 @@ impl Listed for Parameters {
 
     const LEVEL: Level = Level::Parameter;
 
+    const IS_OPENED: bool = true;
+
     fn walk_meaning<F: Fields>(parameter: &Item<'_>, fields: &mut F) -> bool {
-        let value = parameter.value;
-        match parameter.code() {
-            registered_parameter::UNRECOGNIZED_PARAMETER if is_list(value) => {
-                walk_list::<InnerParameters, F>(value, fields);
-            }
-            registered_parameter::ERROR_CAUSE_INDICATION => {
-                let Some(causes) = list_after(value, CORRELATION_ID_SIZE) else {
-                    return false;
-                };
-                walk_correlation_id(parameter, fields);
-                walk_list::<Causes, F>(causes, fields);
-            }
-            _ => return InnerParameters::walk_meaning(parameter, fields),
-        }
-        true
+        walk_parameter::<InnerParameters, Causes, F>(parameter, fields)
     }
 }
 
@@ -60,24 +48,10 @@ impl Listed for InnerParameters {
 
     const LEVEL: Level = Level::Parameter;
 
+    const IS_OPENED: bool = true;
+
     fn walk_meaning<F: Fields>(parameter: &Item<'_>, fields: &mut F) -> bool {
-        let value = parameter.value;
-        match parameter.code() {
-            registered_parameter::UNRECOGNIZED_PARAMETER if is_list(value) => {
-                walk_list::<InnermostParameters, F>(value, fields);
-            }
-            registered_parameter::ADD_IP_ADDRESS
-            | registered_parameter::DELETE_IP_ADDRESS
-            | registered_parameter::SET_PRIMARY_ADDRESS => {
-                let Some(address) = list_after(value, CORRELATION_ID_SIZE) else {
-                    return false;
-                };
-                walk_correlation_id(parameter, fields);
-                walk_list::<InnermostParameters, F>(address, fields);
-            }
-            _ => return walk_meaning(parameter, fields),
-        }
-        true
+        walk_parameter::<InnermostParameters, Unopened, F>(parameter, fields)
     }
 }
 
@@ -89,48 +63,25 @@ impl Listed for InnermostParameters {
 
     const LEVEL: Level = Level::Parameter;
 
+    const IS_OPENED: bool = true;
+
     fn walk_meaning<F: Fields>(parameter: &Item<'_>, fields: &mut F) -> bool {
-        walk_meaning(parameter, fields)
+        walk_parameter::<Unopened, Unopened, F>(parameter, fields)
     }
 }
 
-/// Hands over the number of a request of ASCONF (RFC 5061 section 4.2).
-fn walk_correlation_id<F: Fields>(parameter: &Item<'_>, fields: &mut F) {
-    fields.number(&Number::at(": correlation id ", "correlation_id", parameter, 0, 4))
+/// Hands over what a parameter means, as `Listed` says.
+fn walk_parameter<P: Listed, C: Listed, F: Fields>(parameter: &Item<'_>, fields: &mut F) -> bool {
+    match held_in_parameter(parameter.code()) {
+        Some(held) => walk_held::<P, C, F>(&held, parameter, fields),
+        None => walk_meaning(parameter, fields),
+    }
 }
 
-/// Hands over what a parameter without others in it means, as `Listed` says.
+/// Hands over what a parameter means that isn't kept as bytes, as `Listed` says.
 fn walk_meaning<F: Fields>(parameter: &Item<'_>, fields: &mut F) -> bool {
-    let (typ, value) = (parameter.code(), parameter.value.bytes);
-    match typ {
-        IPV4_ADDRESS | IPV6_ADDRESS => {
-            let Some(address) = Address::from_raw(&RawParameter { typ, value }) else {
-                return false;
-            };
-            fields.address(address.ip(), value.len());
-        }
-        registered_parameter::COOKIE_PRESERVATIVE if value.len() == 4 => {
-            let increment = Number::read(": increment ", "increment", parameter, 4, 4);
-            fields.number(&increment.in_form(Form::Milliseconds));
-        }
-        registered_parameter::HOST_NAME_ADDRESS => fields.text_value(value),
-        registered_parameter::SUPPORTED_ADDRESS_TYPES if value.len().is_multiple_of(2) => {
-            let first = Number::read("", "type", parameter, 4, 2);
-            let count = value.len() / 2;
-            walk_named(
-                "address_types",
-                count,
-                first,
-                NamedBy::Address,
-                parameter,
-                fields,
-            );
-        }
-        registered_parameter::REQUESTED_HMAC_ALGORITHM if value.len().is_multiple_of(2) => {
-            let first = Number::read("", "identifier", parameter, 4, 2);
-            let count = value.len() / 2;
-            walk_named("hmacs", count, first, NamedBy::Hmac, parameter, fields);
-        }
+    let value = parameter.value.bytes;
+    match parameter.code() {
         outgoing_ssn_reset_request_parameter::PARAMETER_TYPE
         | incoming_ssn_reset_request_parameter::PARAMETER_TYPE
         | ssn_tsn_reset_request_parameter::PARAMETER_TYPE
@@ -142,7 +93,7 @@ fn walk_meaning<F: Fields>(parameter: &Item<'_>, fields: &mut F) -> bool {
         zero_checksum_acceptable_parameter::PARAMETER_TYPE if value.len() == 4 => {
             fields.number(&Number::read(": method ", "method", parameter, 4, 4));
         }
-        registered_parameter::CHUNK_LIST | supported_extensions_parameter::PARAMETER_TYPE => {
+        supported_extensions_parameter::PARAMETER_TYPE => {
             let first = Number::read("", "type", parameter, 4, 1);
             walk_named(
                 "chunk_types",
@@ -153,15 +104,7 @@ fn walk_meaning<F: Fields>(parameter: &Item<'_>, fields: &mut F) -> bool {
                 fields,
             );
         }
-        registered_parameter::ECN_CAPABLE | forward_tsn_supported_parameter::PARAMETER_TYPE
-            if value.is_empty() => {}
-        registered_parameter::SUCCESS_INDICATION if value.len() == CORRELATION_ID_SIZE => {
-            walk_correlation_id(parameter, fields);
-        }
-        registered_parameter::ADAPTATION_LAYER_INDICATION if value.len() == 4 => {
-            let indication = Number::read(": ", "indication", parameter, 4, 4);
-            fields.number(&indication.in_form(Form::Hexadecimal));
-        }
+        forward_tsn_supported_parameter::PARAMETER_TYPE if value.is_empty() => {}
         _ => return false,
     }
     true

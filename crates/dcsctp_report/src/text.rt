@@ -188,7 +188,8 @@ impl<'f, W: fmt::Write> Fields for TextFields<'f, W> {
     fn bytes(&mut self, bytes: &Bytes<'_>) {
         let (words, part, shows_all) = (bytes.words, bytes.part, self.shows_all);
         let shown = ShownBytes { part, shows_all };
-        write!(self.out, "{words}{shown}")
+        self.put_words(words);
+        write!(self.out, "{shown}")
     }
 
     fn payload(&mut self, payload: Part<'_>, _offset: usize, is_text: bool) {

@@ -1,6 +1,6 @@
 -- The check of a kind without a list, at the level of a table that has the kinds' rows.
-use Rattle.std.proofs.Common.{◌≡◌, ℕ, Bool, cond, true, false, List, [], ◌∷◌, Result, Ok, Err, inl, inr, ap, refl, sym, ◌==◌, IsOk}
-use Rattle.dcsctp_tlv.{specs.declared.error.ChunkParseError.{ChunkParseError}, specs.declared.error.LocatedFault.{LocatedFault}, specs.Fault.{Fault}, specs.Level.{Row, plain, if_row, map_ok}, specs.Reading.{Answers, checking, locating, Tested, RowAnswer, Counted, Unplaced}, specs.Table.{row_of}, proofs.Places.{fault_at_front}, proofs.Satisfies.{IsAtFixed, AreAtFixed}, specs.Kinds.{Kind, Reader, AtFixed, Nested, TreesOf, rows, row_as, Checks, ChecksKind}}
+use Rattle.std.proofs.Common.{◌≡◌, ℕ, Bool, cond, true, false, List, [], ◌∷◌, Result, Ok, Err, inl, inr, ap, refl, sym, ◌==◌, ◌≢◌, ne_eqb, IsOk}
+use Rattle.dcsctp_tlv.{specs.declared.error.ChunkParseError.{ChunkParseError}, specs.declared.error.LocatedFault.{LocatedFault}, specs.Fault.{Fault}, specs.Level.{Row, plain, if_row, map_ok}, specs.Reading.{Answers, checking, locating, Tested, RowAnswer, Counted, Unplaced}, specs.Table.{row_of}, proofs.Places.{fault_at_front}, specs.Kinds.{Member, Reader, AtFixed, Nested, kinds_of, if_plain, plain_of, rows, row_as, Checks, ChecksKind}}
 
 -- what the check of a whole item answers, where its value is checked first
 abbrev pub whole : Result (Unit {0}) ChunkParseError → Result ℕ LocatedFault
@@ -12,11 +12,15 @@ abbrev pub Finds : {T : Type 0} → (T → ℕ) → Row T → List ℕ → Resul
     → Type 0
 Finds parts row value r = Answers locating (λ (n : ℕ). n) (Counted parts (RowAnswer row value)) (whole r)
 
--- a tree of each kind has one part
-abbrev pub AreSingle : {T : Type 0} → (T → ℕ) → (ks : List Kind) → TreesOf ks T → Type 0
-AreSingle parts [] trees = Unit {0}
-AreSingle parts (k ∷ ks) trees =
-    ((x : k.Tree) → parts (trees.0 x) ≡ 1) × AreSingle parts ks trees.1
+-- a tree of the kind has one part; the type is that of no kind with a list
+abbrev pub IsSingle : {X T : Type 0} → (T → ℕ) → ℕ → ℕ → (X → T) → Reader X → Type 0
+IsSingle {X} parts typ n tree (AtFixed read) = (x : X) → parts (tree x) ≡ 1
+IsSingle parts typ n tree (Nested row) = typ ≢ n
+
+abbrev pub AreSingle : {T : Type 0} → (T → ℕ) → ℕ → List (Member T) → Type 0
+AreSingle parts typ [] = Unit {0}
+AreSingle parts typ (m ∷ ms) =
+    IsSingle parts typ m.kind.typ m.tree m.kind.reader × AreSingle parts typ ms
 
 kind_finds : {A T : Type 0} (parts : T → ℕ) (tree : A → T) → ((x : A) → parts (tree x) ≡ 1)
     → (read : List ℕ → Result A Fault) (value : List ℕ) (r : Result (Unit {0}) ChunkParseError)
@@ -43,26 +47,31 @@ choice : {T : Type 0} (parts : T → ℕ) (value : List ℕ) (r : Result (Unit {
 choice parts value r true row others P Q own rest p = own p
 choice parts value r false row others P Q own rest p = rest p
 
-reader_finds : {X T : Type 0} (parts : T → ℕ) (tree : X → T) → ((x : X) → parts (tree x) ≡ 1)
-    → (reader : Reader X) (strict : Bool) (flags : ℕ) (value : List ℕ)
-    (r : Result (Unit {0}) ChunkParseError) → IsAtFixed reader → Checks reader flags value r
-    → Finds parts (row_as strict flags tree reader) value r
-reader_finds parts tree one (AtFixed read) strict flags value r fixed p =
-    kind_finds parts tree one (read flags) value r p.answers
-reader_finds parts tree one (Nested row) strict flags value r fixed p = absurd fixed
+member_finds : {X T : Type 0} (parts : T → ℕ) (m : Member T) (ms : List (Member T)) (tree : X → T)
+    (reader : Reader X) (strict : Bool) (flags typ : ℕ) (others : Row T) (value : List ℕ)
+    (r : Result (Unit {0}) ChunkParseError)
+    → (Checks m.kind.reader flags value r → Checks reader flags value r)
+    → IsSingle parts typ m.kind.typ tree reader
+    → (ChecksKind (kinds_of ms) flags typ value r → Finds parts others value r)
+    → ChecksKind (kinds_of (if_plain reader m ms)) flags typ value r
+    → Finds parts (if_row (typ == m.kind.typ) (row_as strict flags tree reader) others) value r
+member_finds parts m ms tree (AtFixed read) strict flags typ others value r same one rest p =
+    choice parts value r (typ == m.kind.typ) _ _ _ _
+    (λ c. kind_finds parts tree one (read flags) value r (same c).answers) rest p
+member_finds parts m ms tree (Nested row) strict flags typ others value r same other rest p =
+    rw (ne_eqb typ m.kind.typ other) (rest p)
 
 -- so the check of the value says what the level's table does
-pub table_finds : {T : Type 0} (parts : T → ℕ) (ks : List Kind) (trees : TreesOf ks T)
-    (strict : Bool) (flags typ : ℕ) (others : Row T) (value : List ℕ)
-    (r : Result (Unit {0}) ChunkParseError) → AreAtFixed ks → AreSingle parts ks trees
-    → Counted parts (RowAnswer others value) (Ok 1) → ChecksKind ks flags typ value r
-    → Finds parts (row_of (rows strict flags ks trees) typ others) value r
-table_finds parts [] trees strict flags typ others value r fixed one means p =
+pub table_finds : {T : Type 0} (parts : T → ℕ) (ms : List (Member T)) (strict : Bool)
+    (flags typ : ℕ) (others : Row T) (value : List ℕ) (r : Result (Unit {0}) ChunkParseError)
+    → AreSingle parts typ ms → Counted parts (RowAnswer others value) (Ok 1)
+    → ChecksKind (kinds_of (plain_of ms)) flags typ value r
+    → Finds parts (row_of (rows strict flags ms) typ others) value r
+table_finds parts [] strict flags typ others value r one means p =
     other_finds parts others value r means p
-table_finds parts (k ∷ ks) trees strict flags typ others value r fixed one means p =
-    choice parts value r (typ == k.typ) _ _ _ _
-    (reader_finds parts trees.0 one.0 k.reader strict flags value r fixed.0)
-    (table_finds parts ks trees.1 strict flags typ others value r fixed.1 one.1 means) p
+table_finds parts (m ∷ ms) strict flags typ others value r one means p =
+    member_finds parts m (plain_of ms) m.tree m.kind.reader strict flags typ _ value r (λ c. c)
+    one.0 (table_finds parts ms strict flags typ others value r one.1 means) p
 
 -- the same of the value alone, where each tree is one part
 pub finds_tested : {T : Type 0} (row : Row T) (value : List ℕ) (r : Result (Unit {0}) ChunkParseError)
@@ -72,7 +81,3 @@ finds_tested row value (Ok x) found = (found.0, found.1, refl)
 finds_tested row value (Err e) (inl found) =
     inl (found.0.0, ap (λ (x : LocatedFault). x.fault) found.1, (found.0.1, found.2))
 finds_tested row value (Err e) (inr none) = absurd none
-
-pub all_single : (T : Type 0) (ks : List Kind) (trees : TreesOf ks T) → AreSingle {T = T} (λ t. 1) ks trees
-all_single T [] trees = tt
-all_single T (k ∷ ks) trees = (λ x. refl, all_single T ks trees.1)

@@ -1,6 +1,6 @@
 -- The laws of the table of parameters: a line for each kind, of the laws that it satisfies.
 use Rattle.std.{proofs.Common.{rules, ◌≡◌, ℕ, Bool, ◌+◌, ◌*◌, ◌^◌, ◌<◌, List, ◌++◌, length, Result, refl, ap, Option, Some, None, IfSome}, specs.Int.{w32}, specs.List.{AllByRecursion}}
-use Rattle.dcsctp_tlv.{specs.Decided.{LawfulRow, IgnoresPadding}, specs.Format.{sized_tlv}, specs.Frame.{lenient}, specs.Number.{numbers}, specs.declared.error.ChunkParseError.{ChunkParseError}, specs.Kinds.{ChecksKind}, specs.Reading.{Answers, checking, RowAnswer, Counted, Unplaced}, proofs.Lengths.{length-format}, specs.Image.{Tlv, zeroed, image_of, size_of}, specs.Table.{Content, Varied, ◌&◌}, specs.ReconfigurationResponse.{next_tsns, kept_tsn}, specs.Parameter.{ParameterTree, Unknown, kinds, trees, table, row, parameters, entry, format, tlv, IsInWidth, IsWellFormed, kept, all_kept}, proofs.Laws.{Lawful}, proofs.KindLaws.{IsGood}, proofs.Satisfies.{AllSatisfy, SatisfiesOf, plain_satisfies, kept_satisfies, back_of, kept_tlv_of, kept_width_of}, proofs.Lenient.{Loosens}, proofs.TableLaws.{TypedFacts, typed_row_lawful, typed_lawful, typed_looser, typed_form, typed_account, typed_unpadded, typed_tested, unknown_means}, proofs.ReadsBack.{ReadsBack}, proofs.ParameterKinds.{info_laws, cookie_laws, outgoing_laws, incoming_laws, response_laws, zero_checksum_laws, extensions_laws, forward_tsn_laws, ssn_tsn_laws, add_streams_laws}, proofs.Forms.{FormsTrees}, proofs.Accounts.{Accounts}, proofs.Kept.{all_map}}
+use Rattle.dcsctp_tlv.{specs.Decided.{LawfulRow, IgnoresPadding}, specs.Format.{sized_tlv}, specs.Frame.{lenient}, specs.Number.{numbers}, specs.declared.error.ChunkParseError.{ChunkParseError}, specs.Kinds.{ChecksKind}, specs.Reading.{Answers, checking, RowAnswer, Counted, Unplaced}, proofs.Lengths.{length-format}, specs.Image.{Tlv, zeroed, image_of, size_of}, specs.Table.{Content, Varied, ◌&◌}, specs.ReconfigurationResponse.{next_tsns, kept_tsn}, specs.Parameter.{ParameterTree, Unknown, members, kinds, table, row, parameters, entry, format, tlv, IsInWidth, IsWellFormed, kept, all_kept}, proofs.Laws.{Lawful}, proofs.KindLaws.{IsGood}, proofs.Satisfies.{AllSatisfy, SatisfiesOf, plain_satisfies, kept_satisfies, back_of, kept_tlv_of, kept_width_of}, proofs.Lenient.{Loosens}, proofs.TableLaws.{TypedFacts, typed_row_lawful, typed_lawful, typed_looser, typed_form, typed_account, typed_unpadded, typed_tested, unknown_means}, proofs.ReadsBack.{ReadsBack}, proofs.ParameterKinds.{info_laws, cookie_laws, outgoing_laws, incoming_laws, response_laws, zero_checksum_laws, extensions_laws, forward_tsn_laws, ssn_tsn_laws, add_streams_laws}, proofs.Forms.{FormsTrees}, proofs.Accounts.{Accounts}, proofs.Kept.{all_map}}
 use Rattle.dcsctp_tlv.specs.AddOutgoingStreamsRequest as add_outgoing
 use Rattle.dcsctp_tlv.specs.AddIncomingStreamsRequest as add_incoming
 use Rattle.dcsctp_tlv.specs.ReconfigurationResponse as response
@@ -44,7 +44,7 @@ kept_response_width r w = record {
 abbrev Keeps : Content → List ℕ → Type 0
 Keeps content value = Unit {0}
 
-satisfied : AllSatisfy Keeps kinds
+satisfied : AllSatisfy Keeps members
 satisfied =
     plain_satisfies 1 _ info_laws &
     plain_satisfies 7 _ cookie_laws &
@@ -66,11 +66,11 @@ satisfies_of t = assumption satisfied
 
 -- ---- what the level has
 
-facts : TypedFacts kinds trees entry Unknown Keeps (λ typ. Keeps Varied)
+facts : TypedFacts members entry Unknown Keeps (λ typ. Keeps Varied)
 facts = record {
   satisfied = satisfied;
   found = search rules;
-  fixed = search rules;
+  single = search rules;
   same = λ u. refl;
   formed = λ u unnamed. unnamed;
   one = λ u. refl;

@@ -1,6 +1,6 @@
 -- The laws of its level that a kind satisfies, in one record; and what follows for a table of kinds.
 use Rattle.std.proofs.Common.{◌≡◌, ℕ, ◌+◌, ◌*◌, ◌≤◌, Bool, true, false, List, [], ◌∷◌, length, Result, Ok, Err, refl, sym, ap, subst, arith, ◌==◌}
-use Rattle.dcsctp_tlv.{specs.Fault.{Fault, Padding}, specs.Format.{Format}, specs.Frame.{lenient}, specs.Image.{zeroed, size_of}, specs.Level.{Row, if_row, map_ok}, specs.Table.{Content, row_of}, proofs.Accounts.{SameSpace, same_size}, proofs.FormatLaws.{TypedLaws}, proofs.KindLaws.{KindLaws, IsGood, of_map_ok}, specs.Decided.{LawfulRow}, proofs.Laws.{plain_lawful, as_lawful}, proofs.Lenient.{LoosensRow}, proofs.Tables.{EachNamed}, proofs.Unpadded.{Unpadded, NotPadding}, specs.Kinds.{Kind, Reader, AtFixed, Nested, plain_kind, kept_kind, own_row, row_as, TreesOf, rows, Entry, Of, Unnamed, format_of, parts_of}}
+use Rattle.dcsctp_tlv.{specs.Fault.{Fault, Padding}, specs.Format.{Format}, specs.Frame.{lenient}, specs.Image.{zeroed, size_of}, specs.Level.{Row, if_row, map_ok}, specs.Table.{Content, row_of}, proofs.Accounts.{SameSpace, same_size}, proofs.FormatLaws.{TypedLaws}, proofs.KindLaws.{KindLaws, IsGood, of_map_ok}, specs.Decided.{LawfulRow}, proofs.Laws.{plain_lawful, as_lawful}, proofs.Lenient.{LoosensRow}, proofs.Tables.{EachNamed}, proofs.Unpadded.{Unpadded, NotPadding}, specs.Kinds.{Kind, Reader, AtFixed, Nested, plain_kind, kept_kind, own_row, row_as, Member, rows, Entry, Of, Unnamed, format_of, parts_of}}
 
 -- ---- what a kind satisfies
 
@@ -64,16 +64,6 @@ module _ {Keeps : Content → List ℕ → Type 0} {X : Type 0} {read : ℕ → 
         → Satisfies Keeps (plain_kind typ content read format)
     plain_satisfies laws = satisfies_if laws (λ value is. tt)
 
--- ---- kinds that are read at fixed places
-
-abbrev pub IsAtFixed : {X : Type 0} → Reader X → Type 0
-IsAtFixed (AtFixed read) = Unit {0}
-IsAtFixed (Nested row) = ⊥
-
-abbrev pub AreAtFixed : List Kind → Type 0
-AreAtFixed [] = Unit {0}
-AreAtFixed (k ∷ ks) = IsAtFixed k.reader × AreAtFixed ks
-
 -- ---- a kind's row in a table, from its own
 
 err_of : {A B : Type 0} (f : A → B) (r : Result A Fault) (e : Fault) → map_ok f r ≡ Err e
@@ -106,32 +96,32 @@ module _ {X T : Type 0} (tree : X → T) where
 
 -- ---- a table of kinds
 
-abbrev pub AllSatisfy : (Content → List ℕ → Type 0) → List Kind → Type 0
+abbrev pub AllSatisfy : {T : Type 0} → (Content → List ℕ → Type 0) → List (Member T) → Type 0
 AllSatisfy Keeps [] = Unit {0}
-AllSatisfy Keeps (k ∷ ks) = Satisfies Keeps k × AllSatisfy Keeps ks
+AllSatisfy Keeps (m ∷ ms) = Satisfies Keeps m.kind × AllSatisfy Keeps ms
 
 -- What computing shows of each kind in a level: its trees are written, well-formed and counted as
 -- the kind says, and its values keep their sizes where those of its type do.
 pub record Found {T : Type 0} (Keeps : Content → List ℕ → Type 0) (IsKept : ℕ → List ℕ → Type 0)
-    (of : T → Entry T) (k : Kind) (tree : k.Tree → T) : Type 0 where
-  pub written : (x : k.Tree) → (format_of (of (tree x))).tlv ≡ (k.format x).tlv
-  pub formed : (x : k.Tree) → (k.format x).IsWellFormed → (format_of (of (tree x))).IsWellFormed
-  pub parts : (x : k.Tree) → parts_of (of (tree x)) ≡ k.parts x
-  pub keeps : (value : List ℕ) → IsKept k.typ value → Keeps k.content value
+    (of : T → Entry T) (m : Member T) : Type 0 where
+  pub written : (x : m.kind.Tree) → (format_of (of (m.tree x))).tlv ≡ (m.kind.format x).tlv
+  pub formed : (x : m.kind.Tree) → (m.kind.format x).IsWellFormed
+      → (format_of (of (m.tree x))).IsWellFormed
+  pub parts : (x : m.kind.Tree) → parts_of (of (m.tree x)) ≡ m.kind.parts x
+  pub keeps : (value : List ℕ) → IsKept m.kind.typ value → Keeps m.kind.content value
 
 abbrev pub AllFound : {T : Type 0} → (Content → List ℕ → Type 0) → (ℕ → List ℕ → Type 0)
-    → (T → Entry T) → (ks : List Kind) → TreesOf ks T → Type 0
-AllFound Keeps IsKept of [] trees = Unit {0}
-AllFound Keeps IsKept of (k ∷ ks) trees =
-    Found Keeps IsKept of k trees.0 × AllFound Keeps IsKept of ks trees.1
+    → (T → Entry T) → List (Member T) → Type 0
+AllFound Keeps IsKept of [] = Unit {0}
+AllFound Keeps IsKept of (m ∷ ms) = Found Keeps IsKept of m × AllFound Keeps IsKept of ms
 
-pub all_lawful : (T : Type 0) (Keeps : Content → List ℕ → Type 0) (strict : Bool) (flags : ℕ)
-    (ks : List Kind) (trees : TreesOf ks T) → AllSatisfy Keeps ks
-    → EachNamed (λ typ row. LawfulRow row) (rows strict flags ks trees)
-all_lawful T Keeps strict flags [] trees satisfied = tt
-all_lawful T Keeps strict flags (k ∷ ks) trees satisfied = (
-  lawful_as trees.0 strict flags k.reader (satisfied.0.lawful strict flags),
-  all_lawful T Keeps strict flags ks trees.1 satisfied.1,
+pub all_lawful : {T : Type 0} (Keeps : Content → List ℕ → Type 0) (strict : Bool) (flags : ℕ)
+    (ms : List (Member T)) → AllSatisfy Keeps ms
+    → EachNamed (λ typ row. LawfulRow row) (rows strict flags ms)
+all_lawful Keeps strict flags [] satisfied = tt
+all_lawful Keeps strict flags (m ∷ ms) satisfied = (
+  lawful_as m.tree strict flags m.kind.reader (satisfied.0.lawful strict flags),
+  all_lawful Keeps strict flags ms satisfied.1,
 )
 
 pick_looser : {T : Type 0} (b : Bool) (row others loose rest : Row T) → LoosensRow row loose
@@ -141,19 +131,20 @@ pick_looser false row others loose rest own other = other
 
 -- a type's row loosens, where that of all other types stays
 pub rows_looser : {T : Type 0} (Keeps : Content → List ℕ → Type 0) (strict : Bool) (flags : ℕ)
-    (ks : List Kind) (trees : TreesOf ks T) → AllSatisfy Keeps ks → (typ : ℕ) (others : Row T)
-    → LoosensRow (row_of (rows strict flags ks trees) typ others)
-    (row_of (rows lenient flags ks trees) typ others)
-rows_looser Keeps strict flags [] trees satisfied typ others = λ value t m. m
-rows_looser {T} Keeps strict flags (k ∷ ks) trees satisfied typ others =
-    pick_looser (typ == k.typ) _ _ _ _ own
-    (rows_looser Keeps strict flags ks trees.1 satisfied.1 typ others) where
-      own : LoosensRow (row_as strict flags trees.0 k.reader)
-          (row_as lenient flags trees.0 k.reader)
-      own value t m =
-          let d = down trees.0 strict flags k.reader value t m in
-          subst (λ (u : T). (row_as lenient flags trees.0 k.reader).means value u) (sym d.1.1)
-          (up trees.0 lenient flags k.reader value d.0 (satisfied.0.looser strict flags value d.0 d.1.0))
+    (ms : List (Member T)) → AllSatisfy Keeps ms → (typ : ℕ) (others : Row T)
+    → LoosensRow (row_of (rows strict flags ms) typ others)
+    (row_of (rows lenient flags ms) typ others)
+rows_looser Keeps strict flags [] satisfied typ others = λ value t means. means
+rows_looser {T} Keeps strict flags (m ∷ ms) satisfied typ others =
+    pick_looser (typ == m.kind.typ) _ _ _ _ own
+    (rows_looser Keeps strict flags ms satisfied.1 typ others) where
+      own : LoosensRow (row_as strict flags m.tree m.kind.reader)
+          (row_as lenient flags m.tree m.kind.reader)
+      own value t means =
+          let d = down m.tree strict flags m.kind.reader value t means in
+          subst (λ (u : T). (row_as lenient flags m.tree m.kind.reader).means value u) (sym d.1.1)
+          (up m.tree lenient flags m.kind.reader value d.0
+          (satisfied.0.looser strict flags value d.0 d.1.0))
 
 -- ---- what holds of each row of the lenient table
 
@@ -169,33 +160,30 @@ pub record Sound {T : Type 0} (IsKept : ℕ → List ℕ → Type 0) (of : T →
 module _ {T : Type 0} (Keeps : Content → List ℕ → Type 0) (IsKept : ℕ → List ℕ → Type 0)
     (of : T → Entry T) (flags : ℕ)
   where
-    sound_as : (k : Kind) (tree : k.Tree → T) → Satisfies Keeps k → Found Keeps IsKept of k tree
-        → Sound IsKept of k.typ (row_as lenient flags tree k.reader)
-    sound_as k tree satisfied found = record {
-      forms = λ value t m.
-          (let d = down tree lenient flags k.reader value t m in
+    sound_as : (m : Member T) → Satisfies Keeps m.kind → Found Keeps IsKept of m
+        → Sound IsKept of m.kind.typ (row_as lenient flags m.tree m.kind.reader)
+    sound_as m satisfied found = record {
+      forms = λ value t means.
+          (let d = down m.tree lenient flags m.kind.reader value t means in
           subst (λ (u : T). (format_of (of u)).IsWellFormed) (sym d.1.1)
           (found.formed d.0 (satisfied.forms flags value d.0 d.1.0)));
-      account = λ value t kept m.
-          (let d = down tree lenient flags k.reader value t m in
+      account = λ value t kept means.
+          (let d = down m.tree lenient flags m.kind.reader value t means in
           subst (λ (u : T). SameSpace (size_of (format_of (of u)).tlv) (4 + length value))
           (sym d.1.1) (rw (found.written d.0)
           (satisfied.account flags value d.0 (found.keeps value kept) d.1.0)));
-      counted = λ value t m.
-          (let d = down tree lenient flags k.reader value t m in
+      counted = λ value t means.
+          (let d = down m.tree lenient flags m.kind.reader value t means in
           subst (λ (u : T). 4 * parts_of (of u) ≤ 4 + length value) (sym d.1.1)
           (rw (found.parts d.0) (satisfied.counted flags value d.0 d.1.0)));
-      unpadded = unpadded_as tree flags k.reader (satisfied.unpadded flags);
+      unpadded = unpadded_as m.tree flags m.kind.reader (satisfied.unpadded flags);
     }
 
-    pub all_sound : (ks : List Kind) (trees : TreesOf ks T) → AllSatisfy Keeps ks
-        → AllFound Keeps IsKept of ks trees
-        → EachNamed (Sound IsKept of) (rows lenient flags ks trees)
-    all_sound [] trees satisfied found = tt
-    all_sound (k ∷ ks) trees satisfied found = (
-      sound_as k trees.0 satisfied.0 found.0,
-      all_sound ks trees.1 satisfied.1 found.1,
-    )
+    pub all_sound : (ms : List (Member T)) → AllSatisfy Keeps ms → AllFound Keeps IsKept of ms
+        → EachNamed (Sound IsKept of) (rows lenient flags ms)
+    all_sound [] satisfied found = tt
+    all_sound (m ∷ ms) satisfied found =
+        (sound_as m satisfied.0 found.0, all_sound ms satisfied.1 found.1)
 
 -- ---- what holds of each tree
 

@@ -1,26 +1,26 @@
 -- The laws of a level whose items have a type in their first two bytes, by what its kinds satisfy.
 use Rattle.std.{proofs.Common.{◌≡◌, ℕ, ◌/◌, ◌%◌, ◌+◌, ◌*◌, ◌≤◌, Bool, List, [], ◌∷◌, length, Result, refl, sym, ap, subst, ◌∙◌, arith}, specs.Int.{w16, from_be_bytes}}
-use Rattle.dcsctp_tlv.{specs.Decided.{LawfulRow, IgnoresPadding}, specs.Frame.{lenient}, specs.Image.{solid, zeroed, size_of}, specs.Kinds.{Kind, TreesOf, rows, Entry, format_of, parts_of, ChecksKind}, specs.Level.{plain, map_ok}, specs.Reading.{Answers, checking, RowAnswer, Counted, Unplaced}, specs.declared.error.ChunkParseError.{ChunkParseError}, specs.Table.{Content, Named, IsUnnamed}, specs.Typed.{item_type, typed_row, typed_level}, proofs.Accounts.{Accounts, plain_account}, proofs.Forms.{FormsTrees}, proofs.KindChecks.{table_finds, finds_tested, all_single}, proofs.KindLaws.{of_map_ok}, proofs.Laws.{Lawful, plain_lawful}, proofs.Lenient.{Loosens}, proofs.Satisfies.{AllSatisfy, AllFound, AreAtFixed, Sound, all_lawful, all_sound}, proofs.ParameterKinds.{type_back, unknown_keeps, unknown_forms}, proofs.ReadsBack.{zeroed-solid}, proofs.Tables.{of_table, of_others}, proofs.Unpadded.{ok_unpadded, list_unpadded}}
+use Rattle.dcsctp_tlv.{specs.Decided.{LawfulRow, IgnoresPadding}, specs.Frame.{lenient}, specs.Image.{solid, zeroed, size_of}, specs.Kinds.{Member, kinds_of, plain_of, rows, Entry, format_of, parts_of, ChecksKind}, specs.Level.{plain, map_ok}, specs.Reading.{Answers, checking, RowAnswer, Counted, Unplaced}, specs.declared.error.ChunkParseError.{ChunkParseError}, specs.Table.{Content, Named, IsUnnamed}, specs.Typed.{item_type, typed_row, typed_level}, proofs.Accounts.{Accounts, plain_account}, proofs.Forms.{FormsTrees}, proofs.KindChecks.{AreSingle, table_finds, finds_tested}, proofs.KindLaws.{of_map_ok}, proofs.Laws.{Lawful, plain_lawful}, proofs.Lenient.{Loosens}, proofs.Satisfies.{AllSatisfy, AllFound, Sound, all_lawful, all_sound}, proofs.ParameterKinds.{type_back, unknown_keeps, unknown_forms}, proofs.ReadsBack.{zeroed-solid}, proofs.Tables.{of_table, of_others}, proofs.Unpadded.{ok_unpadded, list_unpadded}}
 use Rattle.dcsctp_tlv.specs.UnknownParameter as unknown
 
 -- What is shown of a level's kinds and of its trees; `tree` is that of a type that isn't named.
-pub record TypedFacts {T : Type 0} (kinds : List Kind) (trees : TreesOf kinds T) (of : T → Entry T)
+pub record TypedFacts {T : Type 0} (members : List (Member T)) (of : T → Entry T)
     (tree : unknown.Tree → T) (Keeps : Content → List ℕ → Type 0)
     (IsKept : ℕ → List ℕ → Type 0) : Type 0 where
-  pub satisfied : AllSatisfy Keeps kinds
-  pub found : AllFound Keeps IsKept of kinds trees
-  pub fixed : AreAtFixed kinds
+  pub satisfied : AllSatisfy Keeps members
+  pub found : AllFound Keeps IsKept of members
+  pub single : (typ : ℕ) → AreSingle (λ t. 1) typ members
   pub same : (u : unknown.Tree) → (format_of (of (tree u))).tlv ≡ (unknown.format u).tlv
-  pub formed : (u : unknown.Tree) → IsUnnamed (rows lenient 0 kinds trees) u.typ
+  pub formed : (u : unknown.Tree) → IsUnnamed (rows lenient 0 members) u.typ
       → (format_of (of (tree u))).IsWellFormed
   pub one : (u : unknown.Tree) → parts_of (of (tree u)) ≡ 1
 
-module _ {T : Type 0} {kinds : List Kind} {trees : TreesOf kinds T} {of : T → Entry T}
-    {tree : unknown.Tree → T} {Keeps : Content → List ℕ → Type 0} {IsKept : ℕ → List ℕ → Type 0}
-    (facts : TypedFacts kinds trees of tree Keeps IsKept)
+module _ {T : Type 0} {members : List (Member T)} {of : T → Entry T} {tree : unknown.Tree → T}
+    {Keeps : Content → List ℕ → Type 0} {IsKept : ℕ → List ℕ → Type 0}
+    (facts : TypedFacts members of tree Keeps IsKept)
   where
     abbrev table : List (Named T)
-    table = rows lenient 0 kinds trees
+    table = rows lenient 0 members
 
     unknown_sound : (typ : ℕ) → IsUnnamed table typ
         → Sound IsKept of typ (plain (λ value. map_ok tree (unknown.read typ value)))
@@ -38,12 +38,12 @@ module _ {T : Type 0} {kinds : List Kind} {trees : TreesOf kinds T} {of : T → 
 
     sound : (typ : ℕ) → Sound IsKept of typ (typed_row table tree typ)
     sound typ = of_table (Sound IsKept of) table typ _
-        (all_sound Keeps IsKept of 0 kinds trees facts.satisfied facts.found) (unknown_sound typ)
+        (all_sound Keeps IsKept of 0 members facts.satisfied facts.found) (unknown_sound typ)
 
     -- each value means one tree or has one fault
     pub typed_row_lawful : (typ : ℕ) → LawfulRow (typed_row table tree typ)
     typed_row_lawful typ = of_table (λ n row. LawfulRow row) table typ _
-        (all_lawful T Keeps lenient 0 kinds trees facts.satisfied) (λ unnamed. plain_lawful _)
+        (all_lawful Keeps lenient 0 members facts.satisfied) (λ unnamed. plain_lawful _)
 
     pub typed_lawful : (strict : Bool) → Lawful (typed_level (typed_row table tree) strict)
     typed_lawful strict first second =
@@ -77,12 +77,11 @@ module _ {T : Type 0} {kinds : List Kind} {trees : TreesOf kinds T} {of : T → 
 
     -- a check of the value that says what its kind does says what the table does
     pub typed_tested : (typ : ℕ) (value : List ℕ) (r : Result (Unit {0}) ChunkParseError)
-        → ChecksKind kinds 0 typ value r
+        → ChecksKind (kinds_of (plain_of members)) 0 typ value r
         → Answers checking (λ (u : Unit {0}). u) (Counted (λ t. tt) (Unplaced (RowAnswer (typed_row table tree typ) value))) r
     typed_tested typ value r p = finds_tested (typed_row table tree typ) value r
-        (table_finds (λ t. 1) kinds trees lenient 0 typ
-        (plain (λ v. map_ok tree (unknown.read typ v))) value r facts.fixed
-        (all_single T kinds trees) (_, refl, refl) p)
+        (table_finds (λ t. 1) members lenient 0 typ
+        (plain (λ v. map_ok tree (unknown.read typ v))) value r (facts.single typ) (_, refl, refl) p)
 
 -- ---- a type that isn't named
 

@@ -8,24 +8,22 @@ pub record Tree : Type 0 where
   pub request : ℕ
   pub new_streams : ℕ
 
--- the numbers, as they are read
-abbrev pub numbers_at : List ℕ → AddStreamsNumbers
-numbers_at value = record {
-  request_seq_nbr = number32 value;
-  nbr_new_streams = number16 (drop 4 value);
-}
-
 abbrev pub read : List ℕ → Result Tree Fault
 read value =
-    if length value == 8 then Ok (record {
-      request = (numbers_at value).request_seq_nbr;
-      new_streams = (numbers_at value).nbr_new_streams;
-    }) else
+    if length value == 8
+    then Ok (record { request = number32 value; new_streams = number16 (drop 4 value) }) else
     Err Length
 
 -- the value that is written
 abbrev pub value_of : Tree → List ℕ
 value_of r = to_be_bytes w32 r.request ++ (to_be_bytes w16 r.new_streams ++ 0 ∷ 0 ∷ [])
+
+-- the numbers of the code, as they are read and written
+abbrev pub numbers_at : List ℕ → AddStreamsNumbers
+numbers_at value = record {
+  request_seq_nbr = number32 value;
+  nbr_new_streams = number16 (drop 4 value);
+}
 
 abbrev pub number_bytes : AddStreamsNumbers → List ℕ
 number_bytes n = value_of (record { request = n.request_seq_nbr; new_streams = n.nbr_new_streams })

@@ -48,17 +48,37 @@ abbrev pub row_as : {X T : Type 0} → Bool → ℕ → (X → T) → Reader X �
 row_as strict flags tree (AtFixed read) = plain (λ value. map_ok tree (read flags value))
 row_as strict flags tree (Nested row) = as_row tree (row strict flags)
 
--- for each kind a tree of the level for its tree, with `tt` at the end
-abbrev pub TreesOf : List Kind → Type 0 → Type 0
-TreesOf [] T = Unit {0}
-TreesOf (k ∷ ks) T = (k.Tree → T) × TreesOf ks T
+-- ---- the kinds of a level
 
--- the rows of the kinds in the level's table, for a strict reader or a lenient one
-abbrev pub rows : {T : Type 0} → Bool → ℕ → (ks : List Kind) → TreesOf ks T → List (Named T)
-rows strict flags [] trees = []
-rows strict flags (k ∷ ks) trees =
-    record { typ = k.typ; content = k.content; row = row_as strict flags trees.0 k.reader }
-    ∷ rows strict flags ks trees.1
+-- a kind, and its trees as trees of the level
+pub record Member (T : Type 0) : Type 1 where
+  pub kind : Kind
+  pub tree : kind.Tree → T
+
+abbrev pub member : {T : Type 0} → (k : Kind) → (k.Tree → T) → Member T
+member k tree = record { kind = k; tree = tree }
+
+abbrev pub kinds_of : {T : Type 0} → List (Member T) → List Kind
+kinds_of [] = []
+kinds_of (m ∷ ms) = m.kind ∷ kinds_of ms
+
+-- those that have no list
+abbrev pub if_plain : {X T : Type 0} → Reader X → Member T → List (Member T) → List (Member T)
+if_plain (AtFixed read) m ms = m ∷ ms
+if_plain (Nested row) m ms = ms
+
+abbrev pub plain_of : {T : Type 0} → List (Member T) → List (Member T)
+plain_of [] = []
+plain_of (m ∷ ms) = if_plain m.kind.reader m (plain_of ms)
+
+-- the rows of kinds in the level's table, for a strict reader or a lenient one
+abbrev pub rows : {T : Type 0} → Bool → ℕ → List (Member T) → List (Named T)
+rows strict flags [] = []
+rows strict flags (m ∷ ms) = record {
+  typ = m.kind.typ;
+  content = m.kind.content;
+  row = row_as strict flags m.tree m.kind.reader;
+} ∷ rows strict flags ms
 
 -- ---- a tree of the level: of a kind, or of a type that isn't named
 

@@ -14,21 +14,13 @@ pub record Tree : Type 0 where
 abbrev pub stream_count : List ℕ → ℕ
 stream_count value = (length value - 12) / 2
 
--- the numbers before the stream ids, as they are read
-abbrev pub numbers_at : List ℕ → OutgoingSsnResetRequestNumbers
-numbers_at value = record {
-  request_seq_nbr = number32 value;
-  response_seq_nbr = number32 (drop 4 value);
-  sender_last_assigned_tsn = record { 0 = number32 (drop 8 value) };
-}
-
 -- the value has at least 12 bytes, and after them an even number
 abbrev pub read : List ℕ → Result Tree Fault
 read value =
     if length value == 12 + 2 * stream_count value then Ok (record {
-      request = (numbers_at value).request_seq_nbr;
-      response = (numbers_at value).response_seq_nbr;
-      last_tsn = (numbers_at value).sender_last_assigned_tsn.0;
+      request = number32 value;
+      response = number32 (drop 4 value);
+      last_tsn = number32 (drop 8 value);
       streams = fields number16 2 (stream_count value) (drop 12 value);
     }) else
     Err Length
@@ -57,6 +49,14 @@ format r = record {
   text = text r;
   IsInWidth = IsInWidth r;
   IsWellFormed = Unit {0};
+}
+
+-- the numbers of the code before the stream ids, as they are read
+abbrev pub numbers_at : List ℕ → OutgoingSsnResetRequestNumbers
+numbers_at value = record {
+  request_seq_nbr = number32 value;
+  response_seq_nbr = number32 (drop 4 value);
+  sender_last_assigned_tsn = record { 0 = number32 (drop 8 value) };
 }
 
 abbrev pub view : OutgoingSsnResetRequestParameter → Tree

@@ -1,6 +1,6 @@
 -- The table of parameters (RFC 9260 section 3.2.1).
 use Rattle.std.specs.Prelude.{ℕ, Bool, List, [], ◌∷◌, map}
-use Rattle.dcsctp_tlv.specs.{Frame.{lenient}, Image.{Tlv}, Level.{Row, Level}, Table.{Named, IsUnnamed, is_fixed, types_where, IsOneOf, ◌&◌}, Format.{Format}, Tight.{IsTightList}, Kinds.{Kind, TreesOf, rows, Entry, Of, Unnamed, format_of, kept_of}, Typed.{typed_row, typed_level}, declared.parameter.Parameter.{Parameter}}
+use Rattle.dcsctp_tlv.specs.{Frame.{lenient}, Image.{Tlv}, Level.{Row, Level}, Table.{Named, IsUnnamed, is_fixed, types_where, IsOneOf}, Format.{Format}, Tight.{IsTightList}, Kinds.{Kind, Member, member, kinds_of, rows, Entry, Of, Unnamed, format_of, kept_of}, Typed.{typed_row, typed_level}, declared.parameter.Parameter.{Parameter}}
 use Rattle.dcsctp_tlv.specs as kind
 use Rattle.dcsctp_tlv.specs.UnknownParameter as unknown
 use Rattle.dcsctp_tlv.specs.declared.parameter.Parameter.TheVariants as variant
@@ -20,30 +20,27 @@ pub data ParameterTree : Type 0 where
   ForwardTsnSupported : ParameterTree
   Unknown : unknown.Tree → ParameterTree
 
--- the kinds that are named, by type; and their trees as trees of a parameter, in the same order
-abbrev pub kinds : List Kind
-kinds =
-    kind.HeartbeatInfo.kind ∷
-    kind.StateCookie.kind ∷
-    kind.OutgoingSsnResetRequest.kind ∷
-    kind.IncomingSsnResetRequest.kind ∷
-    kind.SsnTsnResetRequest.kind ∷
-    kind.ReconfigurationResponse.kind ∷
-    kind.AddOutgoingStreamsRequest.kind ∷
-    kind.AddIncomingStreamsRequest.kind ∷
-    kind.ZeroChecksumAcceptable.kind ∷
-    kind.SupportedExtensions.kind ∷
-    kind.ForwardTsnSupported.kind ∷ []
+-- the kinds that are named, by type
+abbrev pub members : List (Member ParameterTree)
+members =
+    member kind.HeartbeatInfo.kind HeartbeatInfo ∷  -- 1
+    member kind.StateCookie.kind StateCookie ∷  -- 7
+    member kind.OutgoingSsnResetRequest.kind OutgoingSsnResetRequest ∷  -- 13
+    member kind.IncomingSsnResetRequest.kind IncomingSsnResetRequest ∷  -- 14
+    member kind.SsnTsnResetRequest.kind SsnTsnResetRequest ∷  -- 15
+    member kind.ReconfigurationResponse.kind ReconfigurationResponse ∷  -- 16
+    member kind.AddOutgoingStreamsRequest.kind AddOutgoingStreamsRequest ∷  -- 17
+    member kind.AddIncomingStreamsRequest.kind AddIncomingStreamsRequest ∷  -- 18
+    member kind.ZeroChecksumAcceptable.kind ZeroChecksumAcceptable ∷  -- 0x8001
+    member kind.SupportedExtensions.kind SupportedExtensions ∷  -- 0x8008
+    member kind.ForwardTsnSupported.kind (λ _. ForwardTsnSupported) ∷  -- 0xC000
+    []
 
-abbrev pub trees : TreesOf kinds ParameterTree
-trees =
-    HeartbeatInfo & StateCookie & OutgoingSsnResetRequest & IncomingSsnResetRequest
-    & SsnTsnResetRequest & ReconfigurationResponse & AddOutgoingStreamsRequest
-    & AddIncomingStreamsRequest & ZeroChecksumAcceptable & SupportedExtensions
-    & (λ _. ForwardTsnSupported) & tt
+abbrev pub kinds : List Kind
+kinds = kinds_of members
 
 abbrev pub table : List (Named ParameterTree)
-table = rows lenient 0 kinds trees
+table = rows lenient 0 members
 
 -- what the value of a type means, and its faults
 abbrev pub row : ℕ → Row ParameterTree

@@ -31,22 +31,15 @@ result_number ErrorRequestAlreadyInProgress = 4
 result_number ErrorBadSequenceNumber = 5
 result_number InProgress = 6
 
--- the numbers before the next TSNs, as they are read
-abbrev pub numbers_at : List ℕ → ReconfigurationResponseNumbers
-numbers_at value = record {
-  response_seq_nbr = number32 value;
-  result = number32 (drop 4 value);
-}
-
 -- a value with these next TSNs
 abbrev pub response_with : List ℕ → Option ℕ → Option ℕ → Result Tree Fault
 response_with value sender receiver =
     map_ok (λ result. record {
-      response = (numbers_at value).response_seq_nbr;
+      response = number32 value;
       result = result;
       sender_next_tsn = sender;
       receiver_next_tsn = receiver;
-    }) (result_of (numbers_at value).result)
+    }) (result_of (number32 (drop 4 value)))
 
 -- the length comes before the result
 abbrev pub read : List ℕ → Result Tree Fault
@@ -94,6 +87,13 @@ abbrev pub kept : Tree → Tree
 kept r = record r {
   sender_next_tsn = kept_tsn r.sender_next_tsn r.receiver_next_tsn;
   receiver_next_tsn = kept_tsn r.receiver_next_tsn r.sender_next_tsn;
+}
+
+-- the numbers of the code before the next TSNs, as they are read
+abbrev pub numbers_at : List ℕ → ReconfigurationResponseNumbers
+numbers_at value = record {
+  response_seq_nbr = number32 value;
+  result = number32 (drop 4 value);
 }
 
 abbrev pub tsn_number : Option Tsn → Option ℕ

@@ -1,9 +1,8 @@
 -- The table of chunks (RFC 9260 section 3.2).
-use Rattle.std.specs.Prelude.{◌⊎◌, ℕ, Bool, List, [], ◌∷◌, ◌++◌, map}
-use Rattle.dcsctp_tlv.specs.{Frame.{lenient, full_padding}, Level.{Row, plain, Level, map_ok}, Table.{Named, row_of, IsUnnamed, is_fixed, has_causes, types_where, IsOneOf, HasEmptyList, ◌&◌}, Image.{Tlv, IsEncodable}, Format.{Format}, Tight.{IsTightList, AreTight}, Parameter.{ParameterTree, IsTight as IsTightParameter}, Kinds.{Kind, TreesOf, rows, Entry, Of, Unnamed, format_of, kept_of, parts_of}}
+use Rattle.std.specs.Prelude.{◌⊎◌, ℕ, Bool, List, [], ◌∷◌, map}
+use Rattle.dcsctp_tlv.specs.{Frame.{lenient, full_padding}, Level.{Row, plain, Level, map_ok}, Table.{Named, row_of, IsUnnamed, is_fixed, has_causes, types_where, IsOneOf, HasEmptyList}, Image.{Tlv, IsEncodable}, Format.{Format}, Tight.{IsTightList, AreTight}, Parameter.{ParameterTree, IsTight as IsTightParameter}, Kinds.{Member, member, plain_of, rows, Entry, Of, Unnamed, format_of, kept_of, parts_of}}
 use Rattle.dcsctp_cause.specs.Cause.{CauseTree, IsTight as IsTightCause}
 use Rattle.dcsctp_chunk.specs as plain_kind
-use Rattle.dcsctp_chunk.specs.PlainKinds.{plain_kinds}
 use Rattle.dcsctp_chunk.specs.SkippedStreams as skipped_streams
 use Rattle.dcsctp_wire.specs as kind
 use Rattle.dcsctp_wire.specs.declared.packet.chunk.Chunk.{Chunk}
@@ -30,35 +29,36 @@ pub data ChunkTree : Type 0 where
   IForwardTsn : skipped_streams.Tree → ChunkTree
   Unknown : plain_kind.Unknown.Tree → ChunkTree
 
--- The kinds that are named, those with a list first; and their trees as trees of a chunk, in the
--- same order.
-abbrev pub list_kinds : List Kind
-list_kinds =
-    kind.Init.kind ∷
-    kind.InitAck.kind ∷
-    kind.HeartbeatRequest.kind ∷
-    kind.HeartbeatAck.kind ∷
-    kind.Abort.kind ∷
-    kind.Error.kind ∷
-    kind.ReConfig.kind ∷ []
-
-abbrev pub list_trees : TreesOf list_kinds ChunkTree
-list_trees = Init & InitAck & HeartbeatRequest & HeartbeatAck & Abort & Error & ReConfig & tt
-
-abbrev pub plain_trees : TreesOf plain_kinds ChunkTree
-plain_trees =
-    Data & Sack & Shutdown & (λ _. ShutdownAck) & CookieEcho & (λ _. CookieAck) & ShutdownComplete
-    & IData & ForwardTsn & IForwardTsn & tt
+-- The kinds that are named, by type: those of RFC 9260's table 1 (section 3.2), and after them those
+-- of RFC 8260, 6525 and 3758.
+abbrev pub members : List (Member ChunkTree)
+members =
+    member plain_kind.DataChunk.kind Data ∷  -- 0
+    member kind.Init.kind Init ∷  -- 1
+    member kind.InitAck.kind InitAck ∷  -- 2
+    member plain_kind.Sack.kind Sack ∷  -- 3
+    member kind.HeartbeatRequest.kind HeartbeatRequest ∷  -- 4
+    member kind.HeartbeatAck.kind HeartbeatAck ∷  -- 5
+    member kind.Abort.kind Abort ∷  -- 6
+    member plain_kind.Shutdown.kind Shutdown ∷  -- 7
+    member plain_kind.ShutdownAck.kind (λ _. ShutdownAck) ∷  -- 8
+    member kind.Error.kind Error ∷  -- 9
+    member plain_kind.CookieEcho.kind CookieEcho ∷  -- 10
+    member plain_kind.CookieAck.kind (λ _. CookieAck) ∷  -- 11
+    member plain_kind.ShutdownComplete.kind ShutdownComplete ∷  -- 14
+    member plain_kind.IDataChunk.kind IData ∷  -- 64
+    member kind.ReConfig.kind ReConfig ∷  -- 130
+    member plain_kind.ForwardTsn.kind ForwardTsn ∷  -- 192
+    member plain_kind.IForwardTsn.kind IForwardTsn ∷  -- 194
+    []
 
 -- the types that are named, and how the value of each is read, for a strict reader or a lenient one
-abbrev pub list_rows : Bool → ℕ → List (Named ChunkTree)
-list_rows strict flags = rows strict flags list_kinds list_trees
-
-abbrev pub plain_rows : ℕ → List (Named ChunkTree)
-plain_rows flags = rows lenient flags plain_kinds plain_trees
-
 abbrev pub table : Bool → ℕ → List (Named ChunkTree)
-table strict flags = list_rows strict flags ++ plain_rows flags
+table strict flags = rows strict flags members
+
+-- those of the kinds without a list
+abbrev pub plain_rows : ℕ → List (Named ChunkTree)
+plain_rows flags = rows lenient flags (plain_of members)
 
 -- what the value of a type means, and its faults
 abbrev pub chunk_row : Bool → ℕ → ℕ → Row ChunkTree
@@ -74,7 +74,7 @@ chunks strict = record { row = chunk_row strict; padding = full_padding strict }
 abbrev pub TakesNoMemory : ℕ → List ℕ → Type 0
 TakesNoMemory typ value =
     IsOneOf (types_where is_fixed (table lenient 0)) typ
-    ⊎ HasEmptyList (list_rows lenient 0) typ value
+    ⊎ HasEmptyList (table lenient 0) typ value
 
 -- a chunk of the type holds error causes
 abbrev pub HoldsCauses : ℕ → Type 0

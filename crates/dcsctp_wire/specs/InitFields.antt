@@ -1,6 +1,6 @@
 -- What INIT and INIT ACK have in common (RFC 9260 sections 3.3.2 and 3.3.3): flags ignored; sixteen
 -- bytes of numbers, and after them parameters.
-use Rattle.std.specs.{Prelude.{ℕ, Bool, ◌+◌, ◌<◌, ◌^◌, List, ◌++◌, length, drop, codes, nat_le}, List.{AllByRecursion}, Fmt.{decimal}, Int.{w16, w32, to_be_bytes}}
+use Rattle.std.specs.{Prelude.{ℕ, Bool, ◌+◌, ◌<◌, ◌^◌, List, [], ◌++◌, length, drop, codes, nat_le}, List.{AllByRecursion}, Fmt.{decimal}, Int.{w16, w32, to_be_bytes}}
 use Rattle.dcsctp_tlv.{specs.Number.{number16, number32}, specs.Format.{Format}, specs.Level.{Row, listed}, specs.Image.{listed_tlv}, specs.Table.{Parameters}, proofs.Listed.{listed_sized}, proofs.ParameterLaws.{length-parameter}, specs.Kinds.{Kind, Nested}}
 use Rattle.dcsctp_tlv.specs.Parameter as parameter
 use Rattle.dcsctp_wire.specs.declared.packet.init_chunk.InitNumbers.{InitNumbers}
@@ -13,36 +13,16 @@ pub record Tree : Type 0 where
   pub tsn : ℕ
   pub parameters : List parameter.ParameterTree
 
--- these numbers and parameters
-abbrev pub view : InitNumbers → List parameter.ParameterTree → Tree
-view n ps = record {
-  tag = n.initiate_tag;
-  window = n.a_rwnd;
-  outbound = n.nbr_outbound_streams;
-  inbound = n.nbr_inbound_streams;
-  tsn = n.initial_tsn.0;
-  parameters = ps;
-}
-
--- the numbers before the parameters, as they are read and written
-abbrev pub numbers_at : List ℕ → InitNumbers
-numbers_at value = record {
-  initiate_tag = number32 value;
-  a_rwnd = number32 (drop 4 value);
-  nbr_outbound_streams = number16 (drop 8 value);
-  nbr_inbound_streams = number16 (drop 10 value);
-  initial_tsn = record { 0 = number32 (drop 12 value) };
-}
-
-abbrev pub number_bytes : InitNumbers → List ℕ
-number_bytes n =
-    to_be_bytes w32 n.initiate_tag ++ (to_be_bytes w32 n.a_rwnd
-    ++ (to_be_bytes w16 n.nbr_outbound_streams
-    ++ (to_be_bytes w16 n.nbr_inbound_streams ++ to_be_bytes w32 n.initial_tsn.0)))
-
 -- the numbers of a value, with these parameters
 abbrev pub tree_of : List ℕ → List parameter.ParameterTree → Tree
-tree_of value ps = view (numbers_at value) ps
+tree_of value ps = record {
+  tag = number32 value;
+  window = number32 (drop 4 value);
+  outbound = number16 (drop 8 value);
+  inbound = number16 (drop 10 value);
+  tsn = number32 (drop 12 value);
+  parameters = ps;
+}
 
 abbrev pub row : Bool → Row Tree
 row strict = listed (λ value. nat_le 16 (length value)) 16 (parameter.parameters strict) tree_of
@@ -53,13 +33,9 @@ parts i = 1 + length i.parameters
 
 -- the numbers before the parameters, as they are written
 abbrev pub leading : Tree → List ℕ
-leading i = number_bytes (record {
-  initiate_tag = i.tag;
-  a_rwnd = i.window;
-  nbr_outbound_streams = i.outbound;
-  nbr_inbound_streams = i.inbound;
-  initial_tsn = record { 0 = i.tsn };
-})
+leading i =
+    to_be_bytes w32 i.tag ++ (to_be_bytes w32 i.window ++ (to_be_bytes w16 i.outbound
+    ++ (to_be_bytes w16 i.inbound ++ to_be_bytes w32 i.tsn)))
 
 -- every number lies in its field's width
 pub record IsInWidth (i : Tree) : Type 0 where
@@ -92,3 +68,29 @@ kind_of typ format = record {
   kept = λ i. record i { parameters = parameter.all_kept i.parameters };
   parts = parts;
 }
+
+-- ---- the numbers of the code
+
+-- what they mean, with these parameters
+abbrev pub view : InitNumbers → List parameter.ParameterTree → Tree
+view n ps = record {
+  tag = n.initiate_tag;
+  window = n.a_rwnd;
+  outbound = n.nbr_outbound_streams;
+  inbound = n.nbr_inbound_streams;
+  tsn = n.initial_tsn.0;
+  parameters = ps;
+}
+
+-- as they are read and written
+abbrev pub numbers_at : List ℕ → InitNumbers
+numbers_at value = record {
+  initiate_tag = number32 value;
+  a_rwnd = number32 (drop 4 value);
+  nbr_outbound_streams = number16 (drop 8 value);
+  nbr_inbound_streams = number16 (drop 10 value);
+  initial_tsn = record { 0 = number32 (drop 12 value) };
+}
+
+abbrev pub number_bytes : InitNumbers → List ℕ
+number_bytes n = leading (view n [])

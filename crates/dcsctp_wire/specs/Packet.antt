@@ -55,35 +55,17 @@ pub record IsOpened (bytes : List ℕ) (word : ℕ) (policy : ChecksumPolicy) : 
 abbrev pub body : List ℕ → List ℕ
 body bytes = drop 12 bytes
 
--- the header that these bytes begin with
-abbrev pub header_of : List ℕ → CommonHeader
-header_of bytes = record {
-  source_port = number16 bytes;
-  destination_port = number16 (drop 2 bytes);
-  verification_tag = number32 (drop 4 bytes);
-  checksum = checksum_field bytes;
-}
-
--- the header as it is written
-abbrev pub header_bytes : CommonHeader → List ℕ
-header_bytes h =
-    to_be_bytes w16 h.source_port ++ (to_be_bytes w16 h.destination_port
-    ++ (to_be_bytes w32 h.verification_tag ++ to_be_bytes w32 h.checksum))
-
--- a packet with this header, and these chunks
-abbrev pub with_header : CommonHeader → List ChunkTree → PacketTree
-with_header h ts = record {
+-- a packet with the header of these bytes, and these chunks
+abbrev pub packet_with : List ℕ → List ChunkTree → PacketTree
+packet_with bytes ts = record {
   meaning = record {
-    source = h.source_port;
-    destination = h.destination_port;
-    tag = h.verification_tag;
+    source = number16 bytes;
+    destination = number16 (drop 2 bytes);
+    tag = number32 (drop 4 bytes);
     chunks = ts;
   };
-  checksum = h.checksum;
+  checksum = checksum_field bytes;
 }
-
-abbrev pub packet_with : List ℕ → List ChunkTree → PacketTree
-packet_with bytes ts = with_header (header_of bytes) ts
 
 -- it has the header of these bytes, and the chunks that all of the body means
 pub record MeansPacket (strict : Bool) (bytes : List ℕ) (p : PacketTree) : Type 0 where
@@ -130,6 +112,33 @@ abbrev pub packet_checking : Errors PacketFault PacketParseError
 packet_checking = record { of = packet_error_of; out_of_memory = λ e. ⊥ }
 
 -- ---- packets of the code
+
+-- the header that these bytes begin with
+abbrev pub header_of : List ℕ → CommonHeader
+header_of bytes = record {
+  source_port = number16 bytes;
+  destination_port = number16 (drop 2 bytes);
+  verification_tag = number32 (drop 4 bytes);
+  checksum = checksum_field bytes;
+}
+
+-- the header as it is written
+abbrev pub header_bytes : CommonHeader → List ℕ
+header_bytes h =
+    to_be_bytes w16 h.source_port ++ (to_be_bytes w16 h.destination_port
+    ++ (to_be_bytes w32 h.verification_tag ++ to_be_bytes w32 h.checksum))
+
+-- a packet with this header, and these chunks
+abbrev pub with_header : CommonHeader → List ChunkTree → PacketTree
+with_header h ts = record {
+  meaning = record {
+    source = h.source_port;
+    destination = h.destination_port;
+    tag = h.verification_tag;
+    chunks = ts;
+  };
+  checksum = h.checksum;
+}
 
 -- a packet of the code, without where it lies in memory
 abbrev pub packet_view : SctpPacket → PacketTree

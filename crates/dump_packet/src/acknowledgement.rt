@@ -7,7 +7,9 @@ ghost use Rattle.dump_packet.specs.Acknowledged.{acknowledges, is_acknowledging,
 use crate::serial::is_after;
 use dcsctp_borrowed::part::Item;
 use dcsctp_receive::chunk_type::{NR_SACK, SACK, SHUTDOWN};
-use dcsctp_registry::registered_chunk::{NR_SACK_BLOCKS, NR_SACK_NR_BLOCKS, NR_SACK_SIZE};
+use dcsctp_registry::chunk_layouts::{
+    NR_SACK_BLOCKS_OFFSET, NR_SACK_LISTS_OFFSET, NR_SACK_NR_BLOCKS_OFFSET,
+};
 use dcsctp_wire::packet::sack_chunk::SackNumbers;
 use dcsctp_wire::packet::{read_u16_be, read_u32_be};
 
@@ -34,7 +36,7 @@ impl<'a> Acknowledgement<'a> {
         let size = if chunk.first == SACK {
             SackNumbers::SIZE
         } else {
-            NR_SACK_SIZE
+            NR_SACK_LISTS_OFFSET
         };
         Some(Acknowledgement {
             cumulative: read_u32_be(chunk.value.bytes),
@@ -99,9 +101,9 @@ fn block_count(chunk: Item<'_>) -> usize
     let value = chunk.value.bytes;
     if chunk.first == SACK && value.len() >= SackNumbers::SIZE {
         read_u16_be(&value[SackNumbers::GAP_ACK_BLOCK_COUNT..]) as usize
-    } else if chunk.first == NR_SACK && value.len() >= NR_SACK_SIZE {
-        let blocks = read_u16_be(&value[NR_SACK_BLOCKS..]) as usize;
-        blocks + read_u16_be(&value[NR_SACK_NR_BLOCKS..]) as usize
+    } else if chunk.first == NR_SACK && value.len() >= NR_SACK_LISTS_OFFSET {
+        let blocks = read_u16_be(&value[NR_SACK_BLOCKS_OFFSET..]) as usize;
+        blocks + read_u16_be(&value[NR_SACK_NR_BLOCKS_OFFSET..]) as usize
     } else {
         0
     }

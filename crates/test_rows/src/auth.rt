@@ -71,20 +71,22 @@ fn write_key(one: &[u8], other: &[u8], out: &mut Answer) {
     }
 }
 
-/// Returns the cookie of the rows, with these addresses.
-fn cookie_of(addresses: &[u8]) -> StateCookie {
+/// Returns the cookie of the rows, with these further bytes.
+fn cookie_of(extra: &[u8]) -> StateCookie {
     StateCookie {
         created: CREATED,
         lifespan: LIFESPAN,
         local_tag: 0x01020304,
         peer_tag: 0x05060708,
+        local_tie_tag: 0x21222324,
+        peer_tie_tag: 0x25262728,
         local_initial_tsn: 0x11121314,
         peer_initial_tsn: 0x15161718,
         local_port: 5000,
         peer_port: 5001,
         outbound_streams: 10,
         inbound_streams: 2048,
-        addresses,
+        extra,
     }
 }
 
@@ -97,11 +99,11 @@ fn write_opened(key: &[u8], cookie: &[u8], now: u64, out: &mut Answer) {
     }
 }
 
-/// Writes the sealed cookie with these addresses, and what it is at some times, under another key,
-/// and cut off; and which changed byte doesn't make it invalid.
-fn write_cookie(key: &[u8], addresses: &[u8], out: &mut Answer) {
+/// Writes the sealed cookie with these further bytes, and what it is at some times, under another
+/// key, and cut off; and which changed byte doesn't make it invalid.
+fn write_cookie(key: &[u8], extra: &[u8], out: &mut Answer) {
     let mut buffer = [0xEE; 256];
-    let Some(size) = seal_cookie(&mut buffer, key, &cookie_of(addresses)) else {
+    let Some(size) = seal_cookie(&mut buffer, key, &cookie_of(extra)) else {
         return out.say("no room");
     };
     let mut sealed = out.copy(front(&buffer, size));

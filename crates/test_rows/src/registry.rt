@@ -2,144 +2,95 @@
 
 use crate::answer::{Answer, Change, Digits, from, front, short_at};
 use crate::receive;
-use dcsctp_borrowed::numbers::Numbers;
+use dcsctp_buffer::item::add_written;
 use dcsctp_buffer::{add, begin};
-use dcsctp_registry::raw_items::RawItems;
-use dcsctp_registry::registered_cause::{RegisteredCause, add_cause};
+use dcsctp_registry::address::ip_address;
+use dcsctp_registry::items::are_items;
+use dcsctp_registry::layout::Rest;
+use dcsctp_registry::parameter_layouts::ERROR_CAUSE_INDICATION;
+use dcsctp_registry::read::{read_cause, read_chunk, read_parameter};
+use dcsctp_registry::registered::Registered;
 use dcsctp_registry::registered_chunk::RegisteredChunk;
-use dcsctp_registry::registered_parameter::{RegisteredParameter, add_parameter};
 use dcsctp_wire::packet::chunk::RawChunk;
 use dcsctp_wire::packet::parameter::RawParameter;
-use dcsctp_wire::packet::sack_chunk::GapAckBlock;
-use dcsctp_wire::types::Tsn;
 
 /// Of items in one another, how many are opened.
 const MOST_OPENED: usize = 4;
 
 /// Items in one, and whether these are error causes.
-type Inner<'a> = Option<(bool, RawItems<'a>)>;
+type Inner<'a> = Option<(bool, &'a [u8])>;
 
 // ---- one item: each writes it, and returns the items in it
 
-/// Writes an item that isn't read.
-fn write_bytes(typ: u16, value: &[u8], out: &mut Answer) {
-    write!(out, "{typ:04x}: {}", Digits(value))
-}
-
-/// Writes the numbers of a kind after its name.
-fn write_numbers(name: &str, numbers: &Numbers, out: &mut Answer) {
-    let mut list = Vec::new(out.alloc);
-    for i in 0..numbers.count() {
-        out.push(&mut list, numbers.number(i));
+/// Writes what a value holds: numbers of four bytes, of two, an address, and the rest.
+fn write_parts(held: &Registered, out: &mut Answer) {
+    let mut mark = "";
+    for i in 0..2 {
+        if let Some(number) = held.number(i) {
+            write!(out, "{mark}{number}");
+            mark = ", ";
+        }
     }
-    write!(out, "{name}({list:?})")
-}
-
-fn write_parameter<'a>(raw: &RawParameter<'a>, out: &mut Answer) -> Inner<'a> {
-    match RegisteredParameter::from_raw(raw) {
-        None => write_bytes(raw.typ, raw.value, out),
-        Some(RegisteredParameter::UnrecognizedParameter(parameters)) => {
-            out.say("UnrecognizedParameter");
-            return Some((false, parameters));
+    for i in 0..3 {
+        if let Some(number) = held.short_number(i) {
+            write!(out, "{mark}short {number}");
+            mark = ", ";
         }
-        Some(
-            RegisteredParameter::ErrorCauseIndication {
-                correlation_id: id,
-                causes,
-            },
-        ) => {
-            write!(out, "ErrorCauseIndication {{ correlation_id: {id} }}");
-            return Some((true, causes));
-        }
-        Some(RegisteredParameter::SupportedAddressTypes(types)) => {
-            write_numbers("SupportedAddressTypes", &types, out)
-        }
-        Some(RegisteredParameter::RequestedHmacAlgorithm(ids)) => {
-            write_numbers("RequestedHmacAlgorithm", &ids, out)
-        }
-        Some(RegisteredParameter::Address(address)) => {
-            // the address as std prints it, too
-            write!(out, "Address({address:?}) {}", address.ip())
-        }
-        Some(parameter) => write!(out, "{parameter:?}"),
     }
-    None
+    if let Some(octets) = held.address() {
+        if let Some(address) = ip_address(octets) {
+            write!(out, "{mark}address {address}");
+            mark = ", ";
+        }
+    }
+    if let Some(rest) = held.rest() {
+        if matches!(held.layout().rest, Rest::Items) {
+            write!(out, "{mark}items")
+        } else {
+            write!(out, "{mark}rest {}", Digits(rest))
+        }
+    } else if mark.is_empty() {
+        out.say("empty")
+    }
 }
 
-fn write_cause<'a>(raw: &RawParameter<'a>, out: &mut Answer) -> Inner<'a> {
-    let (name, parameters) = match RegisteredCause::from_raw(raw) {
-        None => {
-            write_bytes(raw.typ, raw.value, out);
-            return None;
-        }
-        Some(RegisteredCause::UnresolvableAddress(p)) => ("UnresolvableAddress", p),
-        Some(RegisteredCause::UnrecognizedParameters(p)) => ("UnrecognizedParameters", p),
-        Some(RegisteredCause::RestartWithNewAddresses(p)) => ("RestartWithNewAddresses", p),
-        Some(RegisteredCause::DeleteLastRemainingIpAddress(p)) => (
-            "DeleteLastRemainingIpAddress",
-            p,
-        ),
-        Some(RegisteredCause::OperationRefused(p)) => ("OperationRefused", p),
-        Some(RegisteredCause::DeleteSourceIpAddress(p)) => ("DeleteSourceIpAddress", p),
-        Some(RegisteredCause::RequestRefused(p)) => ("RequestRefused", p),
-        Some(cause) => {
-            write!(out, "{cause:?}");
-            return None;
-        }
+/// Writes what a value holds, or the bytes of one that isn't read.
+fn write_held<'a>(
+    held: &Option<Registered<'a>>,
+    of_causes: bool,
+    typ: u16,
+    value: &[u8],
+    out: &mut Answer,
+) -> Inner<'a> {
+    let Some(held) = held else {
+        write!(out, "{typ:04x}: {}", Digits(value));
+        return None;
     };
-    write!(out, "{name}");
-    Some((false, parameters))
+    write_parts(held, out);
+    match held.layout().rest {
+        Rest::Items => Some((of_causes, held.rest()?)),
+        _ => None,
+    }
+}
+
+/// Reads a parameter or an error cause.
+fn read_item<'a>(is_cause: bool, raw: &RawParameter<'a>) -> Option<Registered<'a>> {
+    if is_cause {
+        read_cause(raw)
+    } else {
+        read_parameter(raw)
+    }
 }
 
 fn write_item<'a>(is_cause: bool, raw: &RawParameter<'a>, out: &mut Answer) -> Inner<'a> {
-    if is_cause {
-        write_cause(raw, out)
-    } else {
-        write_parameter(raw, out)
-    }
-}
-
-fn write_chunk<'a>(raw: &RawChunk<'a>, out: &mut Answer) -> Inner<'a> {
-    match RegisteredChunk::from_raw(raw) {
-        None => write_bytes(raw.typ as u16, raw.value, out),
-        Some(
-            RegisteredChunk::AsconfAck {
-                sequence_number: number,
-                parameters,
-            },
-        ) => {
-            write!(out, "AsconfAck {{ sequence_number: {number} }}");
-            return Some((false, parameters));
-        }
-        Some(
-            RegisteredChunk::Asconf {
-                sequence_number: number,
-                address,
-                parameters,
-            },
-        ) => {
-            let ip = address.ip();
-            write!(out, "Asconf {{ sequence_number: {number}, address: {ip} }}");
-            return Some((false, parameters));
-        }
-        Some(
-            RegisteredChunk::NrSack {
-                cumulative_tsn_ack: tsn,
-                a_rwnd: room,
-                gap_ack_blocks,
-                nr_gap_ack_blocks,
-                duplicate_tsns,
-            },
-        ) => {
-            let blocks: Vec<GapAckBlock> = out.list(gap_ack_blocks.collect(out.alloc));
-            let nr_blocks: Vec<GapAckBlock> = out.list(nr_gap_ack_blocks.collect(out.alloc));
-            let duplicates: Vec<Tsn> = out.list(duplicate_tsns.collect(out.alloc));
-            let fields = (tsn, room, blocks, nr_blocks, duplicates);
-            write!(out, "NrSack{fields:?}")
-        }
-        Some(chunk) => write!(out, "{chunk:?}"),
-    }
-    None
+    let of_causes = !is_cause && raw.typ == ERROR_CAUSE_INDICATION;
+    write_held(
+        &read_item(is_cause, raw),
+        of_causes,
+        raw.typ,
+        raw.value,
+        out,
+    )
 }
 
 // ---- how it is written
@@ -159,20 +110,19 @@ fn put_item(is_cause: bool, raw: &RawParameter, buffer: &mut [u8]) -> Option<()>
         value: &[],
     };
     add(buffer, &mut size, &error).ok()?;
-    if is_cause {
-        let cause = RegisteredCause::from_raw(raw)?;
-        add_cause(buffer, &mut size, CHUNK_PLACE, &cause).ok()
-    } else {
-        let parameter = RegisteredParameter::from_raw(raw)?;
-        add_parameter(buffer, &mut size, CHUNK_PLACE, &parameter).ok()
-    }
+    let value = read_item(is_cause, raw)?.to_bytes();
+    add_written(buffer, &mut size, CHUNK_PLACE, raw.typ, &value).ok()
 }
 
 /// Adds the chunk to a packet in a buffer. `None` if it isn't read, or not added.
 fn put_chunk(raw: &RawChunk, buffer: &mut [u8]) -> Option<()> {
     let mut size = 0;
     begin(buffer, &mut size, 1, 1, 1).ok()?;
-    let chunk = RegisteredChunk::from_raw(raw)?;
+    let chunk = RegisteredChunk {
+        typ: raw.typ,
+        flags: raw.flags,
+        value: read_chunk(raw)?.to_bytes(),
+    };
     add(buffer, &mut size, &chunk).ok()
 }
 
@@ -196,13 +146,13 @@ fn write_inner(bytes: &[u8], list: Inner, out: &mut Answer) {
         out.push(&mut lists, list);
     }
     for _ in 0..bytes.len() {
-        if let Some((is_cause, mut items)) = lists.pop() {
-            if let Some(raw) = items.next() {
-                out.push(&mut lists, (is_cause, items));
+        if let Some((is_cause, items)) = lists.pop() {
+            if let Ok((raw, rest)) = RawParameter::from_bytes(items) {
+                out.push(&mut lists, (is_cause, rest));
                 let depth = lists.len();
                 write!(out, "; {depth} ");
                 if depth == MOST_OPENED {
-                    write_bytes(raw.typ, raw.value, out);
+                    write!(out, "{:04x}: {}", raw.typ, Digits(raw.value));
                 } else if let Some(inner) = write_item(is_cause, &raw, out) {
                     out.push(&mut lists, inner);
                 }
@@ -228,7 +178,7 @@ fn write_chunk_row(bytes: &[u8], out: &mut Answer) {
     let Ok((raw, _)) = RawChunk::from_bytes(bytes) else {
         return out.say("no chunk");
     };
-    let inner = write_chunk(&raw, out);
+    let inner = write_held(&read_chunk(&raw), false, raw.typ as u16, raw.value, out);
     let mut buffer = out.filled(65532);
     let put = put_chunk(&raw, &mut buffer);
     write_again(put, CHUNK_PLACE, bytes, &buffer, out);
@@ -239,18 +189,15 @@ fn write_chunk_row(bytes: &[u8], out: &mut Answer) {
 
 /// Writes how many of Unrecognized Parameters in one another were opened, and how many bytes are
 /// left in the last one.
-fn write_opened(nested: RawItems, out: &mut Answer) {
+fn write_opened(nested: &[u8], out: &mut Answer) {
     let mut items = nested;
     let (mut opened, mut left) = (0, 0);
     for i in 0..MOST_OPENED {
-        if let Some(raw) = items.next() {
+        if let Ok((raw, _)) = RawParameter::from_bytes(items) {
             left = raw.value.len();
-            if let Some(
-                RegisteredParameter::UnrecognizedParameter(inner),
-            ) = RegisteredParameter::from_raw(&raw)
-            {
+            if let Some(held) = read_parameter(&raw) {
                 opened = i.saturating_add(1);
-                items = inner;
+                items = held.rest().unwrap_or(&[]);
             }
         }
     }
@@ -265,9 +212,10 @@ fn write_nested(count: u16, out: &mut Answer) {
         let [high, low] = (count - i).saturating_mul(4).to_be_bytes();
         out.or_out_of_memory(bytes.extend_from_slice(&[0, 8, high, low]));
     }
-    match RawItems::from_bytes(&bytes) {
-        Some(nested) => write_opened(nested, out),
-        None => out.say("no items"),
+    if are_items(&bytes) {
+        write_opened(&bytes, out)
+    } else {
+        out.say("no items")
     }
 }
 

@@ -6,17 +6,22 @@ ghost use Rattle.dump_associations.specs.Announced.{is_deleted, is_refused, is_s
 
 use dcsctp_borrowed::part::{Item, Part};
 use dcsctp_receive::chunk_type::{ASCONF, ASCONF_ACK, INIT, INIT_ACK};
-use dcsctp_registry::address::{IPV4_ADDRESS, IPV6_ADDRESS};
-use dcsctp_registry::registered_chunk::SEQUENCE_NUMBER_SIZE;
-use dcsctp_registry::registered_parameter::{
-    CORRELATION_ID_SIZE, ERROR_CAUSE_INDICATION, RegisteredParameter, SUCCESS_INDICATION,
+use dcsctp_registry::address::ip_address;
+use dcsctp_registry::parameter_layouts::{
+    ADD_IP_ADDRESS, DELETE_IP_ADDRESS, ERROR_CAUSE_INDICATION, IPV4_ADDRESS, IPV6_ADDRESS,
+    SET_PRIMARY_ADDRESS, SUCCESS_INDICATION,
 };
+use dcsctp_registry::read::read_parameter;
 use dcsctp_wire::packet::init_chunk::InitNumbers;
 use dcsctp_wire::packet::parameter::RawParameter;
 use dcsctp_wire::packet::read_u32_be;
 use dump_packet::{PacketNumber, SeenPacket, increase};
 use std::alloc::{AllocError, Global};
 use std::net::IpAddr;
+
+/// Bytes of the sequence number of ASCONF and of its answer (RFC 5061 section 4.1), and of a
+/// correlation ID (section 4.2).
+const NUMBER_SIZE: usize = 4;
 
 /// How many addresses of an end are kept.
 const MOST_ADDRESSES: usize = 8;
@@ -257,11 +262,11 @@ impl Announcements {
     /// request, this succeeded, unless one before it failed (RFC 5061 section 5.1, rules A7 and
     /// A8).
     fn note_received(&mut self, packet: &SeenPacket<'_>, chunk: Item<'_>) {
-        if chunk.value.bytes.len() < SEQUENCE_NUMBER_SIZE {
+        if chunk.value.bytes.len() < NUMBER_SIZE {
             return;
         }
         let sequence_number = read_u32_be(chunk.value.bytes);
-        let responses = chunk.value.after(SEQUENCE_NUMBER_SIZE);
+        let responses = chunk.value.after(NUMBER_SIZE);
         let is_clear = are_readable(responses) && !packet.is_refused;
         let mut has_failed = false;
         for request in self.requests {
@@ -299,8 +304,11 @@ impl Announcements {
         };
         let mut left_out = 0;
         for parameter in chunk.value.after(InitNumbers::SIZE).items() {
-            if let Some(RegisteredParameter::Address(address)) = meaning(parameter) {
-                if !self.note(address.ip(), Topic::Added, statement) {
+            if let (IPV4_ADDRESS | IPV6_ADDRESS, Some(address)) = (
+                parameter.code(),
+                address_of(parameter),
+            ) {
+                if !self.note(address, Topic::Added, statement) {
                     increase(&mut left_out);
                 }
             }
@@ -311,7 +319,7 @@ impl Announcements {
     /// Notes the requests in an ASCONF, in a packet from this source. One with the number of the
     /// one before is that one, sent again.
     fn note_requests(&mut self, value: Part<'_>, packet: PacketNumber, source: Option<IpAddr>) {
-        if value.bytes.len() < SEQUENCE_NUMBER_SIZE {
+        if value.bytes.len() < NUMBER_SIZE {
             return;
         }
         let sequence_number = read_u32_be(value.bytes);
@@ -319,7 +327,7 @@ impl Announcements {
             return;
         }
         self.sequence_number = Some(sequence_number);
-        for parameter in value.after(SEQUENCE_NUMBER_SIZE).items() {
+        for parameter in value.after(NUMBER_SIZE).items() {
             if let Some(correlation_id) = correlation_id_of(parameter) {
                 let id = RequestId {
                     sequence_number,
@@ -503,7 +511,7 @@ fn has_address(chunk: Item<'_>) -> bool {
 fn correlation_id_of(parameter: Item<'_>) -> Option<u32> {
     let value = parameter.value.bytes;
     let is_address = matches!(parameter.code(), IPV4_ADDRESS | IPV6_ADDRESS);
-    if is_address || value.len() < CORRELATION_ID_SIZE {
+    if is_address || value.len() < NUMBER_SIZE {
         return None;
     }
     Some(read_u32_be(value))
@@ -522,7 +530,7 @@ fn are_readable(responses: Part<'_>) -> bool {
 fn response_to(id: RequestId, responses: Part<'_>, packet: PacketNumber) -> Option<Answer> {
     for response in responses.items() {
         let value = response.value.bytes;
-        if value.len() >= CORRELATION_ID_SIZE && read_u32_be(value) == id.correlation_id {
+        if value.len() >= NUMBER_SIZE && read_u32_be(value) == id.correlation_id {
             match response.code() {
                 ERROR_CAUSE_INDICATION => return Some(Answer::Refused),
                 SUCCESS_INDICATION => return Some(Answer::Accepted(packet)),
@@ -533,28 +541,27 @@ fn response_to(id: RequestId, responses: Part<'_>, packet: PacketNumber) -> Opti
     None
 }
 
-/// Returns what a parameter means, if all of it was captured.
-fn meaning(parameter: Item<'_>) -> Option<RegisteredParameter<'_>> {
+/// Returns the address in a parameter of a registered type, if there is one and all of it was
+/// captured.
+fn address_of(parameter: Item<'_>) -> Option<IpAddr> {
     if !parameter.value.is_whole() {
         return None;
     }
-    RegisteredParameter::from_raw(&RawParameter {
+    let held = read_parameter(&RawParameter {
         typ: parameter.code(),
         value: parameter.value.bytes,
-    })
+    })?;
+    ip_address(held.address()?)
 }
 
 /// Returns what a parameter of an ASCONF asks, and the address; `None` if it asks nothing of an
 /// address.
 fn request(parameter: Item<'_>) -> Option<(Topic, IpAddr)> {
-    match meaning(parameter)? {
-        RegisteredParameter::AddIpAddress { address, .. } => Some((Topic::Added, address.ip())),
-        RegisteredParameter::DeleteIpAddress { address, .. } => {
-            Some((Topic::Deleted, address.ip()))
-        }
-        RegisteredParameter::SetPrimaryAddress { address, .. } => {
-            Some((Topic::Primary, address.ip()))
-        }
-        _ => None,
-    }
+    let topic = match parameter.code() {
+        ADD_IP_ADDRESS => Topic::Added,
+        DELETE_IP_ADDRESS => Topic::Deleted,
+        SET_PRIMARY_ADDRESS => Topic::Primary,
+        _ => return None,
+    };
+    Some((topic, address_of(parameter)?))
 }

@@ -12,7 +12,9 @@ use dcsctp_borrowed::part::{Item, Items, Part};
 use dcsctp_receive::chunk_type::{
     DATA, ERROR, FORWARD_TSN, HEARTBEAT, I_DATA, I_FORWARD_TSN, INIT, NR_SACK, SACK,
 };
-use dcsctp_registry::registered_chunk::{NR_SACK_BLOCKS, NR_SACK_NR_BLOCKS, NR_SACK_SIZE};
+use dcsctp_registry::chunk_layouts::{
+    NR_SACK_BLOCKS_OFFSET, NR_SACK_LISTS_OFFSET, NR_SACK_NR_BLOCKS_OFFSET,
+};
 use dcsctp_tlv::fields::Field;
 use dcsctp_wire::packet::data_chunk::DataNumbers;
 use dcsctp_wire::packet::forward_tsn_chunk::{ForwardTsnNumbers, SsnStreamField};
@@ -198,11 +200,11 @@ impl Counts {
         ensures { self.new ≡ with_nr_sack number self.old value.now }
     {
         increase(&mut self.sacks);
-        if value.len() < NR_SACK_SIZE {
+        if value.len() < NR_SACK_LISTS_OFFSET {
             return;
         }
-        let has_gaps = read_u16_be(&value[NR_SACK_BLOCKS..]) > 0
-            || read_u16_be(&value[NR_SACK_NR_BLOCKS..]) > 0;
+        let has_gaps = read_u16_be(&value[NR_SACK_BLOCKS_OFFSET..]) > 0
+            || read_u16_be(&value[NR_SACK_NR_BLOCKS_OFFSET..]) > 0;
         // (the window is where a SACK has it)
         self.count_report(number, read_u32_be(&value[SackNumbers::A_RWND..]), has_gaps);
     }

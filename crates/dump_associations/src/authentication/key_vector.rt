@@ -5,7 +5,7 @@ ghost use Rattle.dump_associations.specs.declared.authentication.key_vector.TheC
 
 use crate::associations::initiation::initiate_tag;
 use dcsctp_borrowed::part::Part;
-use dcsctp_registry::registered_parameter::{CHUNK_LIST, RANDOM, REQUESTED_HMAC_ALGORITHM};
+use dcsctp_registry::parameter_layouts::{CHUNK_LIST, RANDOM, REQUESTED_HMAC_ALGORITHM};
 use dcsctp_tlv::frame::{TLV_HEADER_SIZE, put_parameter};
 use dcsctp_wire::packet::init_chunk::InitNumbers;
 

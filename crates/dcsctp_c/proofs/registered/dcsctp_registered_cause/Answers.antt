@@ -1,13 +1,18 @@
-use Rattle.std.proofs.Common.{option_map}
-use Rattle.dcsctp_registry.specs.RegisteredCause.{registered_of}
-use Rattle.dcsctp_c.{specs.Registered.{cause_fields, registered_cause_at, HoldsRegistered}, proofs.RegisteredPlaces.{read_as}}
+use Rattle.std.proofs.Common.{refl}
+use Rattle.dcsctp_registry.specs.CauseLayouts.{cause_rows}
+use Rattle.dcsctp_c.proofs.RegisteredPlaces.{cause_kept, reads_into}
 use Rattle.dcsctp_c.proofs.registered.dcsctp_registered_cause.Goals as goal
 
-pub returns-clause-means : goal.returns-clause-means
-returns-clause-means c t m =
-    let bytes = c.args.bytes.now in
+pub returns-in-Some-clause-read : goal.returns-in-Some-clause-read
+returns-in-Some-clause-read c =
     let it = c.args.cause.now in
-    read_as (HoldsRegistered bytes it.value_offset it.value_size) (registered_cause_at bytes it)
-    (option_map (cause_fields m.0) (registered_of t)) c.registered_cause.result
-    c.args.registered.now _ _ c.registered_cause.ensures.read (c.registered_cause.ensures.means t m)
-    c.put_found.ensures.done c.put_found.ensures.output
+    reads_into cause_rows it.typ 0 c.args.bytes.now it.value_offset it.value_size
+    c.in-Some.value.now _ _ _ _ _ (c.in-Some.ensures) c.cause_by_type.ensures refl
+    c.put.ensures.done c.put.ensures.output
+
+pub returns-in-Some-clause-means : goal.returns-in-Some-clause-means
+returns-in-Some-clause-means c t m =
+    let it = c.args.cause.now in
+    reads_into cause_rows it.typ 0 c.args.bytes.now it.value_offset it.value_size
+    c.in-Some.value.now _ _ _ _ _ (c.in-Some.ensures) c.cause_by_type.ensures
+    (cause_kept c.args.bytes.now it t m) c.put.ensures.done c.put.ensures.output

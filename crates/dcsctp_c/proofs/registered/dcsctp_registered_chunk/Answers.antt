@@ -1,13 +1,18 @@
-use Rattle.std.proofs.Common.{option_map}
-use Rattle.dcsctp_registry.specs.RegisteredChunk.{registered_of}
-use Rattle.dcsctp_c.{specs.Registered.{chunk_fields, registered_chunk_at, HoldsRegistered}, proofs.RegisteredPlaces.{read_as}}
+use Rattle.std.proofs.Common.{refl}
+use Rattle.dcsctp_registry.specs.ChunkLayouts.{chunk_rows}
+use Rattle.dcsctp_c.proofs.RegisteredPlaces.{chunk_kept, reads_into}
 use Rattle.dcsctp_c.proofs.registered.dcsctp_registered_chunk.Goals as goal
 
-pub returns-clause-means : goal.returns-clause-means
-returns-clause-means c t m =
-    let bytes = c.args.bytes.now in
+pub returns-in-Some-clause-read : goal.returns-in-Some-clause-read
+returns-in-Some-clause-read c =
     let it = c.args.chunk.now in
-    read_as (HoldsRegistered bytes it.value_offset it.value_size) (registered_chunk_at bytes it)
-    (option_map (chunk_fields m.0) (registered_of t)) c.registered_chunk.result
-    c.args.registered.now _ _ c.registered_chunk.ensures.read (c.registered_chunk.ensures.means t m)
-    c.put_found.ensures.done c.put_found.ensures.output
+    reads_into chunk_rows it.typ it.flags c.args.bytes.now it.value_offset it.value_size
+    c.in-Some.value.now _ _ _ _ _ (c.in-Some.ensures) c.chunk_by_type.ensures refl
+    c.put.ensures.done c.put.ensures.output
+
+pub returns-in-Some-clause-means : goal.returns-in-Some-clause-means
+returns-in-Some-clause-means c t m =
+    let it = c.args.chunk.now in
+    reads_into chunk_rows it.typ it.flags c.args.bytes.now it.value_offset it.value_size
+    c.in-Some.value.now _ _ _ _ _ (c.in-Some.ensures) c.chunk_by_type.ensures
+    (chunk_kept c.args.bytes.now it t m) c.put.ensures.done c.put.ensures.output

@@ -10,14 +10,14 @@ put_three-requires c = omega (
   arith,
   ap length (c.as_bytes.ensures ∙ c.body_mac-mac.ensures),
   length-hmac Sha256 c.args.key.now
-      (c.fixed_bytes-fixed.result ++ c.args.cookie.now.addresses.now),
+      (c.fixed_bytes-fixed.result ++ c.args.cookie.now.extra.now),
 )
 
 pub returns-clause-bytes : goal.returns-clause-bytes
 returns-clause-bytes c =
-    let addresses = c.args.cookie.now.addresses.now in
+    let extra = c.args.cookie.now.extra.now in
     let fixed = c.fixed_bytes-fixed.ensures.bytes in
     c.put_three.ensures
-    ∙ ap₂ (λ mac numbers. put c.args.buffer.now 0 (mac ++ (numbers ++ addresses)))
+    ∙ ap₂ (λ mac numbers. put c.args.buffer.now 0 (mac ++ (numbers ++ extra)))
     (c.as_bytes.ensures ∙ c.body_mac-mac.ensures
-    ∙ ap (λ numbers. hmac Sha256 c.args.key.now (numbers ++ addresses)) fixed) fixed
+    ∙ ap (λ numbers. hmac Sha256 c.args.key.now (numbers ++ extra)) fixed) fixed

@@ -1,8 +1,0 @@
-use Rattle.std.{proofs.Common.{◌+◌, refl, arith}, specs.Int.{w16, to_be_bytes}}
-use Rattle.dcsctp_buffer.proofs.Extended.{then_put}
-use Rattle.dcsctp_registry.proofs.shapes.put_shorts.Goals as goal
-
-pub returns : goal.returns
-returns c = then_put c.args.output.now c.put_u16.new.output c.put_u16-2.new.output c.args.place
-    (c.args.place + 2) (to_be_bytes w16 c.args.first) (to_be_bytes w16 c.args.second)
-    (omega (arith, c.requires)) c.put_u16.ensures c.put_u16-2.ensures refl
