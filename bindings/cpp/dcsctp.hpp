@@ -4,7 +4,7 @@
 //
 // What is read is a view: it owns nothing, and the bytes have to outlive it. Whatever the bytes are, reading them is
 // defined: what isn't there is std::nullopt, an empty range or an empty view, never an exception. Only chunk_fault,
-// read_chunk, builder::add_registered of an ASCONF with parameters, and functions whose result or argument is a
+// read_chunk, builder::add_asconf, and functions whose result or argument is a
 // std::string or a std::vector allocate, or throw, and that std::bad_alloc alone; the library itself allocates in
 // packet::print and packet::print_to, and returns result_code::no_memory.
 //
@@ -25,7 +25,7 @@
 #pragma GCC diagnostic push
 #pragma GCC diagnostic ignored "-Wshadow"
 #endif
-#include <dcsctp.h>
+#include <dcsctp_registered.h>
 #ifdef __GNUC__
 #pragma GCC diagnostic pop
 #endif
@@ -493,6 +493,7 @@ template <typename Place> class placed {
     [[nodiscard]] std::size_t next_offset() const noexcept { return it_.next; }
 
   protected:
+    [[nodiscard]] const Place &place() const noexcept { return it_; }
     placed(bytes_view bytes, const Place &it, std::size_t offset) noexcept : bytes_(bytes), it_(it), offset_(offset) {}
     bytes_view bytes_;
     Place it_;
@@ -516,6 +517,7 @@ class row_place {
     [[nodiscard]] bytes_view value() const noexcept { return part(bytes_, row_->chunk.value_offset, row_->chunk.value_size); }
 
   protected:
+    [[nodiscard]] const ::dcsctp_chunk &place() const noexcept { return row_->chunk; }
     row_place(bytes_view bytes, const ::dcsctp_row &it) noexcept : bytes_(bytes), row_(&it) {}
     bytes_view bytes_;
     const ::dcsctp_row *row_;
@@ -531,31 +533,6 @@ class item : public placed<::dcsctp_parameter> {
     using placed::placed;
     item(std::uint16_t type, bytes_view value) noexcept : placed(value, {type, 0, value.size(), value.size()}, 0) {}
 };
-
-// What a field of a registered value is: a number, the address, or the rest, as all but these.
-enum class form : std::uint8_t { none, u32, u16, address, parameters, causes, short_numbers, bytes };
-
-// A field, by its name in the registry.
-struct field {
-    std::string_view name{};
-    form is = form::none;
-};
-
-// The fields of a type, in the order of its value.
-struct layout {
-    std::uint16_t type;
-    field fields[6];
-};
-
-// The fields of a type; null where it isn't one of these.
-template <std::size_t count>
-constexpr const layout *layout_of(const layout (&all)[count], std::uint16_t type) noexcept
-{
-    for (const layout &it : all)
-        if (it.type == type)
-            return &it;
-    return nullptr;
-}
 
 // A packet that is written into a buffer.
 class writer {
@@ -678,6 +655,28 @@ class writer {
 
 } // namespace detail
 
+class parameter;
+class cause;
+
+/// The parameters or error causes that end a value: their bytes, from `first` on.
+template <typename Item> class item_list : public range<detail::items<Item>> {
+  public:
+    item_list() = default;
+    item_list(bytes_view bytes DCSCTP_LIFETIME_BOUND, std::size_t first = 0) noexcept
+        : range<detail::items<Item>>({bytes}, first)
+    {
+    }
+    [[nodiscard]] bytes_view bytes() const noexcept { return this->source_.bytes.subspan(this->first_); }
+};
+
+/// The numbers of two bytes that a value is.
+class short_numbers : public range<detail::list<std::uint16_t, &detail::get_u16>> {
+  public:
+    short_numbers() = default;
+    short_numbers(bytes_view bytes DCSCTP_LIFETIME_BOUND) noexcept : range({bytes, 2}, 0) {}
+    [[nodiscard]] bytes_view bytes() const noexcept { return source_.bytes; }
+};
+
 } // namespace dcsctp
 
 #include "dcsctp_kinds.hpp"
@@ -758,16 +757,21 @@ struct cookie {
     std::uint64_t lifespan = 0; ///< in microseconds
     std::uint32_t local_tag = 0; ///< the initiate tag of the INIT ACK
     std::uint32_t peer_tag = 0; ///< that of the INIT
+    /// the Local Tie-Tag (section 5.2.2): 0 where the INIT came without an association
+    std::uint32_t local_tie_tag = 0;
+    std::uint32_t peer_tie_tag = 0; ///< the Peer's Tie-Tag, likewise
     std::uint32_t local_initial_tsn = 0; ///< the initial TSN of the INIT ACK
     std::uint32_t peer_initial_tsn = 0; ///< that of the INIT
     std::uint16_t local_port = 0;
     std::uint16_t peer_port = 0;
     std::uint16_t outbound_streams = 0; ///< on which the local end sends
     std::uint16_t inbound_streams = 0;
-    bytes_view addresses{}; ///< bytes of yours: the peer's addresses, the parameters of its INIT
+    /// further bytes of yours, of any length: the peer's addresses, the parameters of its INIT, AUTH's key vectors
+    bytes_view extra{};
 };
-DCSCTP_EQUAL(cookie, it.created, it.lifespan, it.local_tag, it.peer_tag, it.local_initial_tsn, it.peer_initial_tsn,
-                     it.local_port, it.peer_port, it.outbound_streams, it.inbound_streams, as_text(it.addresses))
+DCSCTP_EQUAL(cookie, it.created, it.lifespan, it.local_tag, it.peer_tag, it.local_tie_tag, it.peer_tie_tag,
+                     it.local_initial_tsn, it.peer_initial_tsn, it.local_port, it.peer_port, it.outbound_streams,
+                     it.inbound_streams, as_text(it.extra))
 // ---- end of what registry/make.py generates
 /// A State Cookie that was opened: true where it is good.
 struct [[nodiscard]] opened_cookie {
@@ -792,96 +796,6 @@ DCSCTP_EQUAL(policy, it.any_checksum, it.zero_checksum, it.strict_padding, it.al
 
 // ---- reading
 
-class parameter;
-class cause;
-/// The numbers of Supported Address Types and Requested HMAC Algorithm.
-using short_numbers = range<detail::list<std::uint16_t, &detail::get_u16>>;
-
-/// What a chunk, a parameter or an error cause holds whose type has no function of its own here, but a place in IANA's
-/// registry: addresses, and the chunks of RFC 4895 and RFC 5061, say. docs/C.md has each type with its fields. What a
-/// type doesn't carry is 0 or empty. The address and the rest are views.
-class registered {
-  public:
-    /// What builder::add_registered writes; numbers that are left out are 0.
-    registered(std::initializer_list<std::uint32_t> of_value = {}, bytes_view of_host DCSCTP_LIFETIME_BOUND = {},
-               bytes_view at_end DCSCTP_LIFETIME_BOUND = {}) noexcept
-        : address(of_host), rest(at_end)
-    {
-        std::copy_n(of_value.begin(), (std::min)(of_value.size(), numbers.size()), numbers.begin());
-    }
-
-    /// The numbers in the order of the value, but for reserved ones: of AUTH the key's and the HMAC's, of a request of
-    /// ASCONF its correlation id.
-    std::array<std::uint32_t, 5> numbers{};
-    bytes_view address; ///< its 4 or 16 octets, as in_addr and in6_addr have them
-    bytes_view rest;    ///< what ends the value: parameters, error causes, short numbers, an HMAC, padding
-
-    /// Returns a number by its name in registry/sctp.txt: "sequence number" of ASCONF, the first of the "counts" of
-    /// NR-SACK. None where no number has the name, and of what wasn't read.
-    [[nodiscard]] std::optional<std::uint32_t> number(std::string_view name) const noexcept
-    {
-        for (std::size_t i = 0; layout_ && i < numbers.size() && layout_->fields[i].is < detail::form::address; i++)
-            if (layout_->fields[i].name == name && layout_->fields[i].is != detail::form::none)
-                return numbers[i];
-        return std::nullopt;
-    }
-    /// The parameters that end what was read: the requests of ASCONF, the addresses of the cause Restart of an
-    /// Association with New Addresses. Others have none.
-    [[nodiscard]] range<detail::items<parameter>> parameters() const noexcept;
-    /// The error causes of an Error Cause Indication; others have none.
-    [[nodiscard]] range<detail::items<cause>> causes() const noexcept;
-    /// The numbers of Supported Address Types and Requested HMAC Algorithm; others have none.
-    [[nodiscard]] dcsctp::short_numbers short_numbers() const noexcept
-    {
-        return {{list(detail::form::short_numbers).subspan(first_), 2}, 0};
-    }
-
-  private:
-    friend class chunk;
-    friend class parameter;
-    friend class cause;
-    friend class builder;
-    template <typename Owner, typename Read>
-    static std::optional<registered> read(bytes_view bytes, const Owner &owner, const detail::layout *layout,
-                                          Read read_it) noexcept
-    {
-        struct ::dcsctp_registered it {};
-        if (!layout || !detail::call<bool>(read_it, bytes, &owner, &it))
-            return std::nullopt;
-        registered result;
-        result.layout_ = layout;
-        result.bytes_ = bytes.subspan(0, it.rest_offset + it.rest_size);
-        result.first_ = it.rest_offset;
-        result.address = detail::part(bytes, it.address_offset, it.address_size);
-        result.rest = detail::part(bytes, it.rest_offset, it.rest_size);
-        auto to = result.numbers.begin();
-        each_number(*layout, it, [&](auto number) { *to++ = number; });
-        return result;
-    }
-    // Calls a function for each number of C that a type has, in the order of its value.
-    template <typename Registered, typename Function>
-    static void each_number(const detail::layout &layout, Registered &it, Function function) noexcept
-    {
-        const decltype(&it.number) longs[] = {&it.number, &it.second_number};
-        const decltype(&it.short_number) shorts[] = {&it.short_number, &it.second_short_number, &it.third_short_number};
-        std::size_t i = 0, k = 0;
-        for (const detail::field &field : layout.fields)
-            if (field.is == detail::form::u32)
-                function(*longs[i++]);
-            else if (field.is == detail::form::u16)
-                function(*shorts[k++]);
-    }
-    // The bytes up to the end of the rest, if it is a list of this form.
-    [[nodiscard]] bytes_view list(detail::form form) const noexcept
-    {
-        const auto is_of = [form](const detail::field &it) { return it.is == form; };
-        return layout_ && std::any_of(std::begin(layout_->fields), std::end(layout_->fields), is_of) ? bytes_ : bytes_view();
-    }
-    const detail::layout *layout_ = nullptr; // of one that was read, as the next two
-    bytes_view bytes_{};
-    std::size_t first_ = 0; // the offset of the rest
-};
-
 /// A parameter of a chunk (RFC 9260 section 3.2.1).
 class parameter : public detail::parameter_kinds {
   public:
@@ -891,16 +805,10 @@ class parameter : public detail::parameter_kinds {
     /// type, or of a wrong size.
     [[nodiscard]] std::optional<bytes_view> as_address() const noexcept
     {
-        const bool is_address = type() == parameter_type::ipv4_address || type() == parameter_type::ipv6_address;
-        const auto it = is_address ? as_registered() : std::nullopt;
-        return it ? std::optional<bytes_view>(it->address) : std::nullopt;
-    }
-    /// Reads a parameter of the registry that has no function of its own here; none of another type, or where the value
-    /// has a size that its type doesn't allow or a broken list: packet::check looks at none of these values.
-    [[nodiscard]] std::optional<registered> as_registered() const noexcept
-    {
-        const auto layout = detail::layout_of(detail::parameter_layouts, it_.type);
-        return registered::read(bytes_, it_, layout, ::dcsctp_registered_parameter);
+        struct ::dcsctp_ip_address it {};
+        if (!detail::call<bool>(::dcsctp_read_ip_address, bytes_, &it_, &it))
+            return std::nullopt;
+        return detail::part(bytes_, it.address_offset, it.address_size);
     }
 
   private:
@@ -913,22 +821,11 @@ class cause : public detail::cause_kinds {
   public:
     /// The error cause of a code with a value, likewise.
     cause(cause_code code, bytes_view value DCSCTP_LIFETIME_BOUND) noexcept : cause_kinds(number(code), value) {}
-    /// Reads an error cause of the registry that has no function of its own here, likewise.
-    [[nodiscard]] std::optional<registered> as_registered() const noexcept
-    {
-        return registered::read(bytes_, it_, detail::layout_of(detail::cause_layouts, it_.type), ::dcsctp_registered_cause);
-    }
 
   private:
     friend detail::items<cause>;
     using cause_kinds::cause_kinds;
 };
-
-inline range<detail::items<parameter>> registered::parameters() const noexcept
-{
-    return {{list(detail::form::parameters)}, first_};
-}
-inline range<detail::items<cause>> registered::causes() const noexcept { return {{list(detail::form::causes)}, first_}; }
 
 /// A chunk of a packet (section 3.2).
 class chunk : public detail::chunk_kinds<detail::chunk_place> {
@@ -947,11 +844,6 @@ class chunk : public detail::chunk_kinds<detail::chunk_place> {
     [[nodiscard]] bytes_view list() const noexcept { return up_to_end().subspan(::dcsctp_list_offset(&it_)); }
     /// Returns whether it is a SACK whose gap ack blocks are in order, apart, and begin at 2 or later.
     [[nodiscard]] bool is_valid_sack() const noexcept { return detail::call<bool>(::dcsctp_validate_sack, bytes_, &it_); }
-    /// Reads ECNE, CWR, AUTH, NR-SACK, ASCONF ACK, PKTDROP, PAD or ASCONF, as a parameter does.
-    [[nodiscard]] std::optional<registered> as_registered() const noexcept
-    {
-        return registered::read(bytes_, it_, detail::layout_of(detail::chunk_layouts, it_.type), ::dcsctp_registered_chunk);
-    }
 
   private:
     friend class builder;
@@ -1037,11 +929,23 @@ class [[nodiscard]] reading {
     view<const row> rows_;
 };
 
+/// What a packet's checksum field has to be, most significant byte first: of packet::word(), or of a number that was
+/// computed elsewhere, as by dcsctp_processor_word. The field itself is never it.
+class checksum_word {
+    std::uint32_t number_;
+
+  public:
+    constexpr explicit checksum_word(std::uint32_t number) noexcept : number_(number) {}
+    [[nodiscard]] constexpr std::uint32_t number() const noexcept { return number_; }
+    friend constexpr bool operator==(checksum_word one, checksum_word other) noexcept { return one.number_ == other.number_; }
+    friend constexpr bool operator!=(checksum_word one, checksum_word other) noexcept { return !(one == other); }
+};
+
 /// A packet in its bytes, from the source port on; or bytes of which first_fault says that they are none. docs/C.md has
 /// what is said of each field, and what is still to be checked of a packet without a fault.
 ///
-/// `word` is what the checksum field has to be, if you have computed it (the field itself is never it); else the CRC32c
-/// is computed, unless the policy accepts any checksum.
+/// `word` is what the checksum field has to be, if you have computed it; else the CRC32c is computed, unless the policy
+/// accepts any checksum.
 class packet {
     struct chunk_source {
         using value_type = chunk;
@@ -1052,7 +956,7 @@ class packet {
     };
 
   public:
-    using word_option = std::optional<std::uint32_t>;
+    using word_option = std::optional<checksum_word>;
 
     constexpr packet() noexcept = default;
     constexpr explicit packet(bytes_view bytes DCSCTP_LIFETIME_BOUND) noexcept : bytes_(bytes) {}
@@ -1089,7 +993,7 @@ class packet {
         return reading(bytes_, wrote, rows);
     }
     /// Computes what the checksum field has to be. For fewer than 12 bytes it has no meaning.
-    [[nodiscard]] std::uint32_t word() const noexcept { return ::dcsctp_word(bytes_.data(), bytes_.size()); }
+    [[nodiscard]] checksum_word word() const noexcept { return checksum_word(::dcsctp_word(bytes_.data(), bytes_.size())); }
 
     /// Returns whether it has to have its CRC32c also where a checksum of zero was negotiated (RFC 9653 section 5.2): it
     /// has INIT, COOKIE ECHO or ASCONF; or it answers a packet out of the blue, by a chunk with is_tag_reflected().
@@ -1155,12 +1059,12 @@ class packet {
     /// Writes all that the packet holds, in UTF-8, as `sctp_dump --payload` prints it, likewise.
     written report_to(mutable_bytes_view output, policy accepted = {}, word_option word = {}) const noexcept
     {
-        return write(::dcsctp_report, output, accepted, word);
+        return write(::dcsctp_report, output, accepted, word ? word : this->word());
     }
     /// Returns this text.
     outcome<std::string> report(policy accepted = {}, word_option word = {}) const
     {
-        return make<std::string>(::dcsctp_report, accepted, word);
+        return make<std::string>(::dcsctp_report, accepted, word ? word : this->word());
     }
     /// Writes the canonical packet, likewise: two packets have the same one if and only if they mean the same.
     written canonical_to(mutable_bytes_view output, policy accepted = {}, word_option word = {}) const noexcept
@@ -1185,7 +1089,7 @@ class packet {
     }
     [[nodiscard]] std::uint32_t word_of(const policy &accepted, const word_option &option) const noexcept
     {
-        return option ? *option : accepted.any_checksum ? 0 : word();
+        return option ? option->number() : accepted.any_checksum ? 0 : word().number();
     }
     template <typename Function>
     written write(Function function, mutable_bytes_view output, const policy &accepted, word_option option) const noexcept
@@ -1198,7 +1102,7 @@ class packet {
     template <typename Container, typename Function>
     outcome<Container> make(Function function, const policy &accepted, const word_option &option) const
     {
-        const word_option known = word_of(accepted, option);
+        const checksum_word known(word_of(accepted, option));
         written wrote = write(function, {}, accepted, known);
         if (wrote.code != result_code::no_room)
             return wrote.code;
@@ -1317,22 +1221,23 @@ inline result sign_auth(bytes_view key, mutable_bytes_view bytes) noexcept
 /// Returns a State Cookie, with an HMAC under a key that nobody else knows.
 [[nodiscard]] inline std::vector<std::uint8_t> seal_cookie(bytes_view key, const cookie &says)
 {
-    const struct ::dcsctp_cookie it = {says.created, says.lifespan, says.local_tag, says.peer_tag,
-                                       says.local_initial_tsn, says.peer_initial_tsn, says.local_port, says.peer_port,
-                                       says.outbound_streams, says.inbound_streams, 0, 0};
-    return *detail::made(72 + says.addresses.size(), ::dcsctp_seal_cookie, key, &it, says.addresses);
+    const struct ::dcsctp_cookie it = {says.created, says.lifespan, says.local_tag, says.peer_tag, says.local_tie_tag,
+                                       says.peer_tie_tag, says.local_initial_tsn, says.peer_initial_tsn,
+                                       says.local_port, says.peer_port, says.outbound_streams, says.inbound_streams, 0,
+                                       0};
+    return *detail::made(80 + says.extra.size(), ::dcsctp_seal_cookie, key, &it, says.extra);
 }
 /// Opens a State Cookie at a time in microseconds, on the clock by which it was sealed. It is good from before it was
-/// created, on a clock that was set back, to the end of its life. Its addresses are a part of the bytes.
+/// created, on a clock that was set back, to the end of its life. Its further bytes are a part of these.
 [[nodiscard]] inline opened_cookie open_cookie(bytes_view key, bytes_view bytes DCSCTP_LIFETIME_BOUND,
                                                std::uint64_t now) noexcept
 {
     struct ::dcsctp_cookie it {};
     opened_cookie opened;
     opened.state = detail::call<cookie_state>(::dcsctp_open_cookie, key, bytes, now, &it, &opened.staleness);
-    opened.says = {it.created, it.lifespan, it.local_tag, it.peer_tag, it.local_initial_tsn, it.peer_initial_tsn,
-                   it.local_port, it.peer_port, it.outbound_streams, it.inbound_streams,
-                   detail::part(bytes, it.addresses_offset, it.addresses_size)};
+    opened.says = {it.created, it.lifespan, it.local_tag, it.peer_tag, it.local_tie_tag, it.peer_tie_tag,
+                   it.local_initial_tsn, it.peer_initial_tsn, it.local_port, it.peer_port, it.outbound_streams,
+                   it.inbound_streams, detail::part(bytes, it.extra_offset, it.extra_size)};
     return opened;
 }
 // ---- end of what registry/make.py generates
@@ -1343,8 +1248,7 @@ opened_cookie open_cookie(bytes_view, Container &&, std::uint64_t) = delete;
 // ---- writing
 
 /// Writes a packet: each `add_` adds a chunk, and add_parameter, add_cause, add_number, add_re_config,
-/// add_missing_parameters, add_new_addresses, and add_registered of a parameter or an error cause add to the last chunk's
-/// list. Each returns ok; or it changes nothing, and returns why:
+/// add_missing_parameters, add_new_addresses, and that of each parameter or error cause add to the last chunk's list. Each returns ok; or it changes nothing, and returns why:
 ///   bad_place  the buffer had no 12 bytes for the header; or there is no chunk to add to
 ///   bad_value  the chunk would have more than 65,535 bytes, or what is to be written lies in the buffer itself
 ///   no_room    the packet would have more bytes than the buffer, the limit or 65,532
@@ -1412,17 +1316,12 @@ class builder : public detail::builder_kinds {
     result add_address(bytes_view octets)
     {
         const bool is_ipv4 = octets.size() == 4;
-        return add_registered(is_ipv4 ? parameter_type::ipv4_address : parameter_type::ipv6_address, {{}, octets});
+        const struct ::dcsctp_ip_address it {0, octets.size()};
+        const auto type = is_ipv4 ? parameter_type::ipv4_address : parameter_type::ipv6_address;
+        return extend(::dcsctp_write_ip_address, start_, type, &it, octets);
     }
 
     // ---- generated by registry/make.py of registry/sctp.txt and include/dcsctp.h
-    /// Adds a chunk that as_registered() reads, with its flags 0. What the type doesn't carry is ignored. bad_value
-    /// also for another type, a number that has no room in its field, an address of another size than 4 or 16, and a
-    /// rest that the type doesn't allow, as a broken list.
-    result add_registered(chunk_type type, const registered &of)
-    {
-        return add_value(detail::chunk_layouts, type, of, ::dcsctp_add_registered_chunk);
-    }
     /// Adds a parameter to the last chunk.
     result add_parameter(parameter_type type, bytes_view value = {})
     {
@@ -1430,11 +1329,6 @@ class builder : public detail::builder_kinds {
     }
     /// Adds a parameter whose value is a number of four bytes: Zero Checksum Acceptable.
     result add_number(parameter_type type, std::uint32_t value) { return four_bytes(number(type), value); }
-    /// Adds such a parameter to the last chunk: to an INIT, or to the requests of an ASCONF.
-    result add_registered(parameter_type type, const registered &of)
-    {
-        return add_value(detail::parameter_layouts, type, of, ::dcsctp_add_registered_parameter);
-    }
     /// Adds an error cause to the last chunk.
     result add_cause(cause_code code, bytes_view value = {})
     {
@@ -1442,11 +1336,6 @@ class builder : public detail::builder_kinds {
     }
     /// Adds an error cause whose value is a number of four bytes: No User Data.
     result add_number(cause_code code, std::uint32_t value) { return four_bytes(number(code), value); }
-    /// Adds such an error cause to the last chunk.
-    result add_registered(cause_code code, const registered &of)
-    {
-        return add_value(detail::cause_layouts, code, of, ::dcsctp_add_registered_cause);
-    }
     /// Adds to an INIT ACK, the last chunk, an Unrecognized Parameter for each parameter of an INIT that came whose
     /// type isn't one of `types` and is to be reported (section 3.2.2), or nothing. Returns where your program stops:
     /// the offset of the parameter at which processing stops, or of the end of the INIT's value.
@@ -1512,42 +1401,6 @@ class builder : public detail::builder_kinds {
     static outcome<std::size_t> stopped(result added, std::size_t stop)
     {
         return added ? outcome<std::size_t>(stop) : added.code();
-    }
-    // Has a function write what a type has, whose address and rest have to lie in the same bytes.
-    template <typename Layouts, typename Type, typename Function>
-    result add_value(const Layouts &layouts, Type type, const registered &of, Function function)
-    {
-        const detail::layout *const layout = detail::layout_of(layouts, number(type));
-        if (!layout || overlaps(of.address) || overlaps(of.rest))
-            return result_code::bad_value;
-        struct ::dcsctp_registered it {};
-        bool has_room = true;
-        auto from = of.numbers.begin();
-        registered::each_number(*layout, it, [&](auto &number) {
-            number = static_cast<std::remove_reference_t<decltype(number)>>(*from);
-            has_room = has_room && number == *from++;
-        });
-        if (!has_room)
-            return result_code::bad_value;
-        bytes_view bytes;
-        std::vector<std::uint8_t> both;
-        for (const detail::field &field : layout->fields)
-            if (field.is == detail::form::address) {
-                bytes = of.address;
-                it.address_size = bytes.size();
-            } else if (field.is > detail::form::address) {
-                it.rest_offset = bytes.size();
-                it.rest_size = of.rest.size();
-                if (!bytes.empty() && !of.rest.empty()) {
-                    both.assign(bytes.begin(), bytes.end());
-                    both.insert(both.end(), of.rest.begin(), of.rest.end());
-                }
-                bytes = !both.empty() ? bytes_view(both) : bytes.empty() ? of.rest : bytes;
-            }
-        if constexpr (std::is_same_v<Type, chunk_type>)
-            return append(function, type, &it, bytes);
-        else
-            return extend(function, start_, type, &it, bytes);
     }
 };
 

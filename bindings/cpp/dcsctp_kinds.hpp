@@ -340,6 +340,172 @@ struct re_config {
 DCSCTP_EQUAL(re_config, it.type, it.request_number, it.response_number, it.last_tsn, it.result, it.has_next_tsns,
                         it.sender_next_tsn, it.receiver_next_tsn, it.new_streams, it.stream_count)
 
+/// ECNE (RFC 4960 appendix A): says that the network was congested. CWR (RFC 4960 appendix A): answers ECNE: the sender
+/// sends less.
+struct congestion {
+    std::uint8_t flags = 0; ///< The flags of the chunk.
+    std::uint32_t lowest_tsn = 0; ///< The lowest TSN that came with the mark of congestion.
+};
+DCSCTP_EQUAL(congestion, it.flags, it.lowest_tsn)
+
+/// AUTH (RFC 4895 section 5.1): authenticates the chunks after it.
+struct auth {
+    std::uint8_t flags = 0; ///< The flags of the chunk.
+    std::uint16_t key = 0; ///< Which of the shared keys was used.
+    std::uint16_t hmac_identifier = 0; ///< Which HMAC: 1 is SHA-1, and 3 SHA-256.
+    bytes_view hmac{}; ///< Over this chunk, with zeros in this place, and all chunks after it.
+};
+DCSCTP_EQUAL(auth, it.flags, it.key, it.hmac_identifier, as_text(it.hmac))
+
+/// NR-SACK (draft-tuexen-tsvwg-sctp-multipath): acknowledges user data, some of which can't be dropped any more.
+struct nr_sack {
+    std::uint8_t flags = 0; ///< The flags of the chunk.
+    std::uint32_t cumulative_tsn_ack = 0; ///< The last TSN before the first that is missing.
+    std::uint32_t a_rwnd = 0; ///< The advertised receiver window credit, in bytes.
+    std::uint16_t block_count = 0; ///< How many: what came after that, as offsets from it.
+    std::uint16_t nr_block_count = 0; ///< How many: what can't be dropped any more, as offsets from the cumulative TSN.
+    std::uint16_t duplicate_count = 0; ///< How many: the TSNs that came more than once.
+    bytes_view lists{}; ///< The blocks, NR blocks and duplicates, one after the other.
+};
+DCSCTP_EQUAL(nr_sack, it.flags, it.cumulative_tsn_ack, it.a_rwnd, it.block_count, it.nr_block_count, it.duplicate_count,
+                      as_text(it.lists))
+
+/// ASCONF ACK (RFC 5061 section 4.1.2): answers ASCONF.
+struct asconf_ack {
+    std::uint8_t flags = 0; ///< The flags of the chunk.
+    std::uint32_t sequence_number = 0; ///< One more than in the last ASCONF; of its answer the same.
+    item_list<parameter> parameters{}; ///< The parameters, in order.
+};
+DCSCTP_EQUAL(asconf_ack, it.flags, it.sequence_number, as_text(it.parameters.bytes()))
+
+/// PKTDROP (draft-stewart-sctp-pktdrprep): reports a packet that was dropped.
+struct pktdrop {
+    std::uint8_t flags = 0; ///< The flags of the chunk.
+    std::uint32_t bandwidth = 0; ///< The bandwidth of the link, or the most that the receiver has room for, in bytes.
+    std::uint32_t queued = 0; ///< How many bytes of data are queued.
+    std::uint16_t size = 0; ///< The size of the packet before it was cut, where it was; else 0.
+    bytes_view packet{}; ///< The packet that was dropped, as far as it is here.
+};
+DCSCTP_EQUAL(pktdrop, it.flags, it.bandwidth, it.queued, it.size, as_text(it.packet))
+
+/// PAD (RFC 4820 section 3): makes the packet longer.
+struct pad {
+    std::uint8_t flags = 0; ///< The flags of the chunk.
+    bytes_view data{}; ///< Bytes that say nothing.
+};
+DCSCTP_EQUAL(pad, it.flags, as_text(it.data))
+
+/// ASCONF (RFC 5061 section 4.1.1): changes the addresses of its sender.
+struct asconf {
+    std::uint8_t flags = 0; ///< The flags of the chunk.
+    std::uint32_t sequence_number = 0; ///< One more than in the last ASCONF; of its answer the same.
+    /// An address of the sender, by which its association can be found; zeros, where something else says which it is.
+    bytes_view address{};
+    item_list<parameter> parameters{}; ///< The parameters, in order.
+};
+DCSCTP_EQUAL(asconf, it.flags, it.sequence_number, as_text(it.address), as_text(it.parameters.bytes()))
+
+/// Unrecognized Parameter (RFC 9260 section 3.3.3.1.2): a parameter of the INIT that its receiver doesn't know, sent
+/// back in the INIT ACK.
+struct unrecognized_parameter {
+    item_list<parameter> parameters{}; ///< The parameters, in order.
+};
+DCSCTP_EQUAL(unrecognized_parameter, as_text(it.parameters.bytes()))
+
+/// Cookie Preservative (RFC 9260 section 3.3.2.1.3): asks for a longer life of the State Cookie.
+struct cookie_preservative {
+    std::uint32_t milliseconds = 0; ///< How much longer the State Cookie is to live.
+};
+DCSCTP_EQUAL(cookie_preservative, it.milliseconds)
+
+/// Host Name Address (RFC 9260 section 3.3.2.1.4): a name in place of addresses, which no sender may use.
+struct host_name_address {
+    bytes_view host_name{}; ///< The name; that a zero ends it isn't checked.
+};
+DCSCTP_EQUAL(host_name_address, as_text(it.host_name))
+
+/// Supported Address Types (RFC 9260 section 3.3.2.1.5): the types of addresses that the sender can use.
+struct supported_address_types {
+    short_numbers types{}; ///< The types of address parameters.
+};
+DCSCTP_EQUAL(supported_address_types, as_text(it.types.bytes()))
+
+/// Random (RFC 4895 section 3.1): a random number, for the key of AUTH. Padding (RFC 4820 section 4): makes the chunk
+/// longer.
+struct random_or_padding {
+    bytes_view data{}; ///< Of Random: the random number. Of Padding: bytes that say nothing.
+};
+DCSCTP_EQUAL(random_or_padding, as_text(it.data))
+
+/// Chunk List (RFC 4895 section 3.2): the types of chunks that have to come after AUTH.
+struct chunk_list {
+    bytes_view types{}; ///< The types of chunks, a byte each.
+};
+DCSCTP_EQUAL(chunk_list, as_text(it.types))
+
+/// Requested HMAC Algorithm (RFC 4895 section 3.3): the HMACs that the sender can check.
+struct requested_hmac_algorithm {
+    short_numbers hmacs{}; ///< Identifiers of HMACs, the one that the sender prefers first.
+};
+DCSCTP_EQUAL(requested_hmac_algorithm, as_text(it.hmacs.bytes()))
+
+/// Add IP Address (RFC 5061 section 4.2.1): adds an address. Delete IP Address (RFC 5061 section 4.2.2): deletes an
+/// address. Set Primary Address (RFC 5061 section 4.2.4): asks the peer to send to this address.
+struct address_request {
+    std::uint32_t correlation_id = 0; ///< By which a request is answered.
+    bytes_view address{}; ///< The octets of an address of IPv4 or of IPv6.
+};
+DCSCTP_EQUAL(address_request, it.correlation_id, as_text(it.address))
+
+/// Error Cause Indication (RFC 5061 section 4.2.3): refuses a request of ASCONF.
+struct error_cause_indication {
+    std::uint32_t correlation_id = 0; ///< By which a request is answered.
+    item_list<cause> causes{}; ///< The error causes, in order.
+};
+DCSCTP_EQUAL(error_cause_indication, it.correlation_id, as_text(it.causes.bytes()))
+
+/// Success Indication (RFC 5061 section 4.2.5): grants a request of ASCONF.
+struct success_indication {
+    std::uint32_t correlation_id = 0; ///< By which a request is answered.
+};
+DCSCTP_EQUAL(success_indication, it.correlation_id)
+
+/// Adaptation Layer Indication (RFC 5061 section 4.2.6): names the layer above SCTP.
+struct adaptation_layer_indication {
+    std::uint32_t code = 0; ///< Which adaptation layer it is.
+};
+DCSCTP_EQUAL(adaptation_layer_indication, it.code)
+
+/// Invalid Stream Identifier (RFC 9260 section 3.3.10.1): user data came on a stream that isn't there.
+struct invalid_stream_identifier {
+    std::uint16_t stream = 0; ///< The stream identifier.
+};
+DCSCTP_EQUAL(invalid_stream_identifier, it.stream)
+
+/// Stale Cookie (RFC 9260 section 3.3.10.3): the State Cookie was too old.
+struct stale_cookie {
+    std::uint32_t microseconds = 0; ///< Since when the State Cookie is too old.
+};
+DCSCTP_EQUAL(stale_cookie, it.microseconds)
+
+/// Unresolvable Address (RFC 9260 section 3.3.10.5): an address is of a type that isn't supported. Unrecognized
+/// Parameters (RFC 9260 section 3.3.10.8): parameters of unknown types came, and are in the cause. Restart of an
+/// Association with New Addresses (RFC 9260 section 3.3.10.11): an INIT for an association that is there had addresses
+/// that this hasn't. Request to Delete Last Remaining IP Address (RFC 5061 section 4.3.1): the request would leave no
+/// address. Operation Refused Due to Resource Shortage (RFC 5061 section 4.3.2): there is no room for what is asked.
+/// Request to Delete Source IP Address (RFC 5061 section 4.3.3): the request would delete the address that it came
+/// from. Request refused - no authorization (RFC 5061 section 4.3.5): the sender may not ask for it.
+struct parameters_cause {
+    item_list<parameter> parameters{}; ///< The parameters, in order.
+};
+DCSCTP_EQUAL(parameters_cause, as_text(it.parameters.bytes()))
+
+/// Unsupported HMAC Identifier (RFC 4895 section 4.1): an AUTH has an HMAC that its receiver can't check.
+struct unsupported_hmac_identifier {
+    std::uint16_t hmac = 0; ///< Its identifier.
+};
+DCSCTP_EQUAL(unsupported_hmac_identifier, it.hmac)
+
 namespace detail {
 
 inline gap_ack_block get_gap_ack_block(const std::uint8_t *at, std::size_t) noexcept
@@ -557,6 +723,66 @@ template <typename Place> class chunk_kinds : public Place {
             return {{value.subspan(4), 8}, 0};
         return {};
     }
+    /// Reads ECNE or CWR; none where the value is one that its type doesn't allow.
+    [[nodiscard]] std::optional<dcsctp::congestion> as_congestion() const noexcept
+    {
+        struct ::dcsctp_congestion it {};
+        if (!call<bool>(::dcsctp_read_congestion, this->bytes_, &this->place(), &it))
+            return std::nullopt;
+        return dcsctp::congestion{it.flags, it.lowest_tsn};
+    }
+    /// Reads AUTH; none where the value is one that its type doesn't allow.
+    [[nodiscard]] std::optional<dcsctp::auth> as_auth() const noexcept
+    {
+        struct ::dcsctp_auth it {};
+        if (!call<bool>(::dcsctp_read_auth, this->bytes_, &this->place(), &it))
+            return std::nullopt;
+        return dcsctp::auth{it.flags, it.key, it.hmac_identifier, part(this->bytes_, it.hmac_offset, it.hmac_size)};
+    }
+    /// Reads NR-SACK; none where the value is one that its type doesn't allow.
+    [[nodiscard]] std::optional<dcsctp::nr_sack> as_nr_sack() const noexcept
+    {
+        struct ::dcsctp_nr_sack it {};
+        if (!call<bool>(::dcsctp_read_nr_sack, this->bytes_, &this->place(), &it))
+            return std::nullopt;
+        return dcsctp::nr_sack{it.flags, it.cumulative_tsn_ack, it.a_rwnd, it.block_count, it.nr_block_count,
+                               it.duplicate_count, part(this->bytes_, it.lists_offset, it.lists_size)};
+    }
+    /// Reads ASCONF ACK; none where the value is one that its type doesn't allow.
+    [[nodiscard]] std::optional<dcsctp::asconf_ack> as_asconf_ack() const noexcept
+    {
+        struct ::dcsctp_asconf_ack it {};
+        if (!call<bool>(::dcsctp_read_asconf_ack, this->bytes_, &this->place(), &it))
+            return std::nullopt;
+        return dcsctp::asconf_ack{it.flags, it.sequence_number,
+                                  {this->bytes_.subspan(0, it.parameters_offset + it.parameters_size), it.parameters_offset}};
+    }
+    /// Reads PKTDROP; none where the value is one that its type doesn't allow.
+    [[nodiscard]] std::optional<dcsctp::pktdrop> as_pktdrop() const noexcept
+    {
+        struct ::dcsctp_pktdrop it {};
+        if (!call<bool>(::dcsctp_read_pktdrop, this->bytes_, &this->place(), &it))
+            return std::nullopt;
+        return dcsctp::pktdrop{it.flags, it.bandwidth, it.queued, it.size,
+                               part(this->bytes_, it.packet_offset, it.packet_size)};
+    }
+    /// Reads PAD; none where the value is one that its type doesn't allow.
+    [[nodiscard]] std::optional<dcsctp::pad> as_pad() const noexcept
+    {
+        struct ::dcsctp_pad it {};
+        if (!call<bool>(::dcsctp_read_pad, this->bytes_, &this->place(), &it))
+            return std::nullopt;
+        return dcsctp::pad{it.flags, part(this->bytes_, it.data_offset, it.data_size)};
+    }
+    /// Reads ASCONF; none where the value is one that its type doesn't allow.
+    [[nodiscard]] std::optional<dcsctp::asconf> as_asconf() const noexcept
+    {
+        struct ::dcsctp_asconf it {};
+        if (!call<bool>(::dcsctp_read_asconf, this->bytes_, &this->place(), &it))
+            return std::nullopt;
+        return dcsctp::asconf{it.flags, it.sequence_number, part(this->bytes_, it.address_offset, it.address_size),
+                              {this->bytes_.subspan(0, it.parameters_offset + it.parameters_size), it.parameters_offset}};
+    }
 
   protected:
     using Place::Place;
@@ -634,6 +860,97 @@ class parameter_kinds : public item {
             return {{value.subspan(4), 2}, 0};
         return {};
     }
+    /// Reads Unrecognized Parameter; none where the value is one that its type doesn't allow.
+    [[nodiscard]] std::optional<dcsctp::unrecognized_parameter> as_unrecognized_parameter() const noexcept
+    {
+        struct ::dcsctp_unrecognized_parameter it {};
+        if (!call<bool>(::dcsctp_read_unrecognized_parameter, this->bytes_, &this->place(), &it))
+            return std::nullopt;
+        return dcsctp::unrecognized_parameter{
+                                              {this->bytes_.subspan(0, it.parameters_offset + it.parameters_size), it.parameters_offset}};
+    }
+    /// Reads Cookie Preservative; none where the value is one that its type doesn't allow.
+    [[nodiscard]] std::optional<dcsctp::cookie_preservative> as_cookie_preservative() const noexcept
+    {
+        struct ::dcsctp_cookie_preservative it {};
+        if (!call<bool>(::dcsctp_read_cookie_preservative, this->bytes_, &this->place(), &it))
+            return std::nullopt;
+        return dcsctp::cookie_preservative{it.milliseconds};
+    }
+    /// Reads Host Name Address; none where the value is one that its type doesn't allow.
+    [[nodiscard]] std::optional<dcsctp::host_name_address> as_host_name_address() const noexcept
+    {
+        struct ::dcsctp_host_name_address it {};
+        if (!call<bool>(::dcsctp_read_host_name_address, this->bytes_, &this->place(), &it))
+            return std::nullopt;
+        return dcsctp::host_name_address{part(this->bytes_, it.host_name_offset, it.host_name_size)};
+    }
+    /// Reads Supported Address Types; none where the value is one that its type doesn't allow.
+    [[nodiscard]] std::optional<dcsctp::supported_address_types> as_supported_address_types() const noexcept
+    {
+        struct ::dcsctp_supported_address_types it {};
+        if (!call<bool>(::dcsctp_read_supported_address_types, this->bytes_, &this->place(), &it))
+            return std::nullopt;
+        return dcsctp::supported_address_types{part(this->bytes_, it.types_offset, it.types_size)};
+    }
+    /// Reads Random or Padding; none where the value is one that its type doesn't allow.
+    [[nodiscard]] std::optional<dcsctp::random_or_padding> as_random_or_padding() const noexcept
+    {
+        struct ::dcsctp_random_or_padding it {};
+        if (!call<bool>(::dcsctp_read_random_or_padding, this->bytes_, &this->place(), &it))
+            return std::nullopt;
+        return dcsctp::random_or_padding{part(this->bytes_, it.data_offset, it.data_size)};
+    }
+    /// Reads Chunk List; none where the value is one that its type doesn't allow.
+    [[nodiscard]] std::optional<dcsctp::chunk_list> as_chunk_list() const noexcept
+    {
+        struct ::dcsctp_chunk_list it {};
+        if (!call<bool>(::dcsctp_read_chunk_list, this->bytes_, &this->place(), &it))
+            return std::nullopt;
+        return dcsctp::chunk_list{part(this->bytes_, it.types_offset, it.types_size)};
+    }
+    /// Reads Requested HMAC Algorithm; none where the value is one that its type doesn't allow.
+    [[nodiscard]] std::optional<dcsctp::requested_hmac_algorithm> as_requested_hmac_algorithm() const noexcept
+    {
+        struct ::dcsctp_requested_hmac_algorithm it {};
+        if (!call<bool>(::dcsctp_read_requested_hmac_algorithm, this->bytes_, &this->place(), &it))
+            return std::nullopt;
+        return dcsctp::requested_hmac_algorithm{part(this->bytes_, it.hmacs_offset, it.hmacs_size)};
+    }
+    /// Reads Add IP Address, Delete IP Address or Set Primary Address; none where the value is one that its type
+    /// doesn't allow.
+    [[nodiscard]] std::optional<dcsctp::address_request> as_address_request() const noexcept
+    {
+        struct ::dcsctp_address_request it {};
+        if (!call<bool>(::dcsctp_read_address_request, this->bytes_, &this->place(), &it))
+            return std::nullopt;
+        return dcsctp::address_request{it.correlation_id, part(this->bytes_, it.address_offset, it.address_size)};
+    }
+    /// Reads Error Cause Indication; none where the value is one that its type doesn't allow.
+    [[nodiscard]] std::optional<dcsctp::error_cause_indication> as_error_cause_indication() const noexcept
+    {
+        struct ::dcsctp_error_cause_indication it {};
+        if (!call<bool>(::dcsctp_read_error_cause_indication, this->bytes_, &this->place(), &it))
+            return std::nullopt;
+        return dcsctp::error_cause_indication{it.correlation_id,
+                                              {this->bytes_.subspan(0, it.causes_offset + it.causes_size), it.causes_offset}};
+    }
+    /// Reads Success Indication; none where the value is one that its type doesn't allow.
+    [[nodiscard]] std::optional<dcsctp::success_indication> as_success_indication() const noexcept
+    {
+        struct ::dcsctp_success_indication it {};
+        if (!call<bool>(::dcsctp_read_success_indication, this->bytes_, &this->place(), &it))
+            return std::nullopt;
+        return dcsctp::success_indication{it.correlation_id};
+    }
+    /// Reads Adaptation Layer Indication; none where the value is one that its type doesn't allow.
+    [[nodiscard]] std::optional<dcsctp::adaptation_layer_indication> as_adaptation_layer_indication() const noexcept
+    {
+        struct ::dcsctp_adaptation_layer_indication it {};
+        if (!call<bool>(::dcsctp_read_adaptation_layer_indication, this->bytes_, &this->place(), &it))
+            return std::nullopt;
+        return dcsctp::adaptation_layer_indication{it.code};
+    }
 
   protected:
     using item::item;
@@ -652,6 +969,41 @@ class cause_kinds : public item {
             && !(value.size() < 4 || value.size() != 4 + 2ull * get32(at)))
             return {{value.subspan(4), 2}, 0};
         return {};
+    }
+    /// Reads Invalid Stream Identifier; none where the value is one that its type doesn't allow.
+    [[nodiscard]] std::optional<dcsctp::invalid_stream_identifier> as_invalid_stream_identifier() const noexcept
+    {
+        struct ::dcsctp_invalid_stream_identifier it {};
+        if (!call<bool>(::dcsctp_read_invalid_stream_identifier, this->bytes_, &this->place(), &it))
+            return std::nullopt;
+        return dcsctp::invalid_stream_identifier{it.stream};
+    }
+    /// Reads Stale Cookie; none where the value is one that its type doesn't allow.
+    [[nodiscard]] std::optional<dcsctp::stale_cookie> as_stale_cookie() const noexcept
+    {
+        struct ::dcsctp_stale_cookie it {};
+        if (!call<bool>(::dcsctp_read_stale_cookie, this->bytes_, &this->place(), &it))
+            return std::nullopt;
+        return dcsctp::stale_cookie{it.microseconds};
+    }
+    /// Reads Unresolvable Address, Unrecognized Parameters, Restart of an Association with New Addresses, Request to
+    /// Delete Last Remaining IP Address, Operation Refused Due to Resource Shortage, Request to Delete Source IP
+    /// Address or Request refused - no authorization; none where the value is one that its type doesn't allow.
+    [[nodiscard]] std::optional<dcsctp::parameters_cause> as_parameters_cause() const noexcept
+    {
+        struct ::dcsctp_parameters_cause it {};
+        if (!call<bool>(::dcsctp_read_parameters_cause, this->bytes_, &this->place(), &it))
+            return std::nullopt;
+        return dcsctp::parameters_cause{
+                                        {this->bytes_.subspan(0, it.parameters_offset + it.parameters_size), it.parameters_offset}};
+    }
+    /// Reads Unsupported HMAC Identifier; none where the value is one that its type doesn't allow.
+    [[nodiscard]] std::optional<dcsctp::unsupported_hmac_identifier> as_unsupported_hmac_identifier() const noexcept
+    {
+        struct ::dcsctp_unsupported_hmac_identifier it {};
+        if (!call<bool>(::dcsctp_read_unsupported_hmac_identifier, this->bytes_, &this->place(), &it))
+            return std::nullopt;
+        return dcsctp::unsupported_hmac_identifier{it.hmac};
     }
 
   protected:
@@ -827,56 +1179,156 @@ class builder_kinds : public writer {
             return item(number(of.type), no_size, [](std::uint8_t *) {});
         }
     }
-};
-
-inline constexpr layout chunk_layouts[] = {
-    {DCSCTP_CHUNK_ECNE, {{"lowest TSN", form::u32}}},
-    {DCSCTP_CHUNK_CWR, {{"lowest TSN", form::u32}}},
-    {DCSCTP_CHUNK_AUTH, {{"key", form::u16}, {"HMAC identifier", form::u16}, {"HMAC", form::bytes}}},
-    {DCSCTP_CHUNK_NR_SACK, {{"cumulative TSN ack", form::u32}, {"a_rwnd", form::u32}, {"counts", form::u16},
-     {"counts", form::u16}, {"counts", form::u16}, {"lists", form::bytes}}},
-    {DCSCTP_CHUNK_ASCONF_ACK, {{"sequence number", form::u32}, {"parameters", form::parameters}}},
-    {DCSCTP_CHUNK_PKTDROP, {{"bandwidth", form::u32}, {"queued", form::u32}, {"size", form::u16},
-     {"packet", form::bytes}}},
-    {DCSCTP_CHUNK_PAD, {{"bytes", form::bytes}}},
-    {DCSCTP_CHUNK_ASCONF, {{"sequence number", form::u32}, {"address", form::address},
-     {"parameters", form::parameters}}},
-};
-
-inline constexpr layout parameter_layouts[] = {
-    {DCSCTP_PARAMETER_IPV4_ADDRESS, {{"address", form::address}}},
-    {DCSCTP_PARAMETER_IPV6_ADDRESS, {{"address", form::address}}},
-    {DCSCTP_PARAMETER_UNRECOGNIZED_PARAMETER, {{"parameters", form::parameters}}},
-    {DCSCTP_PARAMETER_COOKIE_PRESERVATIVE, {{"milliseconds", form::u32}}},
-    {DCSCTP_PARAMETER_HOST_NAME_ADDRESS, {{"name", form::bytes}}},
-    {DCSCTP_PARAMETER_SUPPORTED_ADDRESS_TYPES, {{"types", form::short_numbers}}},
-    {DCSCTP_PARAMETER_ECN_CAPABLE, {}},
-    {DCSCTP_PARAMETER_RANDOM, {{"bytes", form::bytes}}},
-    {DCSCTP_PARAMETER_CHUNK_LIST, {{"types", form::bytes}}},
-    {DCSCTP_PARAMETER_REQUESTED_HMAC_ALGORITHM, {{"HMACs", form::short_numbers}}},
-    {DCSCTP_PARAMETER_PADDING, {{"bytes", form::bytes}}},
-    {DCSCTP_PARAMETER_ADD_IP_ADDRESS, {{"correlation ID", form::u32}, {"address", form::address}}},
-    {DCSCTP_PARAMETER_DELETE_IP_ADDRESS, {{"correlation ID", form::u32}, {"address", form::address}}},
-    {DCSCTP_PARAMETER_ERROR_CAUSE_INDICATION, {{"correlation ID", form::u32}, {"causes", form::causes}}},
-    {DCSCTP_PARAMETER_SET_PRIMARY_ADDRESS, {{"correlation ID", form::u32}, {"address", form::address}}},
-    {DCSCTP_PARAMETER_SUCCESS_INDICATION, {{"correlation ID", form::u32}}},
-    {DCSCTP_PARAMETER_ADAPTATION_LAYER_INDICATION, {{"code", form::u32}}},
-};
-
-inline constexpr layout cause_layouts[] = {
-    {DCSCTP_CAUSE_INVALID_STREAM_IDENTIFIER, {{"stream", form::u16}}},
-    {DCSCTP_CAUSE_STALE_COOKIE, {{"microseconds", form::u32}}},
-    {DCSCTP_CAUSE_OUT_OF_RESOURCE, {}},
-    {DCSCTP_CAUSE_UNRESOLVABLE_ADDRESS, {{"parameters", form::parameters}}},
-    {DCSCTP_CAUSE_INVALID_MANDATORY_PARAMETER, {}},
-    {DCSCTP_CAUSE_UNRECOGNIZED_PARAMETERS, {{"parameters", form::parameters}}},
-    {DCSCTP_CAUSE_RESTART_WITH_NEW_ADDRESSES, {{"parameters", form::parameters}}},
-    {DCSCTP_CAUSE_DELETE_LAST_REMAINING_IP_ADDRESS, {{"parameters", form::parameters}}},
-    {DCSCTP_CAUSE_OPERATION_REFUSED, {{"parameters", form::parameters}}},
-    {DCSCTP_CAUSE_DELETE_SOURCE_IP_ADDRESS, {{"parameters", form::parameters}}},
-    {DCSCTP_CAUSE_ILLEGAL_ASCONF_ACK, {}},
-    {DCSCTP_CAUSE_REQUEST_REFUSED, {{"parameters", form::parameters}}},
-    {DCSCTP_CAUSE_UNSUPPORTED_HMAC_IDENTIFIER, {{"HMAC", form::u16}}},
+    /// Adds ECNE or CWR; bad_value for a type that isn't this, and for what it doesn't allow.
+    result add_congestion(chunk_type type, const congestion &of)
+    {
+        const struct ::dcsctp_congestion it {of.flags, of.lowest_tsn};
+        return append(::dcsctp_write_congestion, type, &it);
+    }
+    /// Adds AUTH; bad_value for a type that isn't this, and for what it doesn't allow.
+    result add_auth(const auth &of)
+    {
+        const struct ::dcsctp_auth it {of.flags, of.key, of.hmac_identifier, 0, of.hmac.size()};
+        return append(::dcsctp_write_auth, &it, of.hmac);
+    }
+    /// Adds NR-SACK; bad_value for a type that isn't this, and for what it doesn't allow.
+    result add_nr_sack(const nr_sack &of)
+    {
+        const struct ::dcsctp_nr_sack it {of.flags, of.cumulative_tsn_ack, of.a_rwnd, of.block_count, of.nr_block_count,
+                                          of.duplicate_count, 0, of.lists.size()};
+        return append(::dcsctp_write_nr_sack, &it, of.lists);
+    }
+    /// Adds ASCONF ACK; bad_value for a type that isn't this, and for what it doesn't allow.
+    result add_asconf_ack(const asconf_ack &of)
+    {
+        const struct ::dcsctp_asconf_ack it {of.flags, of.sequence_number, 0, of.parameters.bytes().size()};
+        return append(::dcsctp_write_asconf_ack, &it, of.parameters.bytes());
+    }
+    /// Adds PKTDROP; bad_value for a type that isn't this, and for what it doesn't allow.
+    result add_pktdrop(const pktdrop &of)
+    {
+        const struct ::dcsctp_pktdrop it {of.flags, of.bandwidth, of.queued, of.size, 0, of.packet.size()};
+        return append(::dcsctp_write_pktdrop, &it, of.packet);
+    }
+    /// Adds PAD; bad_value for a type that isn't this, and for what it doesn't allow.
+    result add_pad(const pad &of)
+    {
+        const struct ::dcsctp_pad it {of.flags, 0, of.data.size()};
+        return append(::dcsctp_write_pad, &it, of.data);
+    }
+    /// Adds ASCONF; bad_value for a type that isn't this, and for what it doesn't allow.
+    result add_asconf(const asconf &of)
+    {
+        if (overlaps(of.address) || overlaps(of.parameters.bytes()))
+            return code(DCSCTP_BAD_VALUE);
+        std::vector<std::uint8_t> both(of.address.begin(), of.address.end());
+        const bytes_view rest = of.parameters.bytes();
+        both.insert(both.end(), rest.begin(), rest.end());
+        const struct ::dcsctp_asconf it {of.flags, of.sequence_number, 0, of.address.size(), of.address.size(),
+                                         of.parameters.bytes().size()};
+        return append(::dcsctp_write_asconf, &it, bytes_view(both));
+    }
+    /// Adds Unrecognized Parameter to the last chunk; bad_value for a type that isn't this, and for what it doesn't
+    /// allow.
+    result add_unrecognized_parameter(const unrecognized_parameter &of)
+    {
+        const struct ::dcsctp_unrecognized_parameter it {0, of.parameters.bytes().size()};
+        return extend(::dcsctp_write_unrecognized_parameter, start_, &it, of.parameters.bytes());
+    }
+    /// Adds Cookie Preservative to the last chunk; bad_value for a type that isn't this, and for what it doesn't allow.
+    result add_cookie_preservative(const cookie_preservative &of)
+    {
+        const struct ::dcsctp_cookie_preservative it {of.milliseconds};
+        return extend(::dcsctp_write_cookie_preservative, start_, &it);
+    }
+    /// Adds Host Name Address to the last chunk; bad_value for a type that isn't this, and for what it doesn't allow.
+    result add_host_name_address(const host_name_address &of)
+    {
+        const struct ::dcsctp_host_name_address it {0, of.host_name.size()};
+        return extend(::dcsctp_write_host_name_address, start_, &it, of.host_name);
+    }
+    /// Adds Supported Address Types to the last chunk; bad_value for a type that isn't this, and for what it doesn't
+    /// allow.
+    result add_supported_address_types(const supported_address_types &of)
+    {
+        const struct ::dcsctp_supported_address_types it {0, of.types.bytes().size()};
+        return extend(::dcsctp_write_supported_address_types, start_, &it, of.types.bytes());
+    }
+    /// Adds Random or Padding to the last chunk; bad_value for a type that isn't this, and for what it doesn't allow.
+    result add_random_or_padding(parameter_type type, const random_or_padding &of)
+    {
+        const struct ::dcsctp_random_or_padding it {0, of.data.size()};
+        return extend(::dcsctp_write_random_or_padding, start_, type, &it, of.data);
+    }
+    /// Adds Chunk List to the last chunk; bad_value for a type that isn't this, and for what it doesn't allow.
+    result add_chunk_list(const chunk_list &of)
+    {
+        const struct ::dcsctp_chunk_list it {0, of.types.size()};
+        return extend(::dcsctp_write_chunk_list, start_, &it, of.types);
+    }
+    /// Adds Requested HMAC Algorithm to the last chunk; bad_value for a type that isn't this, and for what it doesn't
+    /// allow.
+    result add_requested_hmac_algorithm(const requested_hmac_algorithm &of)
+    {
+        const struct ::dcsctp_requested_hmac_algorithm it {0, of.hmacs.bytes().size()};
+        return extend(::dcsctp_write_requested_hmac_algorithm, start_, &it, of.hmacs.bytes());
+    }
+    /// Adds Add IP Address, Delete IP Address or Set Primary Address to the last chunk; bad_value for a type that isn't
+    /// this, and for what it doesn't allow.
+    result add_address_request(parameter_type type, const address_request &of)
+    {
+        const struct ::dcsctp_address_request it {of.correlation_id, 0, of.address.size()};
+        return extend(::dcsctp_write_address_request, start_, type, &it, of.address);
+    }
+    /// Adds Error Cause Indication to the last chunk; bad_value for a type that isn't this, and for what it doesn't
+    /// allow.
+    result add_error_cause_indication(const error_cause_indication &of)
+    {
+        const struct ::dcsctp_error_cause_indication it {of.correlation_id, 0, of.causes.bytes().size()};
+        return extend(::dcsctp_write_error_cause_indication, start_, &it, of.causes.bytes());
+    }
+    /// Adds Success Indication to the last chunk; bad_value for a type that isn't this, and for what it doesn't allow.
+    result add_success_indication(const success_indication &of)
+    {
+        const struct ::dcsctp_success_indication it {of.correlation_id};
+        return extend(::dcsctp_write_success_indication, start_, &it);
+    }
+    /// Adds Adaptation Layer Indication to the last chunk; bad_value for a type that isn't this, and for what it
+    /// doesn't allow.
+    result add_adaptation_layer_indication(const adaptation_layer_indication &of)
+    {
+        const struct ::dcsctp_adaptation_layer_indication it {of.code};
+        return extend(::dcsctp_write_adaptation_layer_indication, start_, &it);
+    }
+    /// Adds Invalid Stream Identifier to the last chunk; bad_value for a type that isn't this, and for what it doesn't
+    /// allow.
+    result add_invalid_stream_identifier(const invalid_stream_identifier &of)
+    {
+        const struct ::dcsctp_invalid_stream_identifier it {of.stream};
+        return extend(::dcsctp_write_invalid_stream_identifier, start_, &it);
+    }
+    /// Adds Stale Cookie to the last chunk; bad_value for a type that isn't this, and for what it doesn't allow.
+    result add_stale_cookie(const stale_cookie &of)
+    {
+        const struct ::dcsctp_stale_cookie it {of.microseconds};
+        return extend(::dcsctp_write_stale_cookie, start_, &it);
+    }
+    /// Adds Unresolvable Address, Unrecognized Parameters, Restart of an Association with New Addresses, Request to
+    /// Delete Last Remaining IP Address, Operation Refused Due to Resource Shortage, Request to Delete Source IP
+    /// Address or Request refused - no authorization to the last chunk; bad_value for a type that isn't this, and for
+    /// what it doesn't allow.
+    result add_parameters_cause(cause_code code, const parameters_cause &of)
+    {
+        const struct ::dcsctp_parameters_cause it {0, of.parameters.bytes().size()};
+        return extend(::dcsctp_write_parameters_cause, start_, code, &it, of.parameters.bytes());
+    }
+    /// Adds Unsupported HMAC Identifier to the last chunk; bad_value for a type that isn't this, and for what it
+    /// doesn't allow.
+    result add_unsupported_hmac_identifier(const unsupported_hmac_identifier &of)
+    {
+        const struct ::dcsctp_unsupported_hmac_identifier it {of.hmac};
+        return extend(::dcsctp_write_unsupported_hmac_identifier, start_, &it);
+    }
 };
 
 } // namespace detail

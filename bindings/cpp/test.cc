@@ -299,108 +299,44 @@ void kind_line(std::string_view line)
     }));
 }
 
-// The name of a field in the vectors.
-std::string key_of(std::string_view name)
-{
-    std::string key(name == "name" ? "host name" : name == "bytes" ? "data" : name);
-    std::transform(key.begin(), key.end(), key.begin(),
-                   [](char c) { return c == ' ' ? '_' : static_cast<char>(c >= 'A' && c <= 'Z' ? c + 32 : c); });
-    return key;
-}
-
-std::string show(const registered &it, const detail::layout &layout)
-{
-    std::string text, last;
-    std::size_t index = 0;
-    for (const detail::field &field : layout.fields) {
-        const std::string key = key_of(field.name);
-        std::string value = json(it.rest);
-        switch (field.is) {
-        case detail::form::none: continue;
-        case detail::form::u32:
-        case detail::form::u16:
-            CHECK(key == last || it.number(field.name) == it.numbers[index]);
-            value = json(it.numbers[index++]);
-            break;
-        case detail::form::address: value = json(it.address); break;
-        case detail::form::short_numbers: value = numbers(it.short_numbers()); break;
-        case detail::form::parameters:
-            value = list_of(it.parameters(),
-                            [](const parameter &one) { return object("type", number(one.type()), "value", one.value()); });
-            break;
-        case detail::form::causes:
-            value =
-                list_of(it.causes(), [](const cause &one) { return object("code", number(one.code()), "value", one.value()); });
-            break;
-        case detail::form::bytes: break;
-        }
-        if (key == last)
-            text += ',' + value;
-        else
-            text += (text.empty()       ? ""
-                     : last == "counts" ? "],\""
-                                        : ",\"")
-                    + std::string(text.empty() ? "\"" : "") + key + "\":" + (key == "counts" ? "[" : "") + value;
-        last = key;
-    }
-    return '{' + text + '}';
-}
-
 void registered_line(std::string_view line)
 {
     const std::string of = text_by(line, "level"), fields = by_key(line, "fields");
     const auto type = static_cast<std::uint16_t>(number_by(line, "type"));
     const bytes value = bytes_by(line, "value");
-    const bool is_chunk = of == "chunk", is_parameter = of == "parameter";
-    const auto layout = is_chunk ? detail::layout_of(detail::chunk_layouts, type)
-        : is_parameter           ? detail::layout_of(detail::parameter_layouts, type)
-                                 : detail::layout_of(detail::cause_layouts, type);
-    const auto write = [&](const registered &it, bytes &buffer) {
-        builder to(buffer, 1, 2, 3);
-        const result added = is_chunk ? to.add_registered(static_cast<chunk_type>(type), it)
-            : !to.add_chunk(is_parameter ? chunk_type::re_config : chunk_type::error) ? result(result_code::no_room)
-            : is_parameter ? to.add_registered(static_cast<parameter_type>(type), it)
-                           : to.add_registered(static_cast<cause_code>(type), it);
-        const auto last = to.last_chunk();
-        buffer = !added || !last ? bytes() : bytes(last->value().begin() + (is_chunk ? 0 : 4), last->value().end());
-        return added.code();
-    };
-    bytes buffer;
-    if (is_by(line, "refused")) {
-        registered it({}, {}, {});
-        const bytes address = bytes_by(fields, "address"), rest = bytes_by(fields, "lists");
-        it.address = address;
-        it.rest = rest;
-        std::vector<std::uint32_t> all = numbers_by<std::uint32_t>(fields, "counts");
-        all.insert(all.begin(), {number_by(fields, "cumulative_tsn_ack"), number_by(fields, "a_rwnd")});
-        std::copy(all.begin(), all.end(), it.numbers.begin());
-        CHECK(write(it, buffer) == result_code::bad_value);
+    bytes buffer, wrote;
+    builder from(buffer, 1, 2, 3), to(wrote, 1, 2, 3);
+    if (is_by(line, "refused") && of == "parameter") { // (an address tells its type, so no other one is written)
+        CHECK(!parameter(static_cast<parameter_type>(type), bytes_by(fields, "address")).as_address());
         return;
     }
-    builder to(buffer, 1, 2, 3);
-    CHECK(to.add_chunk(static_cast<chunk_type>(type), 0, value));
-    const auto read = is_chunk ? to.last_chunk()->as_registered()
-        : is_parameter         ? parameter(static_cast<parameter_type>(type), value).as_registered()
-                               : cause(static_cast<cause_code>(type), value).as_registered();
-    CHECK((read ? show(*read, *layout) : "null") == fields);
-    bytes wrote, again;
-    if (!read)
+    if (is_by(line, "refused")) {
+        const auto counts = numbers_by<std::uint16_t>(fields, "counts");
+        const bytes lists = bytes_by(fields, "lists");
+        const nr_sack it = {0, number_by(fields, "cumulative_tsn_ack"), number_by(fields, "a_rwnd"), counts[0], counts[1],
+                            counts[2], lists};
+        CHECK(to.add_nr_sack(it).code() == result_code::bad_value);
         return;
-    // By its fields: a list is written of its items, which pads them.
-    bytes inner, list(read->rest.begin(), read->rest.end());
-    builder items(inner, 1, 2, 3);
-    CHECK(items.add_chunk(chunk_type::error));
-    for (parameter one : read->parameters())
-        CHECK(items.add_parameter(one.type(), one.value()));
-    for (cause one : read->causes())
-        CHECK(items.add_cause(one.code(), one.value()));
-    if (items.size() > 16)
-        list.assign(items.last_chunk()->value().begin(), items.last_chunk()->value().end());
-    registered own({}, read->address, list);
-    own.numbers = read->numbers;
-    const bytes wanted = by_key(line, "written").empty() ? value : bytes_by(line, "written");
-    CHECK(write(*read, wrote) == result_code::ok && (wrote == value || wrote == wanted));
-    CHECK(write(own, again) == result_code::ok && again == wanted);
+    }
+    const auto same_fields = [&](const auto &it, builder &out) {
+        const std::string found = fields_of(it);
+        CHECK(found == fields || (found == "null" && fields == "{}"));
+        return found != "null" && write_fields(out, it);
+    };
+    bool is_written = false;
+    CHECK(from.add_chunk(static_cast<chunk_type>(of == "chunk" ? type : 0), 0xa5, of == "chunk" ? value : bytes()));
+    if (of == "chunk")
+        is_written = same_fields(*from.last_chunk(), to);
+    else
+        is_written = to.add_chunk(chunk_type::error)
+            && (of == "parameter" ? same_fields(parameter(static_cast<parameter_type>(type), value), to)
+                                  : same_fields(cause(static_cast<cause_code>(type), value), to));
+    CHECK(is_written == (fields != "null" && fields != "{}"));
+    const auto last = to.last_chunk();
+    if (is_written) {
+        const bytes again(last->value().begin() + (of == "chunk" ? 0 : 4), last->value().end());
+        CHECK(again == value || again == bytes_by(line, "written"));
+    }
 }
 
 // ---- what is asked of whoever receives a packet
@@ -504,16 +440,20 @@ void vectors(const std::string &path, void (*of_a_line)(std::string_view))
 std::size_t touched;
 
 // The rest of the registry, down to the items in items.
-void read_all(const std::optional<registered> &it)
+template <typename Item> void read_each(const Item &it)
 {
-    if (!it)
-        return;
-    touched += hex(it->address).size() + hex(it->rest).size() + it->number("correlation ID").value_or(0);
-    touched += numbers(it->short_numbers()).size();
-    for (parameter one : it->parameters())
-        read_all(one.as_registered());
-    for (cause one : it->causes())
-        read_all(one.as_registered());
+    touched += fields_of(it).size();
+    if constexpr (std::is_same_v<Item, parameter>) {
+        if (const auto of = it.as_unrecognized_parameter())
+            for (parameter one : of->parameters)
+                read_each(one);
+        if (const auto of = it.as_error_cause_indication())
+            for (cause one : of->causes)
+                read_each(one);
+    } else if (const auto of = it.as_parameters_cause()) {
+        for (parameter one : of->parameters)
+            read_each(one);
+    }
 }
 
 void read_all(bytes_view bytes)
@@ -523,11 +463,14 @@ void read_all(bytes_view bytes)
     for (chunk chunk : it.chunks()) {
         agrees(bytes, chunk);
         touched += hex(chunk.bytes()).size();
-        read_all(chunk.as_registered());
+        touched += fields_of(chunk).size();
+        if (const auto of = chunk.as_asconf())
+            for (parameter one : of->parameters)
+                read_each(one);
         for (parameter one : chunk.parameters())
-            read_all(one.as_registered());
+            read_each(one);
         for (cause one : chunk.causes())
-            read_all(one.as_registered());
+            read_each(one);
     }
 }
 
@@ -604,8 +547,11 @@ void whole_packets()
     bytes packet = sealed("0b000004 000b0013 01020304 0005 0006 00000033 616263 00");
     const dcsctp::packet whole(packet);
     const auto header = whole.header();
-    CHECK(header == dcsctp::header{5000, 5001, 0x01020304, whole.word()} && whole.check() && !whole.first_fault());
-    CHECK(whole.check({}, whole.word()) && whole.check({}, whole.word() + 1).code() == result_code::fault_checksum);
+    CHECK(header == dcsctp::header{5000, 5001, 0x01020304, whole.word().number()} && whole.check() && !whole.first_fault());
+    const dcsctp::checksum_word wrong(whole.word().number() + 1);
+    CHECK(whole.check({}, whole.word()) && whole.check({}, wrong).code() == result_code::fault_checksum);
+    CHECK(wrong != whole.word());
+    static_assert(!std::is_convertible_v<std::uint32_t, packet::word_option>); // the checksum field is no word
     CHECK(whole.chunk_at(16)->type() == chunk_type::data && !whole.chunk_at(36) && !whole.chunk_at(99));
     CHECK(!dcsctp::packet().header() && dcsctp::packet().chunks().empty() && dcsctp::packet().size() == 0);
     bytes canonical = packet;
@@ -620,11 +566,17 @@ void whole_packets()
           && as_text({room, whole.print_to(room).size}) == *text);
     CHECK(report && report->back() == '\n' && as_text({room, whole.report_to(room).size}) == *report);
     CHECK(whole.report_to({room, 10}) == written{result_code::no_room, report->size()});
+    dcsctp::policy any;
+    any.any_checksum = true;
+    CHECK(report->find(": right\n") != std::string::npos && *whole.report(any) == *report);
+    CHECK(as_text({room, whole.report_to(room, any).size}) == *report);
     CHECK(set_tag(packet, 7) && !whole.check() && seal(packet) && whole.check() && whole.header()->verification_tag == 7);
     CHECK(seal({room, 11}).code() == result_code::bad_place && set_tag({room, 11}, 1).code() == result_code::bad_place);
     CHECK(dcsctp::packet().check().text() == std::string_view("not the size of a packet") && (*zero.print()).empty());
     // a word of 0 that is passed is what the field has to be
-    CHECK(zero.check({}, 0) && zero.print({}, 0) && zero.report({}, 0) && zero.canonical({}, 0) && !whole.print({}, 0));
+    const dcsctp::checksum_word none(0);
+    CHECK(zero.check({}, none) && zero.print({}, none) && zero.report({}, none) && zero.canonical({}, none));
+    CHECK(!whole.print({}, none));
 
     std::vector<gap_ack_block> mixed = {{5, 6}, {2, 3}, {9, 8}, {4, 4}, {9, 9}};
     clean_blocks(mixed);
@@ -892,7 +844,7 @@ void memory()
         for (gap_ack_block block : one.whole().gap_ack_blocks())
             read += block.start;
         for (cause cause : one.whole().causes())
-            read += cause.value().size() + cause.as_registered().has_value();
+            read += cause.value().size() + cause.as_stale_cookie().has_value();
     }
     builder to(output, 1, 2, 3);
     CHECK(read == 11 && to.add_cookie_echo(packet) && to.add_sack(1, 2, {{2, 3}}, {4}) && to.seal() && allocations == before);
@@ -959,7 +911,7 @@ void stacks()
     std::array<row, 3> rows{};
     rows[2].tsn = 7;
     const reading read = packet(two).read(rows), few = packet(two).read(view<row>(rows).subspan(0, 1)),
-                  wrong = packet(two).read(rows, {}, 1);
+                  wrong = packet(two).read(rows, {}, dcsctp::checksum_word(1));
     CHECK(read && !read.first_fault() && read.header() == packet(two).header() && read.chunk_count() == 2
           && read.chunks().size() == 2);
     CHECK(rows[2].tsn == 7 && few && few.chunk_count() == 2 && !few.has_all() && few.chunks().size() == 1
@@ -983,26 +935,22 @@ void registered_values()
     CHECK(same(*addresses.begin()->as_address(), v4) && std::next(addresses.begin())->as_address()->size() == 16);
     CHECK(!parameter(parameter_type::ipv6_address, v4).as_address() && !parameter(parameter_type::random, v4).as_address());
     const auto before = buffer;
+    const bytes_view own = view<std::uint8_t>(buffer).subspan(4, 4), whole(item);
     for (const result refused :
-         {to.add_registered(chunk_type::data, {}), to.add_registered(parameter_type::state_cookie, {}),
-          to.add_registered(cause_code::no_user_data, {}), to.add_registered(chunk_type::auth, {0x10000, 1}),
-          to.add_registered(cause_code::invalid_stream_identifier, {0x10000}),
-          to.add_registered(chunk_type::asconf, {{1}, five}),
-          to.add_registered(chunk_type::asconf, {{1}, v4, bytes_view(item).subspan(2)}),
-          to.add_registered(parameter_type::random, {{}, {}, view<std::uint8_t>(buffer).subspan(4, 4)}),
-          to.add_registered(chunk_type::asconf, {{1}, view<std::uint8_t>(buffer).subspan(4, 4), item})})
+         {to.add_congestion(chunk_type::auth, {0, 1}), to.add_random_or_padding(parameter_type::state_cookie, {}),
+          to.add_address_request(parameter_type::random, {1, v4}), to.add_parameters_cause(cause_code::stale_cookie, {}),
+          to.add_asconf({0, 1, five, {}}), to.add_asconf({0, 1, v4, whole.subspan(2)}), to.add_asconf({0, 1, own, whole}),
+          to.add_random_or_padding(parameter_type::random, {own}), to.add_nr_sack({0, 1, 2, 1, 0, 0, v6})})
         CHECK(refused.code() == result_code::bad_value && buffer == before);
-    CHECK(to.add_registered(chunk_type::asconf, {{7}, v4, item})
-          && to.last_chunk()->as_registered()->number("sequence number") == 7u);
-    CHECK(!registered({1}).number("key") && registered({1, 2, 3, 4, 5, 6}).numbers[4] == 5
-          && registered().parameters().empty());
+    CHECK(to.add_asconf({0, 7, v4, whole}) && to.last_chunk()->as_asconf() == asconf({0, 7, v4, whole}));
+    CHECK(to.last_chunk()->as_asconf()->parameters.begin()->as_number() == 1u && !to.last_chunk()->as_asconf_ack());
     // As many lists in one another as a parameter has room for: each read goes one level deeper.
     bytes deep;
     for (std::size_t size = 65528; size >= 4; size -= 4)
         deep.insert(deep.end(), {0, 8, static_cast<std::uint8_t>(size >> 8), static_cast<std::uint8_t>(size)});
     std::size_t depth = 0;
     for (auto it = std::optional(parameter(parameter_type::unrecognized_parameter, deep)); it; depth++) {
-        const auto inside = it->as_registered()->parameters();
+        const auto inside = it->as_unrecognized_parameter()->parameters;
         it = inside.empty() ? std::nullopt : std::optional(*inside.begin());
     }
     CHECK(depth == 65528 / 4 + 1);
@@ -1011,19 +959,20 @@ void registered_values()
 // The rows are those of tests/c/auth.c, whose HMACs are those that Python's hmac gives.
 void authenticated()
 {
-    const bytes key = {'a', ' ', 'k', 'e', 'y'}, addresses = {192, 0, 2, 1}, wanted = of_hex(
-        "0f4058d455d989f64110ebd32badc1d936581848510b55101d06d10654512b4e00000000000f4240"
-        "00000000039387000102030405060708090a0b0c0d0e0f1013881389000a0014c0000201");
-    const cookie says = {1000000, 60000000, 0x01020304, 0x05060708, 0x090a0b0c, 0x0d0e0f10, 5000, 5001, 10, 20, addresses};
+    const bytes key = {'a', ' ', 'k', 'e', 'y'}, extra = {192, 0, 2, 1}, wanted = of_hex(
+        "0e7f54ce817b4159983e9114aa8511194e5e71af023a055c38cb78f905a9ac0400000000000f4240"
+        "000000000393870001020304050607081112131415161718090a0b0c0d0e0f1013881389000a0014c0000201");
+    const cookie says = {1000000, 60000000, 0x01020304, 0x05060708, 0x11121314, 0x15161718, 0x090a0b0c, 0x0d0e0f10,
+                         5000, 5001, 10, 20, extra};
     CHECK(seal_cookie(key, says) == wanted);
     // Good to the end of its life, and on a clock that was set back; then stale.
     for (std::uint64_t now : {0u, 61000000u, 61000002u}) {
         const opened_cookie opened = open_cookie(key, wanted, now);
         CHECK(opened.says == says && opened.staleness == (now == 61000002 ? 2 : 0) && bool(opened) == (opened.staleness == 0));
         CHECK(opened.state == (opened ? cookie_state::good : cookie_state::stale)
-              && opened.says.addresses.data() == wanted.data() + 72);
+              && opened.says.extra.data() == wanted.data() + 80);
     }
-    const opened_cookie other = open_cookie({}, wanted, 0), cut = open_cookie(key, bytes_view(wanted).subspan(0, 75), 0);
+    const opened_cookie other = open_cookie({}, wanted, 0), cut = open_cookie(key, bytes_view(wanted).subspan(0, 83), 0);
     CHECK(!other && other.state == cookie_state::invalid && other.says == cookie{} && cut.state == cookie_state::invalid);
 
     bytes auth = of_hex("0f00001c00000001c7495116c0ef32e9165201fbb044c4bb612e9d0e0003001400000001000200030000003361620000");

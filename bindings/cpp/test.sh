@@ -23,7 +23,7 @@ trap 'rm -rf "$work"' EXIT
 
 # Comments and the names of structs aside, each function has to be called, but for one that the texts alone need, dcsctp_read_many,
 # whose rows are read as those of dcsctp_read, dcsctp_items, which counts, and those in whose place generated code writes.
-left_out='named|read_many|items|short_numbers|add_(chunk|data|i_data|sack|init|init_ack|cookie_echo|cookie_ack|heartbeat)'
+left_out='named|usual_policy|writer_[a-z_]+|read_many|items|short_numbers|(add_)?registered_(chunk|parameter|cause)|add_(chunk|data|i_data|sack|init|init_ack|cookie_echo|cookie_ack|heartbeat)'
 left_out+='|add_(shutdown|shutdown_ack|shutdown_complete|forward_tsn|i_forward_tsn|parameter|number|re_config|missing_parameters)'
 functions=$(sed -E ':a; s%/\*.*\*/%%; /\/\*/{N; ba}' "$dist/dcsctp.h" | grep -oE '\bdcsctp_[a-z_]+\(' | grep -vE "^dcsctp_($left_out)\(" | sort -u)
 [ "$(wc -l <<<"$functions")" -ge 45 ] || { echo "bindings/cpp: $dist/dcsctp.h has too few functions" >&2 && exit 1; }
@@ -39,8 +39,8 @@ done
     printf '}\n'
 } >"$work/readme.cc"
 {
-    printf 'INIT ACK: State Cookie\nCOOKIE ACK to tag 1294857517\nAdd IP Address: 1\n'
-    printf '192.0.2.1\n198.51.100.1\n2001:db8::1\n2001:db8::2\n'
+    printf 'INIT ACK: State Cookie\nAdd IP Address: 1\n192.0.2.1\n198.51.100.1\n2001:db8::1\n2001:db8::2\n'
+    printf 'COOKIE ACK to tag 1294857517\n'
 } >"$work/readme.expected"
 
 # Views of bytes that are gone, and what isn't looked at: behind -, what clang++ alone finds. (What is right is in test.cc.)

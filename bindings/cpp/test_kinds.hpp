@@ -370,6 +370,135 @@ void each_reader(const cause &it, const ::dcsctp_parameter &of, Function alike_b
     CHECK(alike_by(it.missing_parameters(), of, ::dcsctp_missing_parameter, ::dcsctp_missing_parameters));
 }
 
+std::string fields_of(const chunk &it)
+{
+    if (const auto of = it.as_congestion())
+        return object("lowest_tsn", of->lowest_tsn);
+    if (const auto of = it.as_auth())
+        return object("key", of->key, "hmac_identifier", of->hmac_identifier, "hmac", of->hmac);
+    if (const auto of = it.as_nr_sack())
+        return object("cumulative_tsn_ack", of->cumulative_tsn_ack, "a_rwnd", of->a_rwnd, "counts",
+                      numbers(std::vector<std::uint16_t>{of->block_count, of->nr_block_count, of->duplicate_count}),
+                      "lists", of->lists);
+    if (const auto of = it.as_asconf_ack())
+        return object("sequence_number", of->sequence_number, "parameters",
+                      list_of(of->parameters, [](auto one) { return object("type", number(one.type()), "value", one.value()); }));
+    if (const auto of = it.as_pktdrop())
+        return object("bandwidth", of->bandwidth, "queued", of->queued, "size", of->size, "packet", of->packet);
+    if (const auto of = it.as_pad())
+        return object("data", of->data);
+    if (const auto of = it.as_asconf())
+        return object("sequence_number", of->sequence_number, "address", of->address, "parameters",
+                      list_of(of->parameters, [](auto one) { return object("type", number(one.type()), "value", one.value()); }));
+    return "null";
+}
+
+result write_fields(builder &to, const chunk &it)
+{
+    if (const auto of = it.as_congestion())
+        return to.add_congestion(it.type(), *of);
+    if (const auto of = it.as_auth())
+        return to.add_auth(*of);
+    if (const auto of = it.as_nr_sack())
+        return to.add_nr_sack(*of);
+    if (const auto of = it.as_asconf_ack())
+        return to.add_asconf_ack(*of);
+    if (const auto of = it.as_pktdrop())
+        return to.add_pktdrop(*of);
+    if (const auto of = it.as_pad())
+        return to.add_pad(*of);
+    if (const auto of = it.as_asconf())
+        return to.add_asconf(*of);
+    return result_code::bad_value;
+}
+
+std::string fields_of(const parameter &it)
+{
+    if (const auto of = it.as_unrecognized_parameter())
+        return object("parameters",
+                      list_of(of->parameters, [](auto one) { return object("type", number(one.type()), "value", one.value()); }));
+    if (const auto of = it.as_cookie_preservative())
+        return object("milliseconds", of->milliseconds);
+    if (const auto of = it.as_host_name_address())
+        return object("host_name", of->host_name);
+    if (const auto of = it.as_supported_address_types())
+        return object("types", numbers(of->types));
+    if (const auto of = it.as_random_or_padding())
+        return object("data", of->data);
+    if (const auto of = it.as_chunk_list())
+        return object("types", of->types);
+    if (const auto of = it.as_requested_hmac_algorithm())
+        return object("hmacs", numbers(of->hmacs));
+    if (const auto of = it.as_address_request())
+        return object("correlation_id", of->correlation_id, "address", of->address);
+    if (const auto of = it.as_error_cause_indication())
+        return object("correlation_id", of->correlation_id, "causes",
+                      list_of(of->causes, [](auto one) { return object("code", number(one.code()), "value", one.value()); }));
+    if (const auto of = it.as_success_indication())
+        return object("correlation_id", of->correlation_id);
+    if (const auto of = it.as_adaptation_layer_indication())
+        return object("code", of->code);
+    if (const auto of = it.as_address())
+        return object("address", *of);
+    return "null";
+}
+
+result write_fields(builder &to, const parameter &it)
+{
+    if (const auto of = it.as_unrecognized_parameter())
+        return to.add_unrecognized_parameter(*of);
+    if (const auto of = it.as_cookie_preservative())
+        return to.add_cookie_preservative(*of);
+    if (const auto of = it.as_host_name_address())
+        return to.add_host_name_address(*of);
+    if (const auto of = it.as_supported_address_types())
+        return to.add_supported_address_types(*of);
+    if (const auto of = it.as_random_or_padding())
+        return to.add_random_or_padding(it.type(), *of);
+    if (const auto of = it.as_chunk_list())
+        return to.add_chunk_list(*of);
+    if (const auto of = it.as_requested_hmac_algorithm())
+        return to.add_requested_hmac_algorithm(*of);
+    if (const auto of = it.as_address_request())
+        return to.add_address_request(it.type(), *of);
+    if (const auto of = it.as_error_cause_indication())
+        return to.add_error_cause_indication(*of);
+    if (const auto of = it.as_success_indication())
+        return to.add_success_indication(*of);
+    if (const auto of = it.as_adaptation_layer_indication())
+        return to.add_adaptation_layer_indication(*of);
+    if (const auto of = it.as_address())
+        return to.add_address(*of);
+    return result_code::bad_value;
+}
+
+std::string fields_of(const cause &it)
+{
+    if (const auto of = it.as_invalid_stream_identifier())
+        return object("stream", of->stream);
+    if (const auto of = it.as_stale_cookie())
+        return object("microseconds", of->microseconds);
+    if (const auto of = it.as_parameters_cause())
+        return object("parameters",
+                      list_of(of->parameters, [](auto one) { return object("type", number(one.type()), "value", one.value()); }));
+    if (const auto of = it.as_unsupported_hmac_identifier())
+        return object("hmac", of->hmac);
+    return "null";
+}
+
+result write_fields(builder &to, const cause &it)
+{
+    if (const auto of = it.as_invalid_stream_identifier())
+        return to.add_invalid_stream_identifier(*of);
+    if (const auto of = it.as_stale_cookie())
+        return to.add_stale_cookie(*of);
+    if (const auto of = it.as_parameters_cause())
+        return to.add_parameters_cause(it.code(), *of);
+    if (const auto of = it.as_unsupported_hmac_identifier())
+        return to.add_unsupported_hmac_identifier(*of);
+    return result_code::bad_value;
+}
+
 const char *const names_of_action[] = {"STOP", "STOP_AND_REPORT", "SKIP", "SKIP_AND_REPORT"};
 
 const char *const names_of_tag_verdict[] = {"ACCEPT", "ESTABLISH", "OUT_OF_THE_BLUE", "DISCARD"};
@@ -384,6 +513,21 @@ const char *const names_of_refusal[] = {"DISCARD", "ABORT", "DESTROY_AND_ABORT"}
 
 void equal_structs()
 {
+    CHECK(compares(&congestion::lowest_tsn));
+    CHECK(compares(&auth::key, &auth::hmac_identifier));
+    CHECK(compares(&nr_sack::cumulative_tsn_ack, &nr_sack::a_rwnd, &nr_sack::block_count, &nr_sack::nr_block_count,
+                   &nr_sack::duplicate_count));
+    CHECK(compares(&asconf_ack::sequence_number));
+    CHECK(compares(&pktdrop::bandwidth, &pktdrop::queued, &pktdrop::size));
+    CHECK(compares(&asconf::sequence_number));
+    CHECK(compares(&cookie_preservative::milliseconds));
+    CHECK(compares(&address_request::correlation_id));
+    CHECK(compares(&error_cause_indication::correlation_id));
+    CHECK(compares(&success_indication::correlation_id));
+    CHECK(compares(&adaptation_layer_indication::code));
+    CHECK(compares(&invalid_stream_identifier::stream));
+    CHECK(compares(&stale_cookie::microseconds));
+    CHECK(compares(&unsupported_hmac_identifier::hmac));
     CHECK(compares(&gap_ack_block::start, &gap_ack_block::end));
     CHECK(compares(&skipped_stream::stream, &skipped_stream::ssn, &skipped_stream::mid, &skipped_stream::is_unordered));
     CHECK(compares(&data::tsn, &data::mid, &data::fsn, &data::ppid, &data::stream, &data::ssn, &data::is_unordered,
