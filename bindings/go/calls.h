@@ -86,10 +86,10 @@ struct go_registered {
     struct dcsctp_registered it;
 };
 
-static inline struct go_registered go_registered(int level, uint16_t type, const uint8_t *value, size_t size)
+static inline struct go_registered go_registered(int level, uint16_t type, uint8_t flags, const uint8_t *value, size_t size)
 {
     struct go_registered result = {0};
-    const struct dcsctp_chunk chunk = {(uint8_t)type, 0, 0, size, size};
+    const struct dcsctp_chunk chunk = {(uint8_t)type, flags, 0, size, size};
     const struct dcsctp_parameter item = {type, 0, size, size};
     result.is_there = level == 0   ? dcsctp_registered_chunk(value, size, &chunk, &result.it)
                       : level == 1 ? dcsctp_registered_parameter(value, size, &item, &result.it)

@@ -6,12 +6,12 @@
 // dist/README.md says what is proved of it, and docs/C.md more of each call. The fields of packets are read and written by Go,
 // which is generated of the repository's registry/sctp.txt, and compared with that code.
 //
-//	packet := davgyuti.Packet(bytes)
-//	if err := packet.Check(davgyuti.Policy{}); err != nil {
+//	var parsed davgyuti.Parsed // keep it for the next packet
+//	if err := parsed.Read(packet, davgyuti.Policy{}); err != nil {
 //		return err // davgyuti: wrong checksum at byte 8
 //	}
-//	for chunks := packet.Chunks(); chunks.Next(); {
-//		if data, ok := chunks.Value().Data(); ok {
+//	for i := 0; i < parsed.Len(); i++ {
+//		if data, ok := parsed.Data(i); ok {
 //			receive(data.Stream, data.TSN, data.Payload)
 //		}
 //	}
@@ -20,8 +20,8 @@
 // the packet's bytes, and not copied. Any number of goroutines may read the same packet. The bytes have to stay readable
 // while a call runs: a fault in C, as of a mapped file that was cut, can't be recovered.
 //
-// Check of a packet that is one, IsValid, VerifyTag, OutOfTheBlue, BrokenRules, Header and ChunkAt allocate nothing, nor does a
-// Parsed that has grown. A fault allocates its Error, a list its iterator, and one of numbers these.
+// Check of a packet that is one, IsValid, VerifyTag, OutOfTheBlue, BrokenRules, Header, ChunkAt and Chunks allocate nothing, nor does
+// a Parsed that has grown. A fault allocates its Error, a list of numbers these, and an Iterator itself if it is passed on.
 //
 // # What a receiver still has to check
 //

@@ -4,12 +4,16 @@ package davgyuti_test
 
 import (
 	"bytes"
+	"encoding"
 	"encoding/binary"
+	"encoding/gob"
 	"encoding/hex"
 	"errors"
 	"fmt"
 	"hash/crc32"
+	"io"
 	"math/rand"
+	"net"
 	"net/netip"
 	"os"
 	"os/exec"
@@ -119,6 +123,10 @@ func TestPacket(t *testing.T) {
 	report, err := packet.Report(davgyuti.Policy{})
 	if err != nil || !strings.HasSuffix(report, "\n") || !strings.Contains(report, "\n  ") {
 		t.Errorf("reported are %v, %q", err, report)
+	}
+	accepted, err := packet.Report(davgyuti.Policy{AnyChecksum: true})
+	if err != nil || accepted != report || !strings.Contains(report, ": right\n") {
+		t.Errorf("reported of any checksum are %v, %q", err, accepted)
 	}
 
 	equal(t, "string", packet.String(), report)
@@ -436,29 +444,122 @@ func TestRegisteredWritten(t *testing.T) {
 	equal(t, "written", builder.Bytes()[60:], append(ofHex("8002 0010"), before[:12]...))
 }
 
-// Where the package can't be built, a sentence says what is lacking.
+// What a chunk, a parameter and an error cause are written into and read from, by themselves and by gob.
+func TestBinary(t *testing.T) {
+	packet := sealed("0600 000b 000d 0007 616263 00 01000020" + numbers + "8008 0006 82c0 0000 c000 0004")
+	chunks := packet.Chunks().Slice()
+	cause, parameter := chunks[0].Causes().Slice()[0], chunks[1].Parameters().Slice()[0]
+	for _, c := range []struct {
+		from  encoding.BinaryMarshaler
+		to    encoding.BinaryUnmarshaler
+		text  string
+		value string
+		short davgyuti.Error // of three bytes
+	}{
+		{chunks[0], new(davgyuti.Chunk), "0600 000b 000d 0007 616263", "ABORT flags=0x00 size=7", davgyuti.Error{Code: davgyuti.ErrSize, Offset: 3}},
+		{parameter, new(davgyuti.Parameter), "8008 0006 82c0", "Supported Extensions size=2", davgyuti.Error{Code: davgyuti.ErrLength}},
+		{cause, new(davgyuti.Cause), "000d 0007 616263", "Protocol Violation size=3", davgyuti.Error{Code: davgyuti.ErrLength}},
+	} {
+		written, err := c.from.MarshalBinary()
+		equal(t, "written", []interface{}{written, err}, []interface{}{ofHex(c.text), nil})
+		padded := append(append([]byte(nil), written...), make([]byte, -len(written)&3)...)
+		for _, bytes := range [][]byte{written, padded} {
+			given := append([]byte(nil), bytes...)
+			equal(t, "read", c.to.UnmarshalBinary(given), nil)
+			given[1]++
+			again, err := c.to.(encoding.BinaryMarshaler).MarshalBinary()
+			equal(t, "again", []interface{}{again, err, fmt.Sprint(c.to)}, []interface{}{written, nil, c.value})
+		}
+		for _, f := range []struct {
+			bytes []byte
+			fault davgyuti.Error
+		}{
+			{written[:3], c.short},
+			{written[:len(written)-1], davgyuti.Error{Code: davgyuti.ErrLength}},
+			{append(padded, 0), davgyuti.Error{Code: davgyuti.ErrLength, Offset: len(padded)}},
+		} {
+			equal(t, "fault", c.to.UnmarshalBinary(f.bytes), &f.fault)
+			equal(t, "kept", fmt.Sprint(c.to), c.value)
+		}
+		written[1]++
+		again, _ := c.from.MarshalBinary()
+		equal(t, "a copy", again, ofHex(c.text))
+	}
+	for _, it := range []encoding.BinaryMarshaler{davgyuti.Chunk{}, davgyuti.Parameter{}, davgyuti.Cause{}} {
+		written, err := it.MarshalBinary()
+		equal(t, "zero", []interface{}{written, err}, []interface{}{[]byte(nil), davgyuti.ErrBadValue})
+	}
+	var stream bytes.Buffer
+	var came []davgyuti.Chunk
+	equal(t, "gob", []error{gob.NewEncoder(&stream).Encode(chunks), gob.NewDecoder(&stream).Decode(&came)}, make([]error, 2))
+	equal(t, "chunks", fmt.Sprint(came, came[0].Offset, came[1].Parameters().Slice()), fmt.Sprint(chunks, 0, chunks[1].Parameters().Slice()))
+}
+
+// A Builder writes its packet at once, and returns the error of who takes it.
+func TestWriteTo(t *testing.T) {
+	builder, _ := davgyuti.Begin(make([]byte, 100), 5000, 5001, 0x01020304)
+	equal(t, "added", builder.AddCookieAck(), nil)
+	var into bytes.Buffer
+	size, err := io.WriterTo(builder).WriteTo(&into)
+	equal(t, "written", []interface{}{size, err, into.Bytes()}, []interface{}{int64(16), nil, ofHex("1388 1389 01020304 00000000 0b000004")})
+	_, conn := net.Pipe()
+	conn.Close()
+	size, err = builder.WriteTo(conn)
+	equal(t, "closed", []interface{}{size, err}, []interface{}{int64(0), io.ErrClosedPipe})
+}
+
+// The flags of a PKTDROP: its bits C, T, B and M are 8, 4, 2 and 1 (draft-stewart-sctp-pktdrprep).
+func TestRegisteredFlags(t *testing.T) {
+	for _, c := range []struct {
+		text  string
+		flags uint8
+	}{
+		{"8100 0014 0c0d0e0f 000007d0 05dc 0000 13881389", 0},
+		{"8101 0014 0c0d0e0f 000007d0 05dc 0000 13881389", davgyuti.PKTDROPMiddlebox},
+		{"8102 0014 0c0d0e0f 000007d0 05dc 0000 13881389", davgyuti.PKTDROPBadChecksum},
+		{"810c 0014 0c0d0e0f 000007d0 05dc 0000 13881389", davgyuti.PKTDROPTruncated | 8},
+		{"0fff 0008 0102 0003", 0xff},
+	} {
+		chunk := only(t, sealed(c.text))
+		read := there[davgyuti.Registered](t)(chunk.Registered())
+		equal(t, "flags", read.Flags, c.flags)
+		builder, _ := davgyuti.Begin(make([]byte, 100), 1, 2, 3)
+		equal(t, "added", builder.AddRegisteredChunk(chunk.Type, read), nil)
+		equal(t, "written", builder.Bytes()[davgyuti.FirstChunk:], ofHex(c.text))
+	}
+}
+
+// Where the package can't be built, it is listed, and a sentence says what is lacking.
 func TestNotBuilt(t *testing.T) {
 	if runtime.GOOS != "linux" || runtime.GOARCH != "amd64" {
 		t.Skip("the commands are tried on Linux on x86-64")
 	}
-	for _, c := range []struct{ settings, wanted string }{
-		{"CGO_ENABLED=0", "needs_cgo__set_CGO_ENABLED_to_1_"},
-		{"CGO_ENABLED=0 GOOS=windows", "needs_cgo__set_CGO_ENABLED_to_1_"},
-		{"CGO_ENABLED=0 GOARCH=riscv64", "has_no_text_for_this_system__only_for_Linux_"},
-		{"CGO_ENABLED=1 GOARCH=riscv64", "has_no_text_for_this_system__only_for_Linux_"},
+	for _, c := range []struct{ settings, what, wanted string }{
+		{"CGO_ENABLED=0", ".", "needs_cgo__set_CGO_ENABLED_to_1_"},
+		{"CGO_ENABLED=0 GOOS=windows", ".", "needs_cgo__set_CGO_ENABLED_to_1_"},
+		{"CGO_ENABLED=0 GOARCH=riscv64", ".", "has_no_text_for_this_system__only_for_Linux_"},
+		{"CGO_ENABLED=1 GOARCH=riscv64", "./internal/requirements", "has_no_text_for_this_system__only_for_Linux_"},
 	} {
-		command := exec.Command("go", "build", ".")
-		command.Env = append(os.Environ(), strings.Fields(c.settings)...)
-		output, err := command.CombinedOutput()
-		if err == nil || !strings.Contains(string(output), "found packages davgyuti (davgyuti.go) and davgyuti_"+c.wanted) {
-			t.Errorf("%s: %v: %s", c.settings, err, output)
+		run := func(arguments ...string) (string, error) {
+			command := exec.Command("go", arguments...)
+			command.Env = append(os.Environ(), strings.Fields(c.settings)...)
+			output, err := command.CombinedOutput()
+			return string(output), err
+		}
+		output, err := run("list", "-f", "{{.Name}}", ".")
+		equal(t, c.settings, []interface{}{output, err}, []interface{}{"davgyuti\n", nil})
+		for _, word := range []string{"build", "vet"} {
+			output, err := run(word, c.what)
+			if err == nil || !strings.Contains(output, ": davgyuti_"+c.wanted) || strings.Contains(output, "dcsctp_") {
+				t.Errorf("%s go %s: %v: %s", c.settings, word, err, output)
+			}
 		}
 	}
 }
 
 // The program of README.md answers nothing to a packet without user data.
 func TestNoAnswer(t *testing.T) {
-	reply, err := answer(sealed("0b000004"), 1)
+	reply, err := answer(new(davgyuti.Parsed), sealed("0b000004"), 1)
 	equal(t, "answer", []interface{}{reply, err}, []interface{}{[]byte(nil), nil})
 }
 
@@ -473,7 +574,7 @@ func TestReadme(t *testing.T) {
 		t.Fatal(err)
 	}
 	programs := regexp.MustCompile("(?s)```go\n(.*?)```").FindAllSubmatch(readme, -1)
-	equal(t, "programs", len(programs), 4)
+	equal(t, "programs", len(programs), 5)
 	for _, program := range programs {
 		if !bytes.Contains(example, program[1]) {
 			t.Errorf("README.md has another program: %s", program[1])

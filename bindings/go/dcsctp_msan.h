@@ -224,7 +224,7 @@ DCSCTP_MSAN_ADD(dcsctp_add_new_addresses,
     DCSCTP_MSAN_READS(bytes + ((offset) < length ? (offset) : 0),                                                        \
                       (offset) <= length && (size) <= length - (offset) ? (size) : 0)
 #define DCSCTP_MSAN_READS_REGISTERED                                                                                     \
-    DCSCTP_MSAN_READS_FIELDS(registered, number, third_short_number);                                                    \
+    DCSCTP_MSAN_READS_FIELDS(registered, number, flags);                                                                 \
     DCSCTP_MSAN_READS_FIELDS(registered, address_offset, rest_size);                                                     \
     DCSCTP_MSAN_READS_PART(registered->address_offset, registered->address_size);                                        \
     DCSCTP_MSAN_READS_PART(registered->rest_offset, registered->rest_size)
@@ -309,9 +309,9 @@ DCSCTP_MSAN(bool, dcsctp_sign_auth, (const uint8_t *key, size_t key_size, uint8_
             DCSCTP_MSAN_WRITES(returned, bytes + 8, (size_t)(bytes[2] * 256 + bytes[3] - 8)))
 DCSCTP_MSAN(uint32_t, dcsctp_seal_cookie,
             (uint8_t *output, size_t room, size_t *size, const uint8_t *key, size_t key_size, const struct dcsctp_cookie *cookie,
-             const uint8_t *addresses, size_t addresses_size),
-            (output, room, size, key, key_size, cookie, addresses, addresses_size),
-            DCSCTP_MSAN_READS(key, key_size); DCSCTP_MSAN_READS(addresses, addresses_size);
+             const uint8_t *extra, size_t extra_size),
+            (output, room, size, key, key_size, cookie, extra, extra_size),
+            DCSCTP_MSAN_READS(key, key_size); DCSCTP_MSAN_READS(extra, extra_size);
             DCSCTP_MSAN_READS_FIELDS(cookie, created, inbound_streams),
             DCSCTP_MSAN_WRITES(returned == DCSCTP_OK, size, 1); DCSCTP_MSAN_WRITES(returned == DCSCTP_OK, output, *size))
 DCSCTP_MSAN(uint32_t, dcsctp_open_cookie,

@@ -12,19 +12,16 @@ import (
 	"davgyuti.example/davgyuti"
 )
 
-// answer prints user data, and returns the SACK that answers it; nil if there is none.
-func answer(packet davgyuti.Packet, tag uint32) ([]byte, error) {
-	if err := packet.Check(davgyuti.Policy{}); err != nil {
+// answer prints user data, and returns the SACK that answers it; nil if there is none. Keep parsed for the next packet.
+func answer(parsed *davgyuti.Parsed, packet []byte, tag uint32) ([]byte, error) {
+	if err := parsed.Read(packet, davgyuti.Policy{}); err != nil {
 		return nil, err // davgyuti: wrong checksum at byte 8
 	}
-	header, _ := packet.Header()
+	header := parsed.Header
 	reply, err := davgyuti.Begin(make([]byte, 1200), header.DestinationPort, header.SourcePort, tag)
-	if err != nil {
-		return nil, err
-	}
-	for chunks := packet.Chunks(); err == nil && chunks.Next(); {
-		if data, ok := chunks.Value().Data(); ok {
-			fmt.Printf("%v %d: %s\n", chunks.Value().Type, data.TSN, data.Payload)
+	for i := 0; err == nil && i < parsed.Len(); i++ {
+		if data, ok := parsed.Data(i); ok {
+			fmt.Printf("%v %d: %s\n", parsed.Type(i), data.TSN, data.Payload)
 			err = reply.AddSACK(data.TSN, 1<<17, nil, nil)
 		}
 	}
@@ -37,11 +34,31 @@ func answer(packet davgyuti.Packet, tag uint32) ([]byte, error) {
 // The program of README.md, for a packet that usrsctp sent.
 func Example() {
 	packet, _ := hex.DecodeString("138813880da737981148a1f6000300157906b4b0000100000000003368656c6c6f000000")
-	reply, err := answer(packet, 0x4d2df52d)
+	var parsed davgyuti.Parsed
+	reply, err := answer(&parsed, packet, 0x4d2df52d)
 	fmt.Printf("%x %v\n", reply, err)
 	// Output:
 	// DATA 2030482608: hello
 	// 138813884d2df52dc604d62e030000107906b4b00002000000000000 <nil>
+}
+
+// tsns returns the TSNs of a packet's user data.
+func tsns(packet davgyuti.Packet) (all []uint32, err error) {
+	if err := packet.Check(davgyuti.Policy{}); err != nil {
+		return nil, err
+	}
+	for chunks := packet.Chunks(); chunks.Next(); {
+		if data, ok := chunks.Value().Data(); ok {
+			all = append(all, data.TSN)
+		}
+	}
+	return all, nil
+}
+
+func ExamplePacket_Chunks() {
+	packet, _ := hex.DecodeString("138813880da737981148a1f6000300157906b4b0000100000000003368656c6c6f000000")
+	fmt.Println(tsns(packet))
+	// Output: [2030482608] <nil>
 }
 
 // initOf reads the INIT of SDP's `a=sctp-init`, from base64: a chunk without a packet around it.
@@ -109,8 +126,8 @@ func ExamplePacket_OutOfTheBlue() {
 	key := []byte("a key") // of the cookie, which tests/c/auth.c has too
 	for _, text := range []string{
 		"13891388090a0b0cf285087c08000004",
-		"1389138801020304b623d9df0a0000500f4058d455d989f64110ebd32badc1d936581848" +
-			"510b55101d06d10654512b4e00000000000f424000000000039387000102030405060708090a0b0c0d0e0f1013881389000a0014c0000201",
+		"13891388010203045026f2450a0000580e7f54ce817b4159983e9114aa8511194e5e71af023a055c38cb78f905a9ac0400000000000f4240" +
+			"000000000393870001020304050607081112131415161718090a0b0c0d0e0f1013881389000a0014c0000201",
 	} {
 		packet, _ := hex.DecodeString(text)
 		for _, now := range []uint64{1000000, 61000001} {

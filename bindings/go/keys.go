@@ -64,31 +64,35 @@ type Cookie struct {
 	Lifespan        uint64 // in microseconds
 	LocalTag        uint32 // the initiate tag of the INIT ACK
 	PeerTag         uint32 // that of the INIT
+	LocalTieTag     uint32 // the Local Tie-Tag (section 5.2.2): 0 where the INIT came without an association
+	PeerTieTag      uint32 // the Peer's Tie-Tag, likewise
 	LocalInitialTSN uint32 // the initial TSN of the INIT ACK
 	PeerInitialTSN  uint32 // that of the INIT
 	LocalPort       uint16
 	PeerPort        uint16
 	OutboundStreams uint16 // on which the local end sends
 	InboundStreams  uint16
-	Addresses       []byte // bytes of yours: the peer's addresses, the parameters of its INIT; of one that was opened a part of it
+	// Extra are further bytes of yours, of any length: the peer's addresses, the parameters of its INIT, AUTH's key vectors; of
+	// one that was opened a part of it.
+	Extra []byte
 }
 
-// cookieSize is the size of a State Cookie without addresses.
-const cookieSize = 72
+// cookieSize is the size of a State Cookie without further bytes.
+const cookieSize = 80
 
-// numbersOf returns the numbers of a Cookie, or of C's, which has the same before the addresses.
-func numbersOf(cookie unsafe.Pointer) *[unsafe.Offsetof(Cookie{}.Addresses)]byte {
-	return (*[unsafe.Offsetof(C.struct_dcsctp_cookie{}.addresses_offset)]byte)(cookie)
+// numbersOf returns the numbers of a Cookie, or of C's, which has the same before the further bytes.
+func numbersOf(cookie unsafe.Pointer) *[unsafe.Offsetof(Cookie{}.Extra)]byte {
+	return (*[unsafe.Offsetof(C.struct_dcsctp_cookie{}.extra_offset)]byte)(cookie)
 }
 
 // Seal returns the State Cookie, with an HMAC under a key that nobody else knows.
 func (cookie Cookie) Seal(key []byte) []byte {
-	output := make([]byte, cookieSize+len(cookie.Addresses))
+	output := make([]byte, cookieSize+len(cookie.Extra))
 	var size C.size_t
 	var it C.struct_dcsctp_cookie
 	*numbersOf(unsafe.Pointer(&it)) = *numbersOf(unsafe.Pointer(&cookie))
 	C.dcsctp_seal_cookie(bytesOf(output), C.size_t(len(output)), &size, bytesOf(key), C.size_t(len(key)), &it,
-		bytesOf(cookie.Addresses), C.size_t(len(cookie.Addresses)))
+		bytesOf(cookie.Extra), C.size_t(len(cookie.Extra)))
 	return output[:size]
 }
 
@@ -118,7 +122,7 @@ func OpenCookie(key, bytes []byte, now uint64) (Cookie, error) {
 	if state == C.DCSCTP_COOKIE_INVALID {
 		return Cookie{}, ErrInvalidCookie
 	}
-	cookie := Cookie{Addresses: Packet(bytes).part(int(it.addresses_offset), int(it.addresses_size))}
+	cookie := Cookie{Extra: Packet(bytes).part(int(it.extra_offset), int(it.extra_size))}
 	*numbersOf(unsafe.Pointer(&cookie)) = *numbersOf(unsafe.Pointer(&it))
 	if state == C.DCSCTP_COOKIE_STALE {
 		return Cookie{}, &StaleCookieError{cookie, uint64(staleness)}

@@ -17,12 +17,12 @@ import (
 var (
 	aKey = []byte("a key")
 
-	sealedCookie = ofHex("0f4058d455d989f64110ebd32badc1d936581848510b55101d06d10654512b4e00000000000f" +
-		"424000000000039387000102030405060708090a0b0c0d0e0f1013881389000a0014c0000201")
+	sealedCookie = ofHex("0e7f54ce817b4159983e9114aa8511194e5e71af023a055c38cb78f905a9ac0400000000000f4240" +
+		"000000000393870001020304050607081112131415161718090a0b0c0d0e0f1013881389000a0014c0000201")
 
-	aCookie = davgyuti.Cookie{Created: 1000000, Lifespan: 60000000, LocalTag: own, PeerTag: peer, LocalInitialTSN: other,
-		PeerInitialTSN: 0x0d0e0f10, LocalPort: 5000, PeerPort: 5001, OutboundStreams: 10, InboundStreams: 20,
-		Addresses: []byte{192, 0, 2, 1}}
+	aCookie = davgyuti.Cookie{Created: 1000000, Lifespan: 60000000, LocalTag: own, PeerTag: peer, LocalTieTag: 0x11121314,
+		PeerTieTag: 0x15161718, LocalInitialTSN: other, PeerInitialTSN: 0x0d0e0f10, LocalPort: 5000, PeerPort: 5001, OutboundStreams: 10, InboundStreams: 20,
+		Extra: []byte{192, 0, 2, 1}}
 
 	// AUTH, with SHA-1 and with SHA-256, and a DATA chunk after it.
 	signedChunks = []davgyuti.Packet{
@@ -60,11 +60,11 @@ func TestCookie(t *testing.T) {
 	isInvalid("another key", aKey[:4], sealedCookie)
 	isInvalid("no key", nil, sealedCookie)
 	isInvalid("nothing", nil, nil)
-	// Without a key, and without addresses.
+	// Without a key, and without further bytes.
 	bare := davgyuti.Cookie{Created: 1000000}
 	cookie, err := davgyuti.OpenCookie(nil, bare.Seal(nil), 1000000)
-	equal(t, "addresses", len(cookie.Addresses), 0)
-	cookie.Addresses = nil
+	equal(t, "extra", len(cookie.Extra), 0)
+	cookie.Extra = nil
 	equal(t, "bare", []interface{}{cookie, err}, []interface{}{bare, nil})
 
 	equal(t, "text", (&davgyuti.StaleCookieError{Staleness: 1}).Error(), "davgyuti: a State Cookie that is stale for 1 microseconds")

@@ -208,14 +208,22 @@ func listsOfSACK(of ChunkType, value []byte) (blocks, duplicates []byte) {
 
 // GapAckBlocks goes over the blocks of SACK; another type has none.
 func (chunk Chunk) GapAckBlocks() *Iterator[GapAckBlock] {
+	return &Iterator[GapAckBlock]{items: chunk.gapAckBlocks()}
+}
+
+func (chunk Chunk) gapAckBlocks() []GapAckBlock {
 	blocks, _ := listsOfSACK(chunk.Type, chunk.Value)
-	return &Iterator[GapAckBlock]{items: appendShorts[GapAckBlock](nil, blocks)}
+	return appendShorts[GapAckBlock](nil, blocks)
 }
 
 // DuplicateTSNs goes over the duplicates of SACK; another type has none.
 func (chunk Chunk) DuplicateTSNs() *Iterator[uint32] {
+	return &Iterator[uint32]{items: chunk.duplicateTSNs()}
+}
+
+func (chunk Chunk) duplicateTSNs() []uint32 {
 	_, duplicates := listsOfSACK(chunk.Type, chunk.Value)
-	return &Iterator[uint32]{items: appendNumbers[uint32](nil, duplicates)}
+	return appendNumbers[uint32](nil, duplicates)
 }
 
 // ForwardTSN is what FORWARD-TSN or I-FORWARD-TSN has (RFC 3758 section 3.2 and RFC 8260 section 2.3.1). What the kind does
@@ -289,8 +297,12 @@ func appendSkippedStreams(to []SkippedStream, of ChunkType, list []byte) []Skipp
 
 // SkippedStreams goes over the streams of FORWARD-TSN or I-FORWARD-TSN; another type has none.
 func (chunk Chunk) SkippedStreams() *Iterator[SkippedStream] {
+	return &Iterator[SkippedStream]{items: chunk.skippedStreams()}
+}
+
+func (chunk Chunk) skippedStreams() []SkippedStream {
 	streams := listsOfForwardTSN(chunk.Type, chunk.Value)
-	return &Iterator[SkippedStream]{items: appendSkippedStreams(nil, chunk.Type, streams)}
+	return appendSkippedStreams(nil, chunk.Type, streams)
 }
 
 // A GapAckBlock is a gap ack block: the first and the last offset from the cumulative TSN (RFC 9260 section 3.3.4).
@@ -405,6 +417,13 @@ func (parameter Parameter) ReConfig() (it ReConfig, ok bool) {
 	return it, ok
 }
 
+// ReConfig reads a request or the response of RE-CONFIG, by the indices of its chunk and its own; false for another type,
+// and in another chunk.
+func (parsed *Parsed) ReConfig(i, index int) (it ReConfig, ok bool) {
+	ok = it.read(parsed.reConfigAt(i, index))
+	return it, ok
+}
+
 // listsOfReConfig returns the bytes of the streams in the value of Outgoing SSN Reset Request or Incoming SSN Reset
 // Request.
 func listsOfReConfig(of ParameterType, value []byte) (streams []byte) {
@@ -423,8 +442,18 @@ func listsOfReConfig(of ParameterType, value []byte) (streams []byte) {
 
 // ResetStreams goes over the streams of Outgoing SSN Reset Request or Incoming SSN Reset Request; another type has none.
 func (parameter Parameter) ResetStreams() *Iterator[uint16] {
+	return &Iterator[uint16]{items: parameter.resetStreams()}
+}
+
+func (parameter Parameter) resetStreams() []uint16 {
 	streams := listsOfReConfig(parameter.Type, parameter.Value)
-	return &Iterator[uint16]{items: appendShorts[uint16](nil, streams)}
+	return appendShorts[uint16](nil, streams)
+}
+
+// ResetStreams returns the streams of Outgoing SSN Reset Request or Incoming SSN Reset Request, by the same indices, and
+// none of another type.
+func (parsed *Parsed) ResetStreams(i, index int) []uint16 {
+	return parsed.shortsOf(i, index, listsOfReConfig(parsed.reConfigAt(i, index)))
 }
 
 func shutdownOf(of ChunkType, value []byte) (cumulativeTSNAck uint32, ok bool) {
@@ -792,8 +821,12 @@ func listsOfMissingMandatoryParameter(of CauseCode, value []byte) (types []byte)
 
 // MissingParameters goes over the types of Missing Mandatory Parameter; another type has none.
 func (cause Cause) MissingParameters() *Iterator[ParameterType] {
+	return &Iterator[ParameterType]{items: cause.missingParameters()}
+}
+
+func (cause Cause) missingParameters() []ParameterType {
 	types := listsOfMissingMandatoryParameter(cause.Code, cause.Value)
-	return &Iterator[ParameterType]{items: appendShorts[ParameterType](nil, types)}
+	return appendShorts[ParameterType](nil, types)
 }
 
 // AddMissingParameters adds the cause Missing Mandatory Parameter with these types.

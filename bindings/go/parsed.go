@@ -38,10 +38,12 @@ type Parsed struct {
 	packet Packet
 	rows   []row
 	lists
-	items []place // the parameters and error causes
+	items  []place  // the parameters and error causes
+	shorts []uint16 // the values of each RE-CONFIG, as numbers of two bytes: the lists in its parameters are such, at even offsets
 }
 
-// A row is where a chunk is, and which of the lists are its own: up to two of numbers, or one of parameters or error causes.
+// A row is where a chunk is, and which of the lists are its own: up to two of numbers, or one of parameters or error causes, and after
+// those of RE-CONFIG its value in shorts.
 type row struct {
 	place
 	chunkType ChunkType
@@ -96,7 +98,7 @@ func (parsed *Parsed) read(packet Packet, isAccepted bool) {
 	header := (*[FirstChunk]byte)(packet)
 	parsed.Header = Header{shortAt(header[:], 0), shortAt(header[:], 2), numberAt(header[:], 4), numberAt(header[:], 8)}
 	parsed.lists.clear()
-	parsed.items = parsed.items[:0]
+	parsed.items, parsed.shorts = parsed.items[:0], parsed.shorts[:0]
 	for it, isThere := placeAt(packet, FirstChunk); isThere; it, isThere = placeAt(packet, it.next()) {
 		parsed.rows = append(parsed.rows, row{})
 		row := &parsed.rows[len(parsed.rows)-1]
@@ -123,6 +125,29 @@ func (parsed *Parsed) readLists(row *row) {
 		parsed.items = append(parsed.items, place{from + it.offset, it.size})
 	}
 	row.lists[0].end = uint16(len(parsed.items))
+	if row.chunkType == ChunkReConfig {
+		row.lists[1].first = uint16(len(parsed.shorts))
+		parsed.shorts = appendShorts(parsed.shorts, value)
+	}
+}
+
+// reConfigAt returns the type and the value of a parameter of RE-CONFIG; nothing of another chunk.
+func (parsed *Parsed) reConfigAt(i, index int) (ParameterType, []byte) {
+	it := parsed.parameters(i)[index]
+	if parsed.rows[i].chunkType != ChunkReConfig {
+		return 0, nil
+	}
+	return ParameterType(shortAt(parsed.packet, int(it.offset))), it.value(parsed.packet)
+}
+
+// shortsOf returns the list that ends the value of a parameter of RE-CONFIG.
+func (parsed *Parsed) shortsOf(i, index int, list []byte) []uint16 {
+	if len(list) == 0 {
+		return nil
+	}
+	row, it := &parsed.rows[i], parsed.parameters(i)[index]
+	end := int(row.lists[1].first) + int(it.offset+it.size-row.offset)/2
+	return parsed.shorts[end-len(list)/2 : end : end]
 }
 
 // Len returns how many chunks there are.

@@ -10,6 +10,7 @@ import (
 	"runtime"
 	"strings"
 	"testing"
+	"time"
 
 	"davgyuti.example/davgyuti"
 )
@@ -66,13 +67,66 @@ func TestParsedChanged(t *testing.T) {
 				_, _ = parameter.Registered()
 			}
 			for k := 0; k < parsed.ParameterCount(i); k++ {
-				_ = parsed.Parameter(i, k).ResetStreams().Slice()
+				_, _ = parsed.ReConfig(i, k)
+				_, _ = parsed.Parameter(i, k).ResetStreams().Slice(), parsed.ResetStreams(i, k)
 			}
 			for k := 0; k < parsed.CauseCount(i); k++ {
 				_ = parsed.Cause(i, k).MissingParameters().Slice()
 			}
 		}
 	}
+}
+
+// The streams of some RE-CONFIG (RFC 6525 sections 4.1 and 4.2): few, many, and none, after values of an odd size.
+func TestParsedStreams(t *testing.T) {
+	text, many := "", make([]uint16, 300)
+	for i := range many {
+		many[i] = uint16(0x1234 + 251*i)
+		text += fmt.Sprintf("%04x", many[i])
+	}
+	packet := sealed("8200 0009 0063 0005 aa000000" +
+		"8200 0020 0063 0005 bb000000 000d 0014 00000001 00000002 00000003 0102 fffe" +
+		"8200 0280 000e 000a 00000004 0304 0000 000e 0260 00000005" + text + "000d 0010 00000006 00000007 00000008" +
+		"0100 0024 00000001 00010000 0001 0001 00000001 000d 0010 00000006 00000007 00000008")
+	var parsed davgyuti.Parsed
+	equal(t, "read", parsed.Read(packet, davgyuti.Policy{}), nil)
+	for _, c := range []struct {
+		chunk, index int
+		request      uint32
+		isThere      bool
+		streams      []uint16
+	}{
+		{0, 0, 0, false, nil},
+		{1, 0, 0, false, nil},
+		{1, 1, 1, true, []uint16{0x0102, 0xfffe}},
+		{2, 0, 4, true, []uint16{0x0304}},
+		{2, 1, 5, true, many},
+		{2, 2, 6, true, nil},
+		{3, 0, 0, false, nil}, // an INIT's
+	} {
+		found, isThere := parsed.ReConfig(c.chunk, c.index)
+		streams := parsed.ResetStreams(c.chunk, c.index)
+		equal(t, "request", []interface{}{found.RequestNumber, found.StreamCount, isThere}, []interface{}{c.request, len(c.streams), c.isThere})
+		equal(t, "streams", []interface{}{streams, cap(streams)}, []interface{}{c.streams, len(c.streams)})
+	}
+	builder, buffer := davgyuti.Builder{}, make([]byte, 1200)
+	equal(t, "allocations", testing.AllocsPerRun(5, func() {
+		err := parsed.Read(packet, davgyuti.Policy{})
+		if err == nil {
+			err = builder.Reset(buffer, 1, 2, 3)
+		}
+		if err == nil {
+			err = builder.AddChunk(davgyuti.ChunkReConfig, 0, nil)
+		}
+		for k := 0; err == nil && k < parsed.ParameterCount(2); k++ {
+			it, _ := parsed.ReConfig(2, k)
+			err = builder.AddReConfig(it, parsed.ResetStreams(2, k))
+		}
+		if err != nil {
+			t.Error(err)
+		}
+	}), 0.0)
+	equal(t, "written", builder.Bytes()[davgyuti.FirstChunk:], []byte(packet[56:56+640]))
 }
 
 // A packet of as many chunks as there can be, one of as many blocks, and one of as many parameters.
@@ -126,7 +180,7 @@ func TestAllocations(t *testing.T) {
 	for i := 0; i < cap(blocks); i++ {
 		blocks = append(blocks, sack.GapAckBlocks())
 	}
-	next := 0
+	next, sum := 0, 0
 	for _, c := range []struct {
 		what    string
 		call    func()
@@ -142,12 +196,49 @@ func TestAllocations(t *testing.T) {
 		{"BrokenRules", func() { packet.BrokenRules(davgyuti.Known{}) }, false},
 		{"Header", func() { packet.Header() }, false},
 		{"ChunkAt", func() { packet.ChunkAt(davgyuti.FirstChunk) }, false},
-		{"Chunks", func() { packet.Chunks() }, true},
+		{"Chunks", func() {
+			for chunks := packet.Chunks(); chunks.Next(); {
+				for parameters := chunks.Value().Parameters(); parameters.Next(); {
+					sum += len(parameters.Value().Value)
+				}
+				for causes := chunks.Value().Causes(); causes.Next(); {
+					sum += len(causes.Value().Value)
+				}
+			}
+		}, false},
 		{"Next of Chunks", func() { chunks.Next() }, false},
 		{"GapAckBlocks", func() { sack.GapAckBlocks() }, true},
 		{"the first Next of GapAckBlocks", func() { blocks[next].Next(); next++ }, false},
 	} {
 		equal(t, c.what, testing.AllocsPerRun(10, c.call) > 0, c.isThere)
+	}
+}
+
+// AnyChecksum computes no CRC32c, which takes most of the time of a large packet: the least of many times, whatever else runs.
+func TestAnyChecksum(t *testing.T) {
+	packet := sealed("0003fff0 00000001 0001 0001 00000000" + strings.Repeat("61", 65504))
+	parsed := make([]davgyuti.Parsed, 1)
+	least := func(call func(davgyuti.Policy), policy davgyuti.Policy) time.Duration {
+		least := time.Hour
+		for i := 0; i < 300; i++ {
+			begin := time.Now()
+			call(policy)
+			if took := time.Since(begin); took < least {
+				least = took
+			}
+		}
+		return least
+	}
+	for what, call := range map[string]func(davgyuti.Policy){
+		"Check":       func(policy davgyuti.Policy) { equal(t, "Check", packet.Check(policy), nil) },
+		"IsValid":     func(policy davgyuti.Policy) { equal(t, "IsValid", packet.IsValid(policy), true) },
+		"Parsed.Read": func(policy davgyuti.Policy) { equal(t, "Read", parsed[0].Read(packet, policy), nil) },
+		"ReadBatch":   func(policy davgyuti.Policy) { davgyuti.ReadBatch(parsed, []davgyuti.Packet{packet}, policy) },
+	} {
+		with, without := least(call, davgyuti.Policy{}), least(call, davgyuti.Policy{AnyChecksum: true})
+		if with < 2*without {
+			t.Errorf("%s: %v with the CRC32c, %v without", what, with, without)
+		}
 	}
 }
 
@@ -195,8 +286,7 @@ func TestNoMemory(t *testing.T) {
 	if runtime.GOOS != "linux" || runtime.GOARCH != "amd64" {
 		t.Skip("the text that is changed is that of Linux on x86-64")
 	}
-	command := exec.Command("sh", "-c", `mkdir -p "$0/internal/direct" && cp *.h go.mod *_linux_amd64.s testdata/tests/refusing/* "$0" &&
-		cp internal/direct/*.* "$0/internal/direct" && rm -f "$0"/internal/direct/*_test.go && for file in *.go; do
+	command := exec.Command("sh", "-c", `cp -r *.h go.mod *_linux_amd64.s internal testdata/tests/refusing/* "$0" && for file in *.go; do
 			case $file in *_test.go) ;; *) cp "$file" "$0" ;; esac; done &&
 		sed -i 's/\t\(malloc@PLT\|realloc@PLT\)/\trefusing_\1/' "$0"/dcsctp_linux_amd64.s && cd "$0" && go test .`, t.TempDir())
 	if output, err := command.CombinedOutput(); err != nil {

@@ -23,8 +23,8 @@ const largest = 0xffff
 // A Policy says which checksum fields are accepted, and whether padding is checked. The zero value is what a socket takes:
 // the field has to be the CRC32c, and padding is ignored.
 type Policy struct {
-	// AnyChecksum accepts every checksum field, and computes no CRC32c: for captures whose checksums a network card
-	// filled in later, and where you have compared Header.Checksum with a CRC32c of your own.
+	// AnyChecksum accepts every checksum field, and computes no CRC32c but for Report: for captures whose checksums a
+	// network card filled in later, and where you have compared Header.Checksum with a CRC32c of your own.
 	AnyChecksum bool
 	// ZeroChecksum accepts a field of zero as well (RFC 9653), in every packet.
 	ZeroChecksum bool
@@ -189,6 +189,9 @@ func (p Packet) Canonical(policy Policy) ([]byte, error) {
 func (p Packet) write(policy Policy, what C.int) ([]byte, error) {
 	var packet C.struct_go_packet
 	p.fill(&packet, policy)
+	if what == C.GO_REPORT && policy.AnyChecksum {
+		packet.word = Policy{}.word(p) // of which a report says whether it is there
+	}
 	result := C.go_write(what, packet, nil, 0)
 	if result.code == C.DCSCTP_NO_ROOM {
 		output := make([]byte, result.size)
@@ -232,10 +235,15 @@ func (p Packet) SetTag(verificationTag uint32) error {
 //
 // or, from Go 1.23 on, `for chunk := range packet.Chunks().All`. The zero value has nothing to read.
 type Iterator[T any] struct {
-	items []T
-	read  func() (T, bool)
-	value T
+	items      []T // those that are left of a list of numbers
+	packet     Packet
+	list       []byte // of chunks, parameters or causes, in the packet
+	base, next int    // where the list begins there, and where the next one does in the list
+	read       func(packet Packet, number uint16, value []byte, offset int) T
+	value      T
 }
+
+// (What makes an Iterator is inlined, and read captures nothing: so one that isn't passed on lies on the caller's stack.)
 
 // Next reads the next one, and returns whether there is one.
 func (it *Iterator[T]) Next() bool {
@@ -243,12 +251,10 @@ func (it *Iterator[T]) Next() bool {
 		it.value, it.items = it.items[0], it.items[1:]
 		return true
 	}
-	if it.read == nil {
-		return false
-	}
-	value, isThere := it.read()
+	value, isThere := valueAt(it.list, it.next)
 	if isThere {
-		it.value = value
+		it.value = it.read(it.packet, shortAt(it.list, it.next), value, it.base+it.next)
+		it.next = after(it.next, value)
 	}
 	return isThere
 }
@@ -270,20 +276,6 @@ func (it *Iterator[T]) Slice() []T {
 		all = append(all, it.value)
 	}
 	return all
-}
-
-// walk goes over what begins, one after the other, with a type and a length: `of` has its offset in the bytes, and its value.
-func walk[T any](bytes []byte, of func(offset int, value []byte) T) *Iterator[T] {
-	next := 0
-	return &Iterator[T]{read: func() (none T, isThere bool) {
-		at := next
-		value, isThere := valueAt(bytes, at)
-		if !isThere {
-			return none, false
-		}
-		next = after(at, value)
-		return of(at, value), true
-	}}
 }
 
 // valueAt returns what follows the header of four bytes at an offset, and ends by its length; false where no whole one is.
@@ -326,14 +318,16 @@ func (chunk Chunk) packet() Packet { return unsafe.Slice(chunk.bytes, chunk.size
 
 // Chunks goes over the chunks. If the bytes are a packet, these are all; else they end where there is no whole chunk.
 func (p Packet) Chunks() *Iterator[Chunk] {
-	next := FirstChunk
-	return &Iterator[Chunk]{read: func() (Chunk, bool) {
-		chunk, isThere := p.ChunkAt(next)
-		if isThere {
-			next = chunk.NextOffset
-		}
-		return chunk, isThere
-	}}
+	return &Iterator[Chunk]{packet: p, list: p, next: FirstChunk, read: chunkOf}
+}
+
+// chunkOf returns the chunk of a packet whose type and flags are this number.
+func chunkOf(packet Packet, number uint16, value []byte, offset int) Chunk {
+	next := after(offset, value)
+	if next > len(packet) {
+		next = len(packet)
+	}
+	return Chunk{ChunkType(number >> 8), uint8(number), value, offset, next, &packet[0], len(packet)}
 }
 
 // ChunkAt reads the chunk at an offset; false where no whole chunk is.
@@ -342,11 +336,7 @@ func (p Packet) ChunkAt(offset int) (Chunk, bool) {
 	if !isThere {
 		return Chunk{}, false
 	}
-	next := after(offset, value)
-	if next > len(p) {
-		next = len(p)
-	}
-	return Chunk{ChunkType(p[offset]), p[offset+1], value, offset, next, &p[0], len(p)}, true
+	return chunkOf(p, shortAt(p, offset), value, offset), true
 }
 
 // ReadChunk reads the chunk that the bytes are, without a packet around it, and with or without its padding: as SDP has an
@@ -374,6 +364,18 @@ func ReadChunk(bytes []byte) (Chunk, error) {
 // Unrecognized Chunk Type holds (section 3.3.10.6).
 func (chunk Chunk) Bytes() []byte { return chunk.packet().part(chunk.Offset, len(chunk.Value)+4) }
 
+// MarshalBinary returns a copy of Bytes, as encoding/gob asks for one. ErrBadValue for the zero value.
+func (chunk Chunk) MarshalBinary() ([]byte, error) { return copied(chunk.Bytes()) }
+
+// UnmarshalBinary reads a chunk from a copy of the bytes that it is, as ReadChunk does; its Offset is 0.
+func (chunk *Chunk) UnmarshalBinary(bytes []byte) error {
+	read, err := ReadChunk(append([]byte(nil), bytes...))
+	if err == nil {
+		*chunk = read
+	}
+	return err
+}
+
 // String returns its type, its flags and the size of its value, as in "DATA flags=0x03 size=20".
 func (chunk Chunk) String() string {
 	return fmt.Sprintf("%v flags=%#02x size=%d", chunk.Type, chunk.Flags, len(chunk.Value))
@@ -388,6 +390,26 @@ func (chunk Chunk) IsValidSACK() bool {
 func (chunk Chunk) list() (bytes []byte, offset int) {
 	bytes = itemsOf(chunk.Type, chunk.Value)
 	return bytes, chunk.Offset + 4 + len(chunk.Value) - len(bytes)
+}
+
+// copied returns a copy of bytes that are there.
+func copied(bytes []byte) ([]byte, error) {
+	if bytes == nil {
+		return nil, ErrBadValue
+	}
+	return append([]byte(nil), bytes...), nil
+}
+
+// itemIn returns a copy of the parameter or the error cause that the bytes are, without padding.
+func itemIn(bytes []byte) (Packet, error) {
+	value, isThere := valueAt(bytes, 0)
+	if !isThere {
+		return nil, &Error{ErrLength, 0}
+	}
+	if end := after(0, value); end < len(bytes) {
+		return nil, &Error{ErrLength, end}
+	}
+	return newItem(shortAt(bytes, 0), value)
 }
 
 // newItem returns the bytes of a parameter or an error cause.

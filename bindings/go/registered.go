@@ -24,6 +24,7 @@ type Registered struct {
 	// ASCONF its correlation id.
 	Numbers []uint32
 	Address netip.Addr // valid if and only if the type has one
+	Flags   uint8      // of a chunk, as they come and are written: of PKTDROP PKTDROPMiddlebox and the like
 	// Rest is what ends the value, where it lies in the packet: parameters, error causes, short numbers, an HMAC, padding.
 	Rest   []byte
 	fields []field // of one that was read
@@ -79,20 +80,20 @@ var allLayouts = [...]layouts{registeredChunks, registeredParameters, registered
 // another type, and where the value has a size that its type doesn't allow, or a list that is broken: Check looks at none of
 // these values. A list is looked at one level deep.
 func (chunk Chunk) Registered() (Registered, bool) {
-	return registered(chunkLevel, uint16(chunk.Type), chunk.Value, chunk.packet(), chunk.Offset+4)
+	return registered(chunkLevel, uint16(chunk.Type), chunk.Flags, chunk.Value, chunk.packet(), chunk.Offset+4)
 }
 
 // registered returns what C reads of a value that lies at an offset in a packet.
-func registered(level C.int, number uint16, value Packet, packet Packet, offset int) (Registered, bool) {
+func registered(level C.int, number uint16, flags uint8, value, packet Packet, offset int) (Registered, bool) {
 	fields, isThere := allLayouts[level].of(number)
-	read := C.go_registered(level, C.uint16_t(number), bytesOf(value), C.size_t(len(value)))
+	read := C.go_registered(level, C.uint16_t(number), C.uint8_t(flags), bytesOf(value), C.size_t(len(value)))
 	if !isThere || !bool(read.is_there) {
 		return Registered{}, false
 	}
 	it := read.it
 	longs := []uint32{uint32(it.number), uint32(it.second_number)}
 	shorts := []uint16{uint16(it.short_number), uint16(it.second_short_number), uint16(it.third_short_number)}
-	result := Registered{fields: fields, packet: packet}
+	result := Registered{Flags: uint8(it.flags), fields: fields, packet: packet}
 	for _, field := range fields {
 		switch field.form {
 		case ofU32:
@@ -152,12 +153,14 @@ func (it Registered) endIn(form form) []byte {
 // Parameters goes over the parameters that end what was read: the requests of ASCONF, the addresses of the cause Restart of an
 // Association with New Addresses. Others have none.
 func (it Registered) Parameters() *Iterator[Parameter] {
-	return parametersOf(it.packet, it.endIn(ofParameters), it.offset)
+	parameters := parametersOf(it.packet, it.endIn(ofParameters), it.offset)
+	return &parameters
 }
 
 // Causes goes over the error causes of an Error Cause Indication; others have none.
 func (it Registered) Causes() *Iterator[Cause] {
-	return causesOf(it.packet, it.endIn(ofCauses), it.offset)
+	causes := causesOf(it.packet, it.endIn(ofCauses), it.offset)
+	return &causes
 }
 
 // ShortNumbers goes over the numbers of two bytes of Supported Address Types and Requested HMAC Algorithm; others have none.
@@ -199,16 +202,16 @@ func (b *Builder) AddAddresses(addresses ...netip.Addr) error {
 	return nil
 }
 
-// AddRegisteredChunk adds a chunk that Registered reads, with its flags 0. A number that is left out is 0; what the type doesn't
-// carry is ignored. Each of these three functions returns ErrBadValue also for another type, a number that has no room in its
-// field, an address that is missing or has a zone, and a rest that the type doesn't allow, as a broken list.
+// AddRegisteredChunk adds a chunk that Registered reads. A number that is left out is 0; what the type doesn't carry is ignored.
+// Each of these three functions returns ErrBadValue also for another type, a number that has no room in its field, an address that
+// is missing or has a zone, and a rest that the type doesn't allow, as a broken list.
 func (b *Builder) AddRegisteredChunk(chunkType ChunkType, it Registered) error {
 	return b.addRegistered(chunkLevel, uint16(chunkType), it)
 }
 
 // addRegistered calls C with the places of the address and the rest, and the bytes that they lie in, apart from the builder's.
 func (b *Builder) addRegistered(level C.int, number uint16, it Registered) error {
-	var c C.struct_dcsctp_registered
+	c := C.struct_dcsctp_registered{flags: C.uint8_t(it.Flags)}
 	var bytes []byte
 	fields, isThere := allLayouts[level].of(number)
 	if !isThere {

@@ -578,6 +578,19 @@ func NewParameter(parameterType ParameterType, value []byte) (Parameter, error) 
 // Unrecognized Parameter of an INIT ACK holds (section 3.3.3.1.2).
 func (it Parameter) Bytes() []byte { return it.packet.part(it.Offset, len(it.Value)+4) }
 
+// MarshalBinary returns a copy of Bytes, as encoding/gob asks for one. ErrBadValue for the zero value.
+func (it Parameter) MarshalBinary() ([]byte, error) { return copied(it.Bytes()) }
+
+// UnmarshalBinary reads a parameter from a copy of the bytes that it is, with or without its padding; its Offset is 0. The
+// error is an *Error with ErrLength: where it begins, or where it ends if something follows it.
+func (it *Parameter) UnmarshalBinary(bytes []byte) error {
+	packet, err := itemIn(bytes)
+	if err == nil {
+		*it = Parameter{ParameterType(shortAt(packet, 0)), packet[4:], 0, packet}
+	}
+	return err
+}
+
 // String returns what it is and the size of its value, as in "State Cookie size=4".
 func (it Parameter) String() string { return fmt.Sprintf("%v size=%d", it.Type, len(it.Value)) }
 
@@ -592,11 +605,16 @@ func (it Parameter) Number() (uint32, bool) {
 
 // Registered reads a parameter of the registry that has no method of its own here.
 func (it Parameter) Registered() (Registered, bool) {
-	return registered(parameterLevel, uint16(it.Type), it.Value, it.packet, it.Offset+4)
+	return registered(parameterLevel, uint16(it.Type), 0, it.Value, it.packet, it.Offset+4)
 }
 
 // Parameters goes over the Parameters; ABORT and ERROR, and types that have none, have none.
 func (chunk Chunk) Parameters() *Iterator[Parameter] {
+	it := chunk.parameters()
+	return &it
+}
+
+func (chunk Chunk) parameters() Iterator[Parameter] {
 	list, base := chunk.list()
 	if !chunk.Type.hasParameters() {
 		list = nil
@@ -605,10 +623,12 @@ func (chunk Chunk) Parameters() *Iterator[Parameter] {
 }
 
 // parametersOf goes over those of a list that begins at an offset in a packet.
-func parametersOf(packet Packet, list []byte, base int) *Iterator[Parameter] {
-	return walk(list, func(offset int, value []byte) Parameter {
-		return Parameter{ParameterType(shortAt(list, offset)), value, base + offset, packet}
-	})
+func parametersOf(packet Packet, list []byte, base int) Iterator[Parameter] {
+	return Iterator[Parameter]{packet: packet, list: list, base: base, read: parameterOf}
+}
+
+func parameterOf(packet Packet, number uint16, value []byte, offset int) Parameter {
+	return Parameter{ParameterType(number), value, offset, packet}
 }
 
 // ParameterCount returns how many Parameters a chunk has: none for ABORT and ERROR, and types that have no list.
@@ -665,6 +685,19 @@ func NewCause(code CauseCode, value []byte) (Cause, error) {
 // may hold.
 func (it Cause) Bytes() []byte { return it.packet.part(it.Offset, len(it.Value)+4) }
 
+// MarshalBinary returns a copy of Bytes, as encoding/gob asks for one. ErrBadValue for the zero value.
+func (it Cause) MarshalBinary() ([]byte, error) { return copied(it.Bytes()) }
+
+// UnmarshalBinary reads an error cause from a copy of the bytes that it is, with or without its padding; its Offset is 0.
+// The error is an *Error with ErrLength: where it begins, or where it ends if something follows it.
+func (it *Cause) UnmarshalBinary(bytes []byte) error {
+	packet, err := itemIn(bytes)
+	if err == nil {
+		*it = Cause{CauseCode(shortAt(packet, 0)), packet[4:], 0, packet}
+	}
+	return err
+}
+
 // String returns what it is and the size of its value, as in "Protocol Violation size=3".
 func (it Cause) String() string { return fmt.Sprintf("%v size=%d", it.Code, len(it.Value)) }
 
@@ -679,11 +712,16 @@ func (it Cause) Number() (uint32, bool) {
 
 // Registered reads an error cause of the registry that has no method of its own here.
 func (it Cause) Registered() (Registered, bool) {
-	return registered(causeLevel, uint16(it.Code), it.Value, it.packet, it.Offset+4)
+	return registered(causeLevel, uint16(it.Code), 0, it.Value, it.packet, it.Offset+4)
 }
 
 // Causes goes over the Causes; another type has none.
 func (chunk Chunk) Causes() *Iterator[Cause] {
+	it := chunk.causes()
+	return &it
+}
+
+func (chunk Chunk) causes() Iterator[Cause] {
 	list, base := chunk.list()
 	if !chunk.Type.hasCauses() {
 		list = nil
@@ -692,10 +730,12 @@ func (chunk Chunk) Causes() *Iterator[Cause] {
 }
 
 // causesOf goes over those of a list that begins at an offset in a packet.
-func causesOf(packet Packet, list []byte, base int) *Iterator[Cause] {
-	return walk(list, func(offset int, value []byte) Cause {
-		return Cause{CauseCode(shortAt(list, offset)), value, base + offset, packet}
-	})
+func causesOf(packet Packet, list []byte, base int) Iterator[Cause] {
+	return Iterator[Cause]{packet: packet, list: list, base: base, read: causeOf}
+}
+
+func causeOf(packet Packet, number uint16, value []byte, offset int) Cause {
+	return Cause{CauseCode(number), value, offset, packet}
 }
 
 // CauseCount returns how many Causes a chunk has: none, unless it is ABORT or ERROR.
@@ -781,3 +821,13 @@ var registeredCauses = layouts{
 	{uint16(CauseRequestRefused), []field{{"parameters", ofParameters}}},
 	{uint16(CauseUnsupportedHMACIdentifier), []field{{"HMAC", ofU16}}},
 }
+
+// The flags of PKTDROP (draft-stewart-sctp-pktdrprep).
+const (
+	// PKTDROPMiddlebox is the M bit: a router on the way dropped it, and not the receiver.
+	PKTDROPMiddlebox = 0x01
+	// PKTDROPBadChecksum is the B bit: its checksum was wrong.
+	PKTDROPBadChecksum = 0x02
+	// PKTDROPTruncated is the T bit: its end is missing.
+	PKTDROPTruncated = 0x04
+)

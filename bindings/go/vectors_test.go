@@ -152,21 +152,30 @@ func (v *vector) refused(chunk davgyuti.Chunk, at int) {
 	}
 }
 
-// itemsOf returns a chunk with its parameters and its error causes.
-func itemsOf(chunk davgyuti.Chunk) []interface{} {
-	return []interface{}{chunk, chunk.Type, chunk.Parameters().Slice(), chunk.Causes().Slice()}
+// itemsOf returns a chunk with its parameters, those of RE-CONFIG read too, and its error causes.
+func itemsOf(chunk davgyuti.Chunk) (all []interface{}) {
+	for _, it := range chunk.Parameters().Slice() {
+		if chunk.Type != davgyuti.ChunkReConfig {
+			it.Type = 0
+		}
+		reConfig, isReConfig := it.ReConfig()
+		all = append(all, reConfig, isReConfig, it.ResetStreams().Slice())
+	}
+	return append(all, chunk, chunk.Type, chunk.Parameters().Slice(), chunk.Causes().Slice())
 }
 
-func itemsAt(parsed *davgyuti.Parsed, i int) []interface{} {
+func itemsAt(parsed *davgyuti.Parsed, i int) (all []interface{}) {
 	var parameters []davgyuti.Parameter
 	for k := 0; k < parsed.ParameterCount(i); k++ {
 		parameters = append(parameters, parsed.Parameter(i, k))
+		reConfig, isReConfig := parsed.ReConfig(i, k)
+		all = append(all, reConfig, isReConfig, parsed.ResetStreams(i, k))
 	}
 	var causes []davgyuti.Cause
 	for k := 0; k < parsed.CauseCount(i); k++ {
 		causes = append(causes, parsed.Cause(i, k))
 	}
-	return []interface{}{parsed.Chunk(i), parsed.Type(i), parameters, causes}
+	return append(all, parsed.Chunk(i), parsed.Type(i), parameters, causes)
 }
 
 // named compares a type by its kind's name, or by its number.

@@ -6,6 +6,7 @@ package davgyuti
 import "C"
 
 import (
+	"io"
 	"unicode/utf8"
 	"unsafe"
 
@@ -65,6 +66,13 @@ func (b *Builder) Reset(buffer []byte, sourcePort, destinationPort uint16, verif
 
 // Bytes returns the packet, as far as it is written: a part of the buffer.
 func (b *Builder) Bytes() []byte { return b.buffer[:b.size] }
+
+// WriteTo writes Bytes by one Write of a net.Conn, say; it doesn't seal the packet. It returns how many bytes were written, and the
+// error of Write.
+func (b *Builder) WriteTo(to io.Writer) (int64, error) {
+	size, err := to.Write(b.Bytes())
+	return int64(size), err
+}
 
 // LastChunk returns the last chunk, where it lies in the buffer: its Bytes are all that is sent of a chunk without a packet
 // around it. False where there is none.
