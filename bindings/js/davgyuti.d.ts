@@ -16,6 +16,9 @@ import {
 // Types, names and numbers, and what the kinds of chunks, parameters and error causes hold.
 export * from './kinds.js';
 
+/** Begins with dcsctp.wasm, in a browser, before the first other call: with its bytes, a `WebAssembly.Module` of them, the `Response` of
+    a `fetch`, or a promise of one of these. Once it has begun, as in node from the first, it does nothing. Rejects what isn't that. */
+export function init(wasm: object): Promise<void>;
 /** The version of this package, and of dcsctp.wasm. */
 export const version: string;
 /** The same, from dcsctp.wasm: major * 65536 + minor * 256 + patch. */
@@ -78,25 +81,42 @@ export interface Policy {
   allowedZeroChecksum?: boolean;
   /** Padding has to be complete and zero. */
   strictPadding?: boolean;
-  /** What the checksum field has to be; if left out, `word(bytes)`. The field itself is never it. */
-  word?: number;
+  /** What the checksum field has to be; if left out, `word(bytes)`, which isn't computed where `anyChecksum` is true, but by `report`. */
+  word?: Word;
 }
+declare const isWord: unique symbol;
+/** What a packet's checksum field has to be, made by `word` alone: the packet's own field isn't one. */
+export interface Word {
+  readonly [isWord]: true;
+  /** As the field is read, most significant byte first. */
+  readonly number: number;
+}
+/** A packet that `read` read. */
+export interface ReadPacket {
+  header: Header;
+  chunks: Chunk[];
+}
+/** Checks a packet, and reads its header and its chunks: the fastest way to read. Throws the first Fault where the bytes aren't a packet
+    (sections 3 and 6.8). */
+export function read(bytes: Uint8Array, policy?: Policy): ReadPacket;
+
 declare const isChecked: unique symbol;
 /** Bytes that `check` accepted. Only their type says so: what you change afterwards has to be checked anew. */
 export type Packet = Uint8Array & { readonly [isChecked]: true };
-/** Throws the first Fault where the bytes aren't a packet (sections 3 and 6.8). */
+/** Checks a packet alone. Throws as `read` does. */
 export function check(bytes: Uint8Array, policy?: Policy): asserts bytes is Packet;
-/** What the first fault is and where, as a Fault has it; null where the bytes are a packet. */
+/** What the first fault is and where, as a Fault has it; null where the bytes are a packet. Nothing is thrown, which takes longest where
+    packets are refused. */
 export function firstFault(bytes: Uint8Array, policy?: Policy): Pick<Fault, 'code' | 'offset'> | null;
-/** The canonical packet, unsealed: two packets have the same one if and only if they mean the same. Throws as `check` does, and a
+/** The canonical packet, unsealed: two packets have the same one if and only if they mean the same. Throws as `read` does, and a
     WriteError of TOO_LONG. */
 export function canonical(bytes: Uint8Array, policy?: Policy): Uint8Array;
 /** A line for the header, and one for each chunk; there is none at the end. */
 export function text(bytes: Uint8Array, policy?: Policy): string;
 /** All that the packet holds, as `sctp_dump --payload` prints it; each line ends in a line feed. */
 export function report(bytes: Uint8Array, policy?: Policy): string;
-/** What a packet's checksum field has to be (section 6.8). For fewer than 12 bytes it has no meaning. */
-export function word(bytes: Uint8Array): number;
+/** Computes what a packet's checksum field has to be, its CRC32c (section 6.8). For fewer than 12 bytes it has no meaning. */
+export function word(bytes: Uint8Array): Word;
 
 /** Whether a packet has to have its CRC32c also where a checksum of zero was negotiated (RFC 9653 section 5.2): it has INIT, COOKIE
     ECHO or ASCONF; or ABORT or SHUTDOWN COMPLETE with TAG_REFLECTED. */
@@ -117,9 +137,10 @@ export function header(bytes: Packet): Header;
 /** The same of any bytes; null for fewer than 12. */
 export function header(bytes: Uint8Array): Header | null;
 
-/** A chunk (section 3.2) of any bytes. Where they aren't a packet, what is said of its kind may be left out. Its fields are getters, as
-    are those of its parameters and error causes: `{ ...chunk }` doesn't copy them. Numbers are those that were read; a list is read
-    when it is first asked for, of the bytes as they were or as they are now, and a view is of the bytes, of no bytes where it is empty. */
+/** A chunk (section 3.2) of any bytes. Where they aren't a packet, what is said of its kind may be left out. Its fields are getters,
+    as are those of its parameters and error causes: `{ ...chunk }` and `structuredClone` don't copy them. JSON and node's inspection
+    have them, and its items; in JSON bytes are text in hexadecimal. Numbers are those that were read; a list is read when it is first
+    asked for, of the bytes as they were or as they are now, and a view is of the bytes, of no bytes where it is empty. */
 export interface UncheckedChunk extends ChunkContent {
   type: number;
   /** As `chunkName` has it. */
@@ -138,18 +159,10 @@ export interface UncheckedChunk extends ChunkContent {
 type Below<N extends number, All extends number[] = []> = All['length'] extends N ? All[number] : Below<N, [...All, All['length']]>;
 /** A chunk of a packet: its `type` says what it has. */
 export type Chunk = UncheckedChunk & (KnownContent | { type: Exclude<Below<256>, KnownContent['type']> });
-/** The chunks of a packet, as they are now. */
+/** The chunks of a packet, each read when it is asked for. */
 export function chunks(bytes: Packet): IterableIterator<Chunk>;
 /** The same of any bytes, of which the first 65,535 are looked at. They end where no whole chunk is. */
 export function chunks(bytes: Uint8Array): IterableIterator<UncheckedChunk>;
-
-/** A packet that `read` read. */
-export interface ReadPacket {
-  header: Header;
-  chunks: Chunk[];
-}
-/** Checks a packet, and reads its header and its chunks: faster than `check`, `header` and `chunks`. Throws as `check` does. */
-export function read(bytes: Uint8Array, policy?: Policy): ReadPacket;
 
 /** Reads a SACK (section 3.3.4) into an object of yours, and returns that: it then has what `chunk.sack` has, in lists and blocks of its
     own. Keep one object, `{}` at first, to read many SACKs: its lists and the blocks in them are used again, and only what a list has
@@ -207,12 +220,13 @@ export function cause(code: number, value?: Uint8Array): Cause;
 export function cause<T extends keyof CauseKinds>(code: T, fields: CauseKinds[T]): Cause;
 export function cause<T extends keyof CauseFields>(code: T, fields: Given<CauseFields[T]>): Cause;
 
-/** What a chunk of a type in ChunkFields holds, whose names are those of registry/sctp.txt: an `address` is text, and its octets
-    are `addressBytes`; the items of a list are read one level deep, and each by `registeredParameter` or `registeredCause`. Null
-    for another type than that, and where the value has a size that its type doesn't allow, or a list that is broken: `check`
-    looks at none of these values. Views are of the chunk's value. */
-export function registeredChunk<T extends keyof ChunkFields>(chunk: UncheckedChunk, type: T): ChunkFields[T] | null;
-export function registeredChunk(chunk: UncheckedChunk): ChunkFields[keyof ChunkFields] | null;
+type Flagged<F> = F & { flags: number };
+/** What a chunk of a type in ChunkFields holds, and its flags; the names are those of registry/sctp.txt. An `address` is text, and
+    its octets are `addressBytes`; the items of a list are read one level deep, and each by `registeredParameter` or
+    `registeredCause`. Null for another type than that, and where the value has a size that its type doesn't allow, or a list that is
+    broken: `check` looks at none of these values. Views are of the chunk's value. */
+export function registeredChunk<T extends keyof ChunkFields>(chunk: UncheckedChunk, type: T): Flagged<ChunkFields[T]> | null;
+export function registeredChunk(chunk: UncheckedChunk): Flagged<ChunkFields[keyof ChunkFields]> | null;
 /** The same of a parameter of a type in ParameterFields. */
 export function registeredParameter<T extends keyof ParameterFields>(parameter: Parameter, type: T): ParameterFields[T] | null;
 export function registeredParameter(parameter: Parameter): ParameterFields[keyof ParameterFields] | null;
@@ -243,8 +257,9 @@ export type Given<F> = { [K in keyof F as F[K] extends Fixed ? K : never]: AsGiv
   & { [K in keyof F as F[K] extends Fixed ? never : K]?: AsGiven<F[K]> };
 
 export interface Builder extends Kinds {}
-/** Builds a packet, chunk by chunk: what is added by its fields is in `Kinds`. A call that can't add throws a WriteError, NO_ROOM or
-    BAD_VALUE, and changes nothing. Whether RFC 9260 lets the values be sent, or `check` would accept the packet, isn't checked. */
+/** Builds a packet, chunk by chunk: what is added by its fields is in `Kinds`, and by `reset` the next packet begins. A call that
+    can't add throws a WriteError, NO_ROOM or BAD_VALUE, and changes nothing. Whether RFC 9260 lets the values be sent, or `check`
+    would accept the packet, isn't checked. */
 export class Builder {
   /** Begins a packet. `room` is the most bytes that it may have, 65,532 if left out. Throws NO_ROOM for less than 12. */
   constructor(options: { sourcePort: number; destinationPort: number; verificationTag: number; room?: number });
@@ -270,9 +285,9 @@ export class Builder {
   /** The same by the fields of its value: Missing Mandatory Parameter, or No User Data. */
   addCause<T extends keyof CauseKinds>(code: T, fields: CauseKinds[T]): this;
 
-  /** Adds a chunk of a type in ChunkFields, with its flags 0. As the next two it throws BAD_VALUE for another type, an address of
-      another size, and a list that is broken. */
-  addRegisteredChunk<T extends keyof ChunkFields>(type: T, fields: Given<ChunkFields[T]>): this;
+  /** Adds a chunk of a type in ChunkFields; its flags are 0 if they are left out. As the next two it throws BAD_VALUE for another
+      type, an address of another size, and a list that is broken. */
+  addRegisteredChunk<T extends keyof ChunkFields>(type: T, fields: Given<ChunkFields[T]> & { flags?: number }): this;
   /** Adds a parameter of a type in ParameterFields to the last chunk: to an INIT, or to the requests of an ASCONF. */
   addRegisteredParameter<T extends keyof ParameterFields>(type: T, fields: Given<ParameterFields[T]>): this;
   /** Adds an IPv4 Address or IPv6 Address parameter for each address, as text, to the last chunk (RFC 9260 section 3.3.2.1). Throws
@@ -299,6 +314,9 @@ export class Builder {
       none. */
   addUnrecognizedChunks(bytes: Uint8Array, known: Iterable<number>): number | null;
 
+  /** Begins another packet in the memory of this one, with the same room, and with the ports and the tag that are given: faster than a
+      Builder for each. */
+  reset(options?: { sourcePort?: number; destinationPort?: number; verificationTag?: number }): this;
   /** Takes the last chunk back, with what was added to it. Throws BAD_PLACE where there is none. */
   removeLast(): this;
   /** A copy of the last chunk; null where there is none. Its `bytes` are all that is sent of one without a packet around it. */
@@ -407,6 +425,9 @@ export interface Cookie {
   /** The initiate tags of the INIT ACK and of the INIT. */
   localTag: number;
   peerTag: number;
+  /** The Local Tie-Tag and the Peer's (section 5.2.2): 0 where the INIT came without an association. */
+  localTieTag: number;
+  peerTieTag: number;
   /** The initial TSNs of the INIT ACK and of the INIT. */
   localInitialTsn: number;
   peerInitialTsn: number;
@@ -415,13 +436,14 @@ export interface Cookie {
   /** On which the local end sends. */
   outboundStreams: number;
   inboundStreams: number;
-  /** Bytes of yours: the peer's addresses, the parameters of its INIT. */
-  addresses: Uint8Array;
+  /** Further bytes of yours, of any length: the peer's addresses, the parameters of its INIT, AUTH's key vectors. */
+  extra: Uint8Array;
 }
 /** Returns a State Cookie, with an HMAC under a key that nobody else knows. */
-export function sealCookie(key: Uint8Array, cookie: Needed<Cookie, Exclude<keyof Cookie, 'addresses'>>): Uint8Array;
+export function sealCookie(key: Uint8Array,
+  cookie: Needed<Cookie, Exclude<keyof Cookie, 'localTieTag' | 'peerTieTag' | 'extra'>>): Uint8Array;
 /** Opens a State Cookie at a time in microseconds, on the clock by which it was sealed. It is good from before it was created, on a clock
-    that was set back, to the end of its life. Its addresses are a view of the bytes. Of one that is stale `staleness` says for how many
+    that was set back, to the end of its life. Its further bytes are a view of these. Of one that is stale `staleness` says for how many
     microseconds it hasn't been good: the cause Stale Cookie has the lower 32 bits (section 3.3.10.3). */
 export function openCookie(key: Uint8Array, bytes: Uint8Array, now: bigint):
   | { state: Of<typeof CookieState, 'GOOD'>; cookie: Cookie; staleness?: undefined }

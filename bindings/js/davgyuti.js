@@ -4,14 +4,12 @@
 
 // (`this` is a CommonJS module's exports; in a module of a browser it is undefined)
 const {
-  load, call, firstFaultOf, view, big, refuse, number, u16, u32, bigNumber, truth, record, isList, isBytes, Block, Struct, numbersOf,
-  u16sIn, Result, Action, TagVerdict, Answer, InitFault, Refusal, CookieState, ChunkType, ParameterType, CauseCode,
+  version, isLoaded, load, call, firstFaultOf, view, big, refuse, number, u16, u32, bigNumber, truth, record, isList, isBytes, Block, Struct,
+  numbersOf, u16sIn, Result, Action, TagVerdict, Answer, InitFault, Refusal, CookieState, ChunkType, ParameterType, CauseCode,
   ReConfigResult, Rule, RESULT_TEXTS, RULE_TEXTS, DATA_FLAGS, LIST_OFFSETS, hasCauses, STRUCTS, CHUNK_NAMES, CHUNK_FIELDS,
   PARAMETER_NAMES, PARAMETER_FIELDS, CAUSE_NAMES, CAUSE_FIELDS, readChunkValue, readLists, contents, hasParameterFields,
   readParameter, hasCauseFields, readCause, writeParameter, writeCause, Kinds,
 } = this ? { ...require('./library.js'), ...require('./kinds.js') } : globalThis[Symbol.for('davgyuti')];
-
-const version = '0.1.0';
 
 const FIRST_CHUNK = 12;
 const TAG_REFLECTED = 1;
@@ -116,16 +114,32 @@ function structOf(struct, object, name) {
 /** A part of the caller's bytes, where they lie. */
 const part = (bytes, offset, size) => new Uint8Array(bytes.buffer, bytes.byteOffset + offset, size);
 
+/** What a checksum field has to be. `word` alone makes one: a packet's own field, passed as its word, would be right always. */
+class Word {
+  #number;
+
+  constructor(number) {
+    this.#number = number;
+  }
+
+  get number() {
+    return this.#number;
+  }
+
+  static numberOf(it) {
+    return Object(it) === it && #number in it ? it.#number : refuse(it, 'word', 'what `word` returned');
+  }
+}
+
 /** The words for a packet, its checksum's word, and a policy. The word is computed where it is compared, or said. */
 function asked(bytes, policy, isSaid = false) {
-  const { anyChecksum = false, zeroChecksum = false, allowedZeroChecksum = false, strictPadding = false, word } =
+  const { anyChecksum = false, zeroChecksum = false, allowedZeroChecksum = false, strictPadding = false, word: given } =
     record(policy, 'policy');
   truth(anyChecksum, 'anyChecksum');
   truth(zeroChecksum, 'zeroChecksum');
   truth(strictPadding, 'strictPadding');
   truth(allowedZeroChecksum, 'allowedZeroChecksum');
-  if (word !== undefined)
-    u32(word, 'word');
+  const word = given === undefined ? undefined : Word.numberOf(given);
   // (more than 65,535 bytes are refused by their size: so at most one too many is copied)
   const [start, length] = put(input, isBytes(bytes, 'bytes').length > 65_536 ? part(bytes, 0, 65_536) : bytes);
   const isZero = zeroChecksum || (allowedZeroChecksum && header(bytes)?.checksum === 0 && !needsChecksum(bytes));
@@ -174,13 +188,18 @@ const utf8 = new TextDecoder('utf-8', { fatal: true, ignoreBOM: true });
 const canonical = (bytes, policy = {}) => written('dcsctp_canonical', bytes, policy).slice();
 const text = (bytes, policy = {}) => utf8.decode(written('dcsctp_print', bytes, policy));
 const report = (bytes, policy = {}) => utf8.decode(written('dcsctp_report', bytes, policy));
-const word = bytes => call('dcsctp_word', ...put(input, bytes)) >>> 0;
+const word = bytes => new Word(call('dcsctp_word', ...put(input, bytes)) >>> 0);
 
 const CHECKSUMMED = [ChunkType.INIT, ChunkType.COOKIE_ECHO, ChunkType.ASCONF];
 const REFLECTING = [ChunkType.ABORT, ChunkType.SHUTDOWN_COMPLETE];
 
-const needsChecksum = bytes => Array.from(chunks(bytes)).some(({ type, flags }) =>
-  CHECKSUMMED.includes(type) || (REFLECTING.includes(type) && (flags & TAG_REFLECTED) !== 0));
+function needsChecksum(bytes) {
+  for (const { type, flags } of chunks(bytes)) {
+    if (CHECKSUMMED.includes(type) || (REFLECTING.includes(type) && (flags & TAG_REFLECTED) !== 0))
+      return true;
+  }
+  return false;
+}
 
 // ---- reading the parts of a packet
 
@@ -216,6 +235,12 @@ const both = (high, low) => high << 16 | low;
 const high = it => it >>> 16;
 const low = it => it & 0xffff;
 
+/** Reads the lists of a chunk into an object, which may be its own. (A private method would have esbuild 0.17 make all private fields
+    slow.) */
+let fillLists;
+/** What chunks have by their types. */
+let getters;
+
 /** A chunk that was read: where it is, what its value says, and the packet, whose `bytes` are the caller's. */
 class Chunk {
   #packet;
@@ -229,8 +254,9 @@ class Chunk {
       return (type === one || type === other) && chunk.#content !== null ? chunk.#content : undefined;
     };
     const bytesOf = (chunk, from) => partOf(chunk.#packet, high(chunk.#place) + from, low(chunk.#place) - from);
-    const fill = (chunk, it, to) => Chunk.#fill(chunk, it, to);
-    Object.defineProperties(Chunk.prototype, Object.getOwnPropertyDescriptors(contents(of, bytesOf, fill)));
+    fillLists = (chunk, it, to) =>
+      readLists(chunk.type, it, to, viewOf(chunk.#packet), fromOf(chunk.#packet) + high(chunk.#place));
+    getters = Object.getOwnPropertyDescriptors(contents(of, bytesOf, fillLists));
   }
 
   constructor(packet, memory, from, offset, end) {
@@ -274,12 +300,6 @@ class Chunk {
     return partOf(this.#packet, this.offset, HEADER + low(this.#place));
   }
 
-  /** Reads the lists of a chunk into an object, which may be its own. */
-  static #fill(chunk, it, to) {
-    const its = viewOf(chunk.#packet);
-    readLists(chunk.type, it, to, its, fromOf(chunk.#packet) + high(chunk.#place));
-  }
-
   /** Reads a SACK into an object of the caller's; returns whether it is one whose lists weren't read before. */
   static fillSack(chunk, sack) {
     const it = chunk.#content;
@@ -287,7 +307,7 @@ class Chunk {
       return false;
     sack.cumulativeTsnAck = it.cumulativeTsnAck;
     sack.aRwnd = it.aRwnd;
-    Chunk.#fill(chunk, it, sack);
+    fillLists(chunk, it, sack);
     return true;
   }
 
@@ -301,6 +321,9 @@ class Chunk {
     return #packet in chunk;
   }
 }
+// (in a static block esbuild 0.17 and Rollup mistake both `Chunk` and `this`)
+Object.defineProperties(Chunk.prototype, getters);
+const CONTENTS = Object.keys(getters);
 
 /** The parameters or error causes between two places, up to the first that isn't whole. */
 function itemsIn(packet, at, end, isCause) {
@@ -362,6 +385,44 @@ class Item {
   }
 }
 
+// ---- what is shown of it, and written in JSON
+
+/** What is in JSON of a value, where bytes are hexadecimal. */
+function inJson(it) {
+  if (ArrayBuffer.isView(it))
+    return Array.from(it, byte => byte.toString(16).padStart(2, '0')).join('');
+  if (Array.isArray(it))
+    return it.map(inJson);
+  return Object(it) === it ? it.toJSON?.() ?? Object.fromEntries(Object.entries(it).map(([name, each]) => [name, inJson(each)])) : it;
+}
+
+/** Gives the objects of a class what JSON and node's inspection ask for: `fieldsOf` has their fields. */
+const show = ({ prototype }, nameOf, fieldsOf) => Object.defineProperties(prototype, {
+  toJSON: { value() { return inJson(fieldsOf(this)); } },
+  [Symbol.for('nodejs.util.inspect.custom')]: {
+    value(depth, options, inspect) { return `${nameOf(this)} ${inspect(fieldsOf(this), { ...options, depth })}`; },
+  },
+});
+
+/** Of what a part may hold that which is there, or else its value. */
+function heldBy(part, names, items = {}) {
+  const held = { ...Object.fromEntries(names.filter(name => part[name] !== undefined).map(name => [name, part[name]])), ...items };
+  return Object.keys(held).length > 0 ? held : { value: part.value };
+}
+
+show(Chunk, () => 'Chunk', chunk => {
+  const { type, name, flags, offset, next } = chunk, isCause = hasCauses(type), items = Chunk.items(chunk, isCause);
+  const list = items.length > 0 ? { [isCause ? 'causes' : 'parameters']: items } : {};
+  return { type, name, flags, offset, next, ...heldBy(chunk, CONTENTS, list) };
+});
+
+show(Word, () => 'Word', ({ number }) => ({ number }));
+
+show(Item, ({ code }) => (code === undefined ? 'Parameter' : 'Cause'), item => {
+  const { type, code, name, offset, next } = item;
+  return { ...(code === undefined ? { type } : { code }), name, offset, next, ...heldBy(item, Object.keys(item)) };
+});
+
 const headerIn = (memory, from) => ({
   sourcePort: memory.getUint16(from),
   destinationPort: memory.getUint16(from + 2),
@@ -387,21 +448,23 @@ function read(bytes, policy = {}) {
   return { header: headerIn(memory, from), chunks: all };
 }
 
-/** The chunks from a place of any bytes on, up to the first that isn't whole. */
-function chunksFrom(at, bytes) {
-  const end = Math.min(isBytes(bytes, 'bytes').length, MOST_READ), packet = packetOf(bytes), all = [];
+/** The chunks from a place of a packet's bytes on, up to the first that isn't whole, each as it is asked for. */
+function* chunksFrom(at, packet) {
+  const end = Math.min(packet.bytes.length, MOST_READ);
   while (at + HEADER <= end) {
     const size = packet.own.getUint16(at + 2);
     if (size < HEADER || at + size > end)
-      break;
+      return;
     const chunk = new Chunk(packet, packet.own, 0, at, end);
-    all.push(chunk);
+    yield chunk;
     at = chunk.next;
   }
-  return all;
 }
 
-const chunks = bytes => chunksFrom(FIRST_CHUNK, bytes).values();
+const chunks = bytes => chunksFrom(FIRST_CHUNK, packetOf(isBytes(bytes, 'bytes')));
+
+/** The chunk that bytes begin with, if it is whole. */
+const firstChunk = bytes => chunksFrom(0, packetOf(bytes)).next().value;
 
 /** A builder of what is read again, without its packet. */
 const bare = () => new Builder({ sourcePort: 0, destinationPort: 0, verificationTag: 0 });
@@ -415,7 +478,7 @@ function readSack(chunk, sack) {
 }
 
 function readChunk(bytes) {
-  const { length } = isBytes(bytes, 'bytes'), chunk = chunksFrom(0, bytes)[0], end = chunk?.next ?? Math.min(length, 65_536);
+  const { length } = isBytes(bytes, 'bytes'), chunk = firstChunk(bytes), end = chunk?.next ?? Math.min(length, 65_536);
   const packet = new Uint8Array(FIRST_CHUNK + end);
   packet.set(bytes.subarray(0, end), FIRST_CHUNK);
   const fault = firstFault(packet, { anyChecksum: true });
@@ -475,11 +538,11 @@ const cause = (code, value = NOTHING) => itemOf(true, code, value, 'code');
 // ---- the rest of IANA's registry
 
 /** A value whose fields a function reads of the words for it; null where they aren't there. It begins at a place of its packet. */
-function registeredOf(fields, name, value, base, words) {
+function registeredOf(fields, name, value, base, words, isChunk) {
   if (!fields || !call(name, ...words, place(answer)))
     return null;
-  const it = structs.registered.read(answer.from);
-  const read = {}, end = it.restOffset + it.restSize;
+  const it = structs.registered.read(answer.from), end = it.restOffset + it.restSize;
+  const read = isChunk ? { flags: it.flags } : {};
   for (const [name, form, ...names] of fields) {
     switch (form) {
       case 'u32':
@@ -508,12 +571,15 @@ function registeredOf(fields, name, value, base, words) {
 const reader = (what, key, width, fields, name) => (given, type = record(given, what)[key]) => {
   if (record(given, what)[key] !== type)
     return null;
-  const { value, valueOffset, offset } = given, size = isBytes(value, 'value').length, isChunk = what === 'chunk';
+  const { flags, value, valueOffset, offset } = given, size = isBytes(value, 'value').length, isChunk = what === 'chunk';
   const base = isChunk ? number(valueOffset, 'size', 'valueOffset') : number(offset, 'size', 'offset') + HEADER;
   number(type, width, key);
   const words = [...put(input, value), place(taken)];
-  (isChunk ? structs.chunk : structs.parameter).write(taken.from, isChunk ? [type, 0, 0, size, size] : [type, 0, size, size]);
-  return registeredOf(fields.get(type), name, value, base, words);
+  if (isChunk)
+    structs.chunk.write(taken.from, [type, number(flags, 'u8', 'flags'), 0, size, size]);
+  else
+    structs.parameter.write(taken.from, [type, 0, size, size]);
+  return registeredOf(fields.get(type), name, value, base, words, isChunk);
 };
 
 const registeredChunk = reader('chunk', 'type', 'u8', CHUNK_FIELDS, 'dcsctp_registered_chunk');
@@ -552,21 +618,26 @@ function addressOf(address, name) {
   return Uint8Array.from(groups.map(it => parseInt(it, 16)).flatMap(it => [it >> 8, it & 255]));
 }
 
-/** Bytes one after the other, each with its padding up to a multiple of 4, but the last one. */
-function joined(all) {
-  const bytes = new Uint8Array(all.reduce((sum, it) => (sum + 3 & ~3) + it.length, 0));
-  let at = 0;
-  for (const it of all) {
-    at = at + 3 & ~3;
-    bytes.set(it, at);
-    at += it.length;
+/** The bytes of items one after the other, each with its padding up to a multiple of 4, but the last one; none after more than a chunk
+    has room for. */
+function joined(items, name) {
+  const all = [];
+  let size = 0;
+  for (const it of isList(items, name)) {
+    const bytes = isBytes(record(it, `an item of ${name}`).bytes, 'bytes'), at = size + 3 & ~3;
+    all.push([bytes, at]);
+    size = at + bytes.length;
+    if (size > 65_535)
+      break;
   }
-  return bytes;
+  const whole = new Uint8Array(size);
+  all.forEach(([bytes, at]) => whole.set(bytes, at));
+  return whole;
 }
 
 /** What a function takes of the fields of a value: the values of its struct, and the bytes that the address and the rest lie in. */
-function registeredValues(fields, given) {
-  record(given, 'fields');
+function registeredValues(fields, given, isChunk) {
+  const { flags = 0 } = record(given, 'fields');
   const it = Object.fromEntries(structs.registered.fields.map(({ name }) => [name, 0]));
   let address = NOTHING, rest = NOTHING;
   for (const [name, form, ...names] of fields) {
@@ -574,7 +645,7 @@ function registeredValues(fields, given) {
     switch (form) {
       case 'u32':
       case 'u16': {
-        const all = names.length === 1 ? [value] : Array.from(isList(value, name));
+        const all = names.length === 1 ? [value] : numbersOf(value, name, each => each, names.length);
         names.forEach((each, i) => { it[each] = number(all[i], form, name); });
         break;
       }
@@ -583,7 +654,7 @@ function registeredValues(fields, given) {
         break;
       case 'parameters':
       case 'causes':
-        rest = joined(Array.from(isList(value ?? [], name), each => isBytes(record(each, `an item of ${name}`).bytes, 'bytes')));
+        rest = joined(value ?? [], name);
         break;
       case 'shorts':
         rest = Uint8Array.from(numbersOf(value ?? [], name, u16).flatMap(each => [each >> 8, each & 255]));
@@ -592,6 +663,8 @@ function registeredValues(fields, given) {
         rest = isBytes(value ?? NOTHING, name);
     }
   }
+  if (isChunk)
+    it.flags = number(flags, 'u8', 'flags');
   Object.assign(it, { addressSize: address.length, restOffset: address.length, restSize: rest.length });
   const bytes = new Uint8Array(address.length + rest.length);
   bytes.set(address);
@@ -647,7 +720,8 @@ class Output {
     if (size > this.room)
       throw new WriteError(Result.NO_ROOM);
     if (size > this.bytes.length) {
-      const bytes = new Uint8Array(Math.min(2 * size, this.room));
+      // (less takes as long to make, and has to grow)
+      const bytes = new Uint8Array(Math.min(Math.max(2 * size, 512), this.room));
       bytes.set(this.bytes);
       this.bytes = bytes;
       this.view = new DataView(bytes.buffer);
@@ -715,6 +789,11 @@ class Builder extends Kinds {
     const out = new Output(Math.min(number(room, 'size', 'room'), MOST));
     super(out);
     this.#out = out;
+    this.#begin(sourcePort, destinationPort, verificationTag);
+  }
+
+  #begin(sourcePort, destinationPort, verificationTag) {
+    const out = this.#out;
     u16(sourcePort, 'sourcePort');
     u16(destinationPort, 'destinationPort');
     u32(verificationTag, 'verificationTag');
@@ -722,6 +801,14 @@ class Builder extends Kinds {
     out.view.setUint16(0, sourcePort);
     out.view.setUint16(2, destinationPort);
     out.view.setUint32(4, verificationTag);
+    out.starts.length = 0;
+    return this;
+  }
+
+  reset(options = {}) {
+    const { view } = this.#out;
+    const { sourcePort = view.getUint16(0), destinationPort = view.getUint16(2), verificationTag = view.getUint32(4) } = record(options, 'options');
+    return this.#begin(sourcePort, destinationPort, verificationTag);
   }
 
   get size() {
@@ -806,7 +893,7 @@ class Builder extends Kinds {
 
   /** The words for the type and the fields of a value. */
   #registered(fields, type, given) {
-    const [it, bytes] = registeredValues(fields.get(type) ?? [], given), at = place(answer);
+    const [it, bytes] = registeredValues(fields.get(type) ?? [], given, fields === CHUNK_FIELDS), at = place(answer);
     structs.registered.write(answer.from, structs.registered.values(it));
     return [type, at, ...put(input, bytes)];
   }
@@ -830,21 +917,21 @@ class Builder extends Kinds {
   }
 
   addUnrecognizedParameters(init, known) {
-    const types = numbersOf(known, 'known', u16), { value, valueOffset } = record(init, 'init');
+    const types = numbersOf(known, 'known', u16, Infinity), { value, valueOffset } = record(init, 'init');
     const base = number(valueOffset, 'size', 'valueOffset'), bytes = isBytes(value, 'value').subarray(INIT_NUMBERS);
     this.#askItem('dcsctp_add_unrecognized_parameters', ...put(input, bytes), ...putNumbers(output, U16, types), place(answer));
     return stopOf(bytes, base + INIT_NUMBERS);
   }
 
   addUnrecognizedParametersError(chunk, known) {
-    const types = numbersOf(known, 'known', u16), [bytes, base] = listOf(chunk, 'chunk');
+    const types = numbersOf(known, 'known', u16, Infinity), [bytes, base] = listOf(chunk, 'chunk');
     const words = [...put(input, bytes), ...putNumbers(output, U16, types), place(answer)];
     this.#askChunk('dcsctp_add_unrecognized_parameters_error', ...words);
     return stopOf(bytes, base);
   }
 
   addUnrecognizedChunks(bytes, known) {
-    const types = Uint8Array.from(numbersOf(known, 'known', (it, name) => number(it, 'u8', name)));
+    const types = Uint8Array.from(numbersOf(known, 'known', (it, name) => number(it, 'u8', name), Infinity));
     this.#askChunk('dcsctp_add_unrecognized_chunks', ...put(input, bytes), ...put(output, types), place(answer));
     return stopOf(bytes, 0);
   }
@@ -863,7 +950,7 @@ class Builder extends Kinds {
 
   lastChunk() {
     const { bytes, size, starts } = this.#out;
-    return starts.length === 0 ? null : chunksFrom(0, bytes.slice(starts.at(-1), size))[0];
+    return starts.length === 0 ? null : firstChunk(bytes.slice(starts.at(-1), size));
   }
 
   finish(options = {}) {
@@ -872,6 +959,11 @@ class Builder extends Kinds {
     return isSealed ? seal(bytes) : bytes;
   }
 }
+
+show(Builder, () => 'Builder', builder => {
+  const { size, room } = builder, bytes = builder.finish({ checksum: false }), { checksum, ...fields } = header(bytes);
+  return { ...fields, size, room, chunks: Array.from(chunks(bytes)) };
+});
 
 // ---- what is asked of whoever receives a packet
 
@@ -942,9 +1034,9 @@ function signAuth(key, bytes) {
 }
 
 function sealCookie(key, cookie) {
-  const whole = { addresses: NOTHING, ...record(cookie, 'cookie'), addressesOffset: 0, addressesSize: 0 };
-  const most = 72 + isBytes(whole.addresses, 'addresses').length, at = structOf(structs.cookie, whole);
-  return made(most, 'dcsctp_seal_cookie', ...put(input, key, 'key'), at, ...put(list, whole.addresses));
+  const whole = { localTieTag: 0, peerTieTag: 0, extra: NOTHING, ...record(cookie, 'cookie'), extraOffset: 0, extraSize: 0 };
+  const most = 80 + isBytes(whole.extra, 'extra').length, at = structOf(structs.cookie, whole);
+  return made(most, 'dcsctp_seal_cookie', ...put(input, key, 'key'), at, ...put(list, whole.extra));
 }
 
 function openCookie(key, bytes, now) {
@@ -953,8 +1045,8 @@ function openCookie(key, bytes, now) {
   const state = call('dcsctp_open_cookie', ...words, place(taken), place(answer));
   if (state === CookieState.INVALID)
     return { state };
-  const { addressesOffset, addressesSize, ...numbers } = structs.cookie.read(taken.from);
-  const cookie = { ...numbers, addresses: part(bytes, addressesOffset, addressesSize) };
+  const { extraOffset, extraSize, ...numbers } = structs.cookie.read(taken.from);
+  const cookie = { ...numbers, extra: part(bytes, extraOffset, extraSize) };
   return state === CookieState.GOOD ? { state, cookie } : { state, cookie, staleness: U64.read(answer.from).it };
 }
 
@@ -966,31 +1058,32 @@ function cleanBlocks(blocks) {
   return Array.from({ length: count }, (_, i) => gapAckBlock.read(input.from + i * gapAckBlock.size));
 }
 
-// ---- the version
+// ---- the WebAssembly
 
 const versionNumber = () => call('dcsctp_version_number') >>> 0;
 
-/** Begins with what `WebAssembly.instantiate` gives of dcsctp.wasm. */
-function begin(wasm) {
-  load(wasm);
-  const [major, minor, patch] = version.split('.').map(Number);
-  if (versionNumber() !== major * 65536 + minor * 256 + patch)
-    throw new Error(`dcsctp.wasm isn't that of version ${version}`);
+async function init(wasm) {
+  const given = await wasm;
+  if (isLoaded())
+    return;
+  if (given?.ok === false)
+    throw new Error(`${given.url}: ${given.status} ${given.statusText}`);
+  const code = typeof given?.arrayBuffer === 'function' ? await given.arrayBuffer() : given;
+  // (of a module it gives the instance alone)
+  const made = await WebAssembly.instantiate(code);
+  load(made.module ?? code, made.instance ?? made);
 }
 
 const davgyuti = {
-  version, versionNumber, Result, FIRST_CHUNK, ChunkType, TAG_REFLECTED, ParameterType, CauseCode, ReConfigResult, resultText, chunkName,
-  parameterName, causeName, isKnownChunk, isKnownParameter, isKnownCause, Fault, WriteError, check, firstFault, canonical, text, report,
+  init, version, versionNumber, Result, FIRST_CHUNK, ChunkType, TAG_REFLECTED, ParameterType, CauseCode, ReConfigResult, resultText,
+  chunkName, parameterName, causeName, isKnownChunk, isKnownParameter, isKnownCause, Fault, WriteError, check, firstFault, canonical, text, report,
   word, needsChecksum, header, chunks, read, readSack, readChunk, dataFlags, withFlags, parameters, parameter, causes, cause,
   registeredChunk, registeredParameter, registeredCause, addresses, seal, setTag, Builder, cleanBlocks, Action, unrecognizedChunk,
   unrecognizedParameter, actionReports, actionSkips, TagVerdict, verifyTag, Answer, outOfTheBlue, reply, InitFault, initFault, Refusal,
   initRefusal, initAbort, addsAddresses, Rule, ruleName, ruleText, brokenRules, isListed, sharedKey, verifyAuth, signAuth, sealCookie,
   CookieState, openCookie,
 };
-if (this) {
-  const wasm = new WebAssembly.Module(require('node:fs').readFileSync(`${__dirname}/dcsctp.wasm`));
-  begin({ module: wasm, instance: new WebAssembly.Instance(wasm) });
+if (this)
   module.exports = davgyuti;
-} else {
-  globalThis[Symbol.for('davgyuti')] = { begin, davgyuti };
-}
+else
+  globalThis[Symbol.for('davgyuti')] = davgyuti;

@@ -3,7 +3,7 @@
 // The kinds of chunks, parameters and error causes: what is read of their bytes, and how they are written. kinds.d.ts has the types.
 'use strict';
 
-const { u16, u32, truth, record, isList, isBytes, numbersOf, keptOf, keptList, u16sIn, u32sIn, writeU16s, writeU32s } =
+const { u16, u32, truth, record, isList, isBytes, TOO_MANY, numbersOf, keptOf, keptList, u16sIn, u32sIn, writeU16s, writeU32s } =
   this ? require('./library.js') : globalThis[Symbol.for('davgyuti')];
 
 const Result = Object.freeze({
@@ -355,13 +355,13 @@ const STRUCTS = {
   chunk: { type: 'u8', flags: 'u8', valueOffset: 'size', valueSize: 'size', next: 'size' },
   parameter: { type: 'u16', valueOffset: 'size', valueSize: 'size', next: 'size' },
   gapAckBlock: { start: 'u16', end: 'u16' },
-  registered: { number: 'u32', secondNumber: 'u32', shortNumber: 'u16', secondShortNumber: 'u16', thirdShortNumber: 'u16',
-    addressOffset: 'size', addressSize: 'size', restOffset: 'size', restSize: 'size' },
+  registered: { number: 'u32', secondNumber: 'u32', shortNumber: 'u16', secondShortNumber: 'u16', thirdShortNumber: 'u16', flags:
+    'u8', addressOffset: 'size', addressSize: 'size', restOffset: 'size', restSize: 'size' },
   association: { ownTag: 'u32', peerTag: 'u32', hasPeerTag: 'bool', awaitsCookie: 'bool' },
   known: { refusesZero: 'bool', hasData: 'bool', hasIData: 'bool' },
-  cookie: { created: 'u64', lifespan: 'u64', localTag: 'u32', peerTag: 'u32', localInitialTsn: 'u32', peerInitialTsn: 'u32',
-    localPort: 'u16', peerPort: 'u16', outboundStreams: 'u16', inboundStreams: 'u16', addressesOffset: 'size', addressesSize:
-    'size' },
+  cookie: { created: 'u64', lifespan: 'u64', localTag: 'u32', peerTag: 'u32', localTieTag: 'u32', peerTieTag: 'u32',
+    localInitialTsn: 'u32', peerInitialTsn: 'u32', localPort: 'u16', peerPort: 'u16', outboundStreams: 'u16', inboundStreams:
+    'u16', extraOffset: 'size', extraSize: 'size' },
 };
 
 const RESULT_MOST = 6;
@@ -718,7 +718,8 @@ function checkGapAckBlocks(list, name) {
   const all = [];
   for (const it of isList(list, name)) {
     const { start, end } = record(it, `an item of ${name}`);
-    all.push(u16(start, 'start'), u16(end, 'end'));
+    if (all.push(u16(start, 'start'), u16(end, 'end')) >= TOO_MANY)
+      break;
   }
   return all;
 }
@@ -735,7 +736,8 @@ function checkSkippedStreams(list, name) {
   const all = [];
   for (const it of isList(list, name)) {
     const { stream, ssn = 0 } = record(it, `an item of ${name}`);
-    all.push(u16(stream, 'stream'), u16(ssn, 'ssn'));
+    if (all.push(u16(stream, 'stream'), u16(ssn, 'ssn')) >= TOO_MANY)
+      break;
   }
   return all;
 }
@@ -752,7 +754,8 @@ function checkSkippedIStreams(list, name) {
   const all = [];
   for (const it of isList(list, name)) {
     const { stream, isUnordered = false, mid = 0 } = record(it, `an item of ${name}`);
-    all.push(u16(stream, 'stream'), truth(isUnordered, 'isUnordered') ? 1 : 0, u32(mid, 'mid'));
+    if (all.push(u16(stream, 'stream'), truth(isUnordered, 'isUnordered') ? 1 : 0, u32(mid, 'mid')) >= TOO_MANY)
+      break;
   }
   return all;
 }
@@ -770,7 +773,8 @@ function checkNextTsnss(list, name) {
   const all = [];
   for (const it of isList(list, name)) {
     const { sender, receiver } = record(it, `an item of ${name}`);
-    all.push(u32(sender, 'sender'), u32(receiver, 'receiver'));
+    if (all.push(u32(sender, 'sender'), u32(receiver, 'receiver')) >= TOO_MANY)
+      break;
   }
   return all;
 }

@@ -2,12 +2,21 @@
 // The library as WebAssembly: its one instance, and what lies in its memory. It is no part of the package's interface.
 'use strict';
 
+const version = '0.1.0';
+
 let compiled, wasm, held, heldBytes;
 // How many instances there were before this one, each of them left by an exception.
 let left = 0;
 
-/** Takes what `WebAssembly.instantiate` gives of dcsctp.wasm. */
-function load({ module, instance }) {
+const isLoaded = () => compiled !== undefined;
+
+/** Takes dcsctp.wasm, once. */
+function load(module, instance = new WebAssembly.Instance(module)) {
+  if (isLoaded())
+    return;
+  const [major, minor, patch] = version.split('.').map(Number);
+  if (instance.exports.dcsctp_version_number?.() !== major * 65536 + minor * 256 + patch)
+    throw new Error(`this isn't the dcsctp.wasm of version ${version}`);
   compiled = module;
   wasm = instance.exports;
   hold();
@@ -21,6 +30,8 @@ function hold() {
 
 /** An exception, as of a stack that is full, leaves the memory as it is: so a new instance comes. */
 function leave(error) {
+  if (!isLoaded())
+    throw new Error('init(wasm) comes first, and is awaited');
   // (what can fail where a stack is full comes first)
   const { exports } = new WebAssembly.Instance(compiled), { buffer } = exports.memory;
   const view = new DataView(buffer), bytes = new Uint8Array(buffer);
@@ -233,10 +244,17 @@ class Struct {
 
 // ---- lists of numbers
 
-/** The items of a list, each of which a function takes. */
-function numbersOf(items, name, check) {
-  const what = `an item of ${name}`;
-  return Array.from(isList(items, name), it => check(it, what));
+/** More numbers than a chunk has room for: here a list of the caller's is left, which may have no end. */
+const TOO_MANY = 32_768;
+
+/** The items of a list, each of which a function takes, and no more than this. */
+function numbersOf(items, name, check, most = TOO_MANY) {
+  const what = `an item of ${name}`, all = [];
+  for (const it of isList(items, name)) {
+    if (all.push(check(it, what)) === most)
+      break;
+  }
+  return all;
 }
 
 /** How many of the items of a list that was given may be used again. */
@@ -276,8 +294,8 @@ const writeU32s = (view, at, all) => all.forEach((it, i) => view.setUint32(at + 
 
 // davgyuti.mjs says who takes it from where.
 const library = {
-  load, call, firstFaultOf, view, big, refuse, number, u16, u32, bigNumber, truth, record, isList, isBytes, Block, Struct, numbersOf, keptOf,
-  keptList, u16sIn, u32sIn, writeU16s, writeU32s,
+  version, isLoaded, load, call, firstFaultOf, view, big, refuse, number, u16, u32, bigNumber, truth, record, isList, isBytes, Block, Struct,
+  TOO_MANY, numbersOf, keptOf, keptList, u16sIn, u32sIn, writeU16s, writeU32s,
 };
 if (this)
   module.exports = library;

@@ -1,6 +1,6 @@
 // SPDX-License-Identifier: Apache-2.0
 // What answers.c prints of packets, by WebAssembly.
-import * as davgyuti from '../davgyuti.mjs';
+import * as davgyuti from 'davgyuti';
 
 const POLICIES = [{}, { zeroChecksum: true, strictPadding: true }, { anyChecksum: true }];
 const hex = bytes => Array.from(bytes, it => it.toString(16).padStart(2, '0')).join('');
@@ -17,7 +17,7 @@ function tried(call) {
 }
 
 export function* lines(bytes) {
-  yield `packet ${bytes.length} ${bytes.length < 12 ? 0 : davgyuti.word(bytes)}`;
+  yield `packet ${bytes.length} ${bytes.length < 12 ? 0 : davgyuti.word(bytes).number}`;
   for (const policy of POLICIES) {
     const { code, offset } = davgyuti.firstFault(bytes, policy) ?? { code: 0, offset: bytes.length };
     yield `fault ${code} ${offset}`;

@@ -3,7 +3,7 @@
 import assert from 'node:assert/strict';
 import { readFileSync } from 'node:fs';
 import { test } from 'node:test';
-import * as davgyuti from '../davgyuti.mjs';
+import * as davgyuti from 'davgyuti';
 
 const file = name => readFileSync(new URL(name, import.meta.url), 'utf8');
 const header = file('../../../include/dcsctp.h');

@@ -2,7 +2,7 @@
 // What `readSack` reads into an object that is kept is what `sack` gives, and nothing else is changed.
 import assert from 'node:assert/strict';
 import { test } from 'node:test';
-import * as davgyuti from '../davgyuti.mjs';
+import * as davgyuti from 'davgyuti';
 
 const { Builder, ChunkType, chunks, read, readChunk, readSack } = davgyuti;
 const PORTS = { sourcePort: 1, destinationPort: 2, verificationTag: 3 };

@@ -3,7 +3,7 @@
 // bytes that were laid out by hand.
 import assert from 'node:assert/strict';
 import { test } from 'node:test';
-import * as davgyuti from '../davgyuti.mjs';
+import * as davgyuti from 'davgyuti';
 
 const { ChunkType, CookieState, Result, WriteError, isListed, openCookie, sealCookie, sharedKey, signAuth, verifyAuth } = davgyuti;
 const bytes = hex => Uint8Array.from(Buffer.from(hex.replace(/\s/g, ''), 'hex'));
@@ -14,18 +14,19 @@ const KEY = new TextEncoder().encode('a key');
 const changed = (bytes, at, bit = 1) => bytes.map((it, i) => (i === at ? it ^ bit : it));
 
 test('State Cookies', () => {
-  const wanted = bytes('0f4058d455d989f64110ebd32badc1d936581848510b55101d06d10654512b4e00000000000f'
-    + '424000000000039387000102030405060708090a0b0c0d0e0f1013881389000a0014c0000201');
+  const wanted = bytes('0e7f54ce817b4159983e9114aa8511194e5e71af023a055c38cb78f905a9ac0400000000000f4240'
+    + '000000000393870001020304050607081112131415161718090a0b0c0d0e0f1013881389000a0014c0000201');
   const says = {
-    created: 1000000n, lifespan: 60000000n, localTag: 0x01020304, peerTag: 0x05060708, localInitialTsn: 0x090a0b0c,
-    peerInitialTsn: 0x0d0e0f10, localPort: 5000, peerPort: 5001, outboundStreams: 10, inboundStreams: 20, addresses: bytes('c0000201'),
+    created: 1000000n, lifespan: 60000000n, localTag: 0x01020304, peerTag: 0x05060708, localTieTag: 0x11121314,
+    peerTieTag: 0x15161718, localInitialTsn: 0x090a0b0c, peerInitialTsn: 0x0d0e0f10, localPort: 5000, peerPort: 5001,
+    outboundStreams: 10, inboundStreams: 20, extra: bytes('c0000201'),
   };
   const sealed = sealCookie(KEY, says);
   assert.deepEqual(sealed, wanted);
   // Good to the end of its life, and on a clock that was set back.
   for (const now of [0n, 1000000n, 61000000n])
     assert.deepEqual(openCookie(KEY, wanted, now), { state: CookieState.GOOD, cookie: says });
-  assert.equal(openCookie(KEY, wanted, 0n).cookie.addresses.buffer, wanted.buffer);
+  assert.equal(openCookie(KEY, wanted, 0n).cookie.extra.buffer, wanted.buffer);
   const last = 2n ** 64n - 1n;
   for (const [now, staleness] of [[61000001n, 1n], [last, last - 61000000n]])
     assert.deepEqual(openCookie(KEY, wanted, now), { ...openCookie(KEY, wanted, 0n), state: CookieState.STALE, staleness });
@@ -37,13 +38,13 @@ test('State Cookies', () => {
   });
   for (const [key, it] of [[KEY.subarray(0, 4), wanted], [NOTHING, wanted], [NOTHING, NOTHING]])
     assert.deepEqual(openCookie(key, it, 1000000n), invalid);
-  // Without a key, and without addresses.
-  const { addresses, ...rest } = says, without = sealCookie(NOTHING, rest);
-  assert.equal(without.length, wanted.length - addresses.length);
+  // Without a key, without Tie-Tags, and without further bytes.
+  const { localTieTag, peerTieTag, extra, ...rest } = says, without = sealCookie(NOTHING, rest);
+  assert.equal(without.length, wanted.length - extra.length);
   assert.deepEqual(sealed, wanted); // a later call leaves it
-  assert.deepEqual(openCookie(NOTHING, without, 1000000n).cookie, { ...rest, addresses: NOTHING });
+  assert.deepEqual(openCookie(NOTHING, without, 1000000n).cookie, { ...rest, localTieTag: 0, peerTieTag: 0, extra: NOTHING });
 
-  for (const it of [{ ...says, created: 1 }, { ...says, addresses: 'text' }, { ...rest, localTag: undefined }, null])
+  for (const it of [{ ...says, created: 1 }, { ...says, extra: 'text' }, { ...rest, localTag: undefined }, null])
     assert.throws(() => sealCookie(KEY, it), TypeError);
   for (const it of [{ ...says, lifespan: 2n ** 64n }, { ...says, created: -1n }, { ...says, peerPort: 65_536 }])
     assert.throws(() => sealCookie(KEY, it), RangeError);

@@ -7,7 +7,7 @@ import { tmpdir } from 'node:os';
 import { join } from 'node:path';
 import { test } from 'node:test';
 import { fileURLToPath } from 'node:url';
-import * as davgyuti from '../davgyuti.mjs';
+import * as davgyuti from 'davgyuti';
 
 const { Builder, Result, causes, chunks } = davgyuti;
 const PORTS = { sourcePort: 1, destinationPort: 2, verificationTag: 3 };
@@ -34,6 +34,34 @@ test('values of thousands of bytes', () => {
   }
 });
 
+// RFC 9260 sections 3.2 and 3.2.1: what has a length of 16 bits has room for so many; and a packet of 65,532 bytes for so many.
+test('lists that are full, and those that never end', () => {
+  function* endless(it) {
+    for (;;)
+      yield it;
+  }
+  const { parameter } = davgyuti, block = { start: 2, end: 3 }, tsns = { cumulativeTsnAck: 1, aRwnd: 2 }, [reset, random] = [{ type: 13 }, 0x8002];
+  for (const [item, most, add] of [
+    [block, 16_376, (it, blocks) => it.addSack({ ...tsns, blocks })],
+    [7, 16_376, (it, duplicates) => it.addSack({ ...tsns, duplicates })],
+    [{ stream: 1 }, 16_378, (it, streams) => it.addForwardTsn({ newCumulativeTsn: 1, streams })],
+    [{ stream: 1 }, 8189, (it, streams) => it.addIForwardTsn({ newCumulativeTsn: 1, streams })],
+    [7, 32_750, (it, streams) => it.addChunk(130).addReConfig({ ...reset, streams })],
+    [7, 32_754, (it, types) => it.addChunk(9).addCause(2, { types })],
+    [5, 32_756, (it, types) => it.addChunk(1).addRegisteredParameter(12, { types })],
+    [parameter(random), 16_378, (it, parameters) => it.addChunk(9).addRegisteredCause(8, { parameters })],
+  ]) {
+    const builder = new Builder(PORTS), full = add(new Builder(PORTS), new Array(most).fill(item)).size;
+    assert.ok(full > 65_528 && full <= 65_532, `${add} ${full}`);
+    assert.throws(() => add(builder, new Array(most + 2).fill(item)), { name: 'WriteError' });
+    const { size } = builder;
+    assert.throws(() => add(builder.reset(), endless(item)), { code: Result.BAD_VALUE });
+    assert.equal(builder.size, size);
+  }
+  const counts = { cumulativeTsnAck: 1, aRwnd: 2, counts: endless(0), lists: new Uint8Array(0) };
+  assert.deepEqual(davgyuti.registeredChunk(new Builder(PORTS).addRegisteredChunk(16, counts).lastChunk()).counts, [0, 0, 0]);
+});
+
 test('texts of thousands of bytes', () => {
   const reason = 'zu spät, '.repeat(600);
   for (const count of [400, 13_000]) {
@@ -53,12 +81,36 @@ test('texts of thousands of bytes', () => {
 test('a word of 0 that is passed', () => {
   const packet = written(it => it.addCookieAck()), zero = packet.slice();
   zero.fill(0, 8, 12);
-  for (const name of ['check', 'canonical', 'text', 'report']) {
-    davgyuti[name](zero, { word: 0 });
-    assert.throws(() => davgyuti[name](packet, { word: 0 }), { code: Result.FAULT_CHECKSUM, offset: 8 });
+  // (whose CRC32c, by another program, is 0)
+  const word = davgyuti.word(Uint8Array.from(Buffer.from('000000000000000000000000f62e80b0', 'hex')));
+  assert.deepEqual([word.number, JSON.stringify(word)], [0, '{"number":0}']);
+  // Only what `word` returned is one.
+  for (const it of [0, davgyuti.header(packet).checksum, null, { number: 0 }, Object.create(word), { ...word }]) {
+    for (const name of ['check', 'canonical', 'text', 'report', 'read', 'firstFault'])
+      assert.throws(() => davgyuti[name](zero, { word: it }), { name: 'TypeError', message: /^word is / });
   }
-  assert.equal(davgyuti.firstFault(zero, { word: 0 }), null);
-  assert.deepEqual(davgyuti.firstFault(packet, { word: 0 }), { code: Result.FAULT_CHECKSUM, offset: 8 });
+  for (const name of ['check', 'canonical', 'text', 'report']) {
+    davgyuti[name](zero, { word });
+    assert.throws(() => davgyuti[name](packet, { word }), { code: Result.FAULT_CHECKSUM, offset: 8 });
+  }
+  assert.equal(davgyuti.firstFault(zero, { word }), null);
+  assert.deepEqual(davgyuti.firstFault(packet, { word }), { code: Result.FAULT_CHECKSUM, offset: 8 });
+});
+
+test('no CRC32c is computed where any checksum is accepted', () => {
+  const packet = written(it => it.addData({ tsn: 1, stream: 2, payload: new Uint8Array(60_000) }));
+  for (const name of ['read', 'check', 'firstFault', 'text']) {
+    // (of 60,028 bytes it takes some ten times as long as the rest; the least of many counts)
+    const [without, computed] = [{ anyChecksum: true }, {}].map(policy => {
+      const took = Array.from({ length: 100 }, () => {
+        const begin = process.hrtime.bigint();
+        davgyuti[name](packet, policy);
+        return Number(process.hrtime.bigint() - begin);
+      });
+      return Math.min(...took);
+    });
+    assert.ok(2 * without < computed, `${name}: ${without} and ${computed} ns`);
+  }
 });
 
 test('where memory is full', () => {
@@ -70,9 +122,9 @@ test('where memory is full', () => {
     assert.ok(at > 0 && wasm[at + 4] < 32);
     const limited = Buffer.concat([wasm.subarray(0, at), Buffer.from([5, 4, 1, 1, wasm[at + 4], 32]), wasm.subarray(at + 5)]);
     writeFileSync(join(folder, 'dcsctp.wasm'), limited);
-    for (const name of ['davgyuti.js', 'kinds.js', 'library.js'])
+    for (const name of ['davgyuti.js', 'kinds.js', 'library.js', 'node.js'])
       copyFileSync(path(name), join(folder, name));
-    const own = createRequire(import.meta.url)(join(folder, 'davgyuti.js'));
+    const own = createRequire(import.meta.url)(join(folder, 'node.js'));
     const { call } = createRequire(import.meta.url)(join(folder, 'library.js'));
 
     const noMemory = { name: 'WriteError', code: Result.NO_MEMORY };

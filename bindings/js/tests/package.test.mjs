@@ -8,8 +8,9 @@ import { tmpdir } from 'node:os';
 import { join } from 'node:path';
 import { after, test } from 'node:test';
 import { fileURLToPath } from 'node:url';
-import * as imported from 'davgyuti';
-import * as davgyuti from '../davgyuti.mjs';
+import * as davgyuti from 'davgyuti';
+import * as bare from '../davgyuti.mjs';
+import library from '../library.js';
 
 const file = name => readFileSync(new URL(name, import.meta.url), 'utf8');
 const project = mkdtempSync(join(tmpdir(), 'davgyuti-'));
@@ -25,13 +26,41 @@ const folder = fileURLToPath(new URL('..', import.meta.url));
 const archive = `davgyuti-${version}.tgz`;
 
 test('require gives what import gives', () => {
-  const required = createRequire(import.meta.url)('davgyuti');
-  for (const it of [required, imported]) {
+  const { buffer } = library.view(), required = createRequire(import.meta.url)('davgyuti');
+  assert.equal(library.view().buffer, buffer); // (which is the one that it began with)
+  for (const it of [required, bare]) {
     assert.deepEqual(Object.keys(it).sort(), Object.keys(davgyuti).sort());
     for (const name of Object.keys(it))
       assert.equal(it[name], davgyuti[name]);
   }
   assert.equal(createRequire(import.meta.url)('davgyuti/package.json').version, version);
+});
+
+test('it begins by init, once', async () => {
+  const wasm = readFileSync(join(folder, 'dcsctp.wasm')), empty = Uint8Array.of(0, 0x61, 0x73, 0x6d, 1, 0, 0, 0);
+  // (whose one function says version 0.1.1)
+  const other = Buffer.from(`0061736d01000000 010501600001 7f03020100 07190115${Buffer.from('dcsctp_version_number').toString('hex')}0000
+    0a0701050041 81020b`.replace(/\s/g, ''), 'hex');
+  assert.equal(new WebAssembly.Instance(new WebAssembly.Module(other)).exports.dcsctp_version_number(), 257);
+  for (const [i, given] of [wasm, new WebAssembly.Module(wasm), Promise.resolve(new Response(wasm))].entries()) {
+    for (const name of ['davgyuti.js', 'kinds.js', 'library.js'])
+      cpSync(join(folder, name), join(project, `begins${i}`, name));
+    const { Builder, check, init, versionNumber } = createRequire(import.meta.url)(join(project, `begins${i}`, 'davgyuti.js'));
+    const builder = new Builder({ sourcePort: 1, destinationPort: 2, verificationTag: 3 }).addCookieAck();
+    for (const it of [null, undefined, 'dcsctp.wasm', {}, wasm.subarray(1), empty, other, new WebAssembly.Module(other), fetch('data:,')]) {
+      await assert.rejects(init(it));
+      for (const call of [versionNumber, () => check(new Uint8Array(16)), () => builder.finish()])
+        assert.throws(call, /^Error: init\(wasm\) comes first/);
+    }
+    await assert.rejects(init(new Response(wasm, { status: 404, statusText: 'Not Found' })), { message: ': 404 Not Found' });
+    await init(given);
+    check(builder.finish());
+    for (const it of [undefined, empty, new WebAssembly.Module(wasm)])
+      assert.equal(await init(it), undefined);
+    check(builder.finish());
+  }
+  // In node it has begun.
+  await davgyuti.init();
 });
 
 test('the archive is whole, and twice the same', { skip: lacking('npm') }, () => {
@@ -51,15 +80,11 @@ test('what README.md says, in a project of its own', { skip: lacking('npm') }, (
   writeFileSync(join(project, 'package.json'), '{ "private": true }');
   run('npm', 'install', own.match(/`npm install (\.\/davgyuti-\S*\.tgz)`/)[1]);
   assert.deepEqual(readdirSync(join(project, 'node_modules')).filter(it => !it.startsWith('.')), ['davgyuti']);
-  const [code, other, receive, asconf, sack] = [...own.matchAll(/```js\n([^]*?)```/g)].map(it => it[1]), [, answer] = code.match(/prints (\w+)/);
+  const [code, ...others] = [...own.matchAll(/```js\n([^]*?)```/g)].map(it => it[1]), [, answer] = code.match(/prints (\w+)/);
   assert.match(file('../../../examples/expected.txt'), new RegExp(`^  answer ${answer}$`, 'm'));
-  writeFileSync(join(project, 'answer.mjs'), code);
-  assert.equal(run(process.execPath, 'answer.mjs'), `${answer}\n`);
-  writeFileSync(join(project, 'other.mjs'), other);
-  assert.equal(run(process.execPath, 'other.mjs'), `${other.match(/prints (.*)/)[1]}\n`);
-  for (const [name, program] of Object.entries({ 'receive.mjs': receive, 'asconf.mjs': asconf, 'sack.mjs': sack })) {
-    writeFileSync(join(project, name), program);
-    assert.equal(run(process.execPath, name), [...program.matchAll(/prints (.*)/g)].map(it => `${it[1]}\n`).join(''));
+  for (const [i, program] of [code, ...others].entries()) {
+    writeFileSync(join(project, `${i}.mjs`), program);
+    assert.equal(run(process.execPath, `${i}.mjs`), [...program.matchAll(/prints (.*)/g)].map(it => `${it[1]}\n`).join(''));
   }
   // By require too, also where it can't take a module of the other kind.
   writeFileSync(join(project, 'answer.cjs'), code.replace(/^import (.*) from (.*);$/m, 'const $1 = require($2);'));
@@ -72,7 +97,7 @@ test('what TypeScript knows of it', { skip: lacking('npm') ?? lacking('tsc') }, 
   const options = '--noEmit --strict --exactOptionalPropertyTypes --module node16 --moduleResolution node16 --target es2020 --lib es2020'
     + ' --allowJs --checkJs';
   // (those in .mjs are the programs of README.md)
-  const files = ['imported.mts', 'required.cts', 'node.d.ts', 'answer.mjs', 'other.mjs', 'receive.mjs', 'asconf.mjs', 'sack.mjs'];
+  const files = ['imported.mts', 'required.cts', 'node.d.ts', ...readdirSync(project).filter(it => /^\d+\.mjs$/.test(it))];
   const ran = spawnSync('tsc', [...options.split(' '), ...files], { cwd: project, env, encoding: 'utf8' });
   assert.equal(ran.stdout, '');
   assert.equal(ran.status, 0);

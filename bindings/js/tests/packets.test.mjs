@@ -7,7 +7,7 @@ import { tmpdir } from 'node:os';
 import { join } from 'node:path';
 import { test } from 'node:test';
 import { fileURLToPath } from 'node:url';
-import * as davgyuti from '../davgyuti.mjs';
+import * as davgyuti from 'davgyuti';
 import { lines } from './answers.mjs';
 
 const path = name => fileURLToPath(new URL(name, import.meta.url));

@@ -3,7 +3,8 @@
 import assert from 'node:assert/strict';
 import { readFileSync } from 'node:fs';
 import { test } from 'node:test';
-import * as davgyuti from '../davgyuti.mjs';
+import { inspect } from 'node:util';
+import * as davgyuti from 'davgyuti';
 
 const { Builder, ChunkType, Fault, causes, chunks, parameters, read } = davgyuti;
 const POLICIES = [{}, { zeroChecksum: true, strictPadding: true }, { anyChecksum: true }, { allowedZeroChecksum: true }];
@@ -148,4 +149,72 @@ test('whatever becomes of the bytes that were read, nothing is thrown, and numbe
     assert.deepEqual([init.initialTsn, sack.aRwnd, sack.blocks.length, sack.duplicates.length], [5, 8, 2, 1]);
     assert.deepEqual(sack, kept);
   }
+});
+
+// RFC 6525 section 4.5: after the number of new streams come two reserved bytes, which a receiver ignores.
+test('the value of what has fields is what was read', () => {
+  const request = '0011 000c 2bc42959 8002 000c'.replace(/ /g, '');
+  const packet = Uint8Array.from(Buffer.from(`00010002000000030000000082000010${request}`, 'hex'));
+  for (const [chunk] of [[...chunks(packet)], read(packet, { anyChecksum: true }).chunks]) {
+    const [{ reConfig, value, bytes }] = parameters(chunk);
+    assert.deepEqual([reConfig.requestNumber, reConfig.newStreams], [0x2bc42959, 0x8002]);
+    assert.deepEqual([Buffer.from(value).toString('hex'), Buffer.from(bytes).toString('hex')], [request.slice(8), request]);
+  }
+});
+
+test('chunks are read as they are asked for', () => {
+  const bytes = Uint8Array.from(Buffer.from('000100020000000300000000' + '0b000004' + '0e000004' + '08000004', 'hex')), all = chunks(bytes);
+  assert.equal(all[Symbol.iterator](), all);
+  assert.equal(all.next().value.type, ChunkType.COOKIE_ACK);
+  bytes[16] = ChunkType.COOKIE_ECHO;
+  assert.equal(all.next().value.type, ChunkType.COOKIE_ECHO);
+  bytes[23] = 5; // (which is more than there is)
+  assert.deepEqual([...all, all.next()], [{ value: undefined, done: true }]);
+  for (const it of [undefined, 'a', [1], new Uint16Array(8)])
+    assert.throws(() => chunks(it), TypeError);
+});
+
+// The bytes are by hand, from RFC 9260 sections 3.3.1, 3.3.2, 3.3.4 and 3.3.10.2, RFC 6525 section 4.1 and RFC 9653 section 4.
+test('what JSON has, and what is shown', () => {
+  const bytes = Uint8Array.from(Buffer.from(`0001 0002 00000003 00000000
+    00 03 0013 00000007 0002 0003 00000033 6105ff 00
+    01 00 0021 00000001 00000002 0003 0004 00000005 8001 0008 00000001 0007 0005 61 000000
+    03 00 0018 00000001 00000002 0001 0001 0003 0004 00000009
+    82 00 0016 000d 0012 00000001 00000002 00000003 0004 0000
+    09 00 000c 0002 0008 00000000
+    63 01 0005 ff 000000`.replace(/\s/g, ''), 'hex'));
+  const wanted = [
+    { type: 0, name: 'DATA', flags: 3, offset: 12, next: 32, data: { tsn: 7, stream: 2, ssn: 3, ppid: 51, payload: '6105ff', isEnd: true,
+      isBeginning: true, isUnordered: false, immediateAck: false, mid: 0, fsn: 0 } },
+    { type: 1, name: 'INIT', flags: 0, offset: 32, next: 68,
+      init: { initiateTag: 1, aRwnd: 2, outboundStreams: 3, inboundStreams: 4, initialTsn: 5 }, parameters: [
+        { type: 0x8001, name: 'Zero Checksum Acceptable', offset: 52, next: 60, method: 1 },
+        { type: 7, name: 'State Cookie', offset: 60, next: 65, value: '61' },
+      ] },
+    { type: 3, name: 'SACK', flags: 0, offset: 68, next: 92,
+      sack: { cumulativeTsnAck: 1, aRwnd: 2, blocks: [{ start: 3, end: 4 }], duplicates: [9], isInOrder: true } },
+    { type: 130, name: 'RE-CONFIG', flags: 0, offset: 92, next: 116, parameters: [
+      { type: 13, name: 'Outgoing SSN Reset Request', offset: 96, next: 114, reConfig: { type: 13, requestNumber: 1, responseNumber: 2,
+        lastTsn: 3, streams: [4], result: 0, nextTsns: null, newStreams: 0 } },
+    ] },
+    { type: 9, name: 'ERROR', flags: 0, offset: 116, next: 128,
+      causes: [{ code: 2, name: 'Missing Mandatory Parameter', offset: 120, next: 128, types: [] }] },
+    { type: 99, name: 'chunk type 99 (0x63)', flags: 1, offset: 128, next: 136, value: 'ff' },
+  ];
+  const packet = read(bytes, { anyChecksum: true }), shown = (it, depth = null) => inspect(it, { depth, breakLength: Infinity });
+  assert.equal(JSON.stringify(packet.chunks), JSON.stringify(wanted));
+  assert.equal(JSON.stringify(packet.header), '{"sourcePort":1,"destinationPort":2,"verificationTag":3,"checksum":0}');
+  const [, init, , , error, other] = packet.chunks, zero = "type: 32769, name: 'Zero Checksum Acceptable', offset: 52, next: 60, method: 1";
+  assert.equal(shown(other), "Chunk { type: 99, name: 'chunk type 99 (0x63)', flags: 1, offset: 128, next: 136, value: Uint8Array(1) [ 255 ] }");
+  assert.equal(shown([...parameters(init)][0]), `Parameter { ${zero} }`);
+  assert.ok(shown(init).includes(`, inboundStreams: 4, initialTsn: 5 }, parameters: [ Parameter { ${zero} }, Parameter { type: 7, `));
+  assert.equal(shown(error, 1), "Chunk { type: 9, name: 'ERROR', flags: 0, offset: 116, next: 128, causes: [ Cause [Object] ] }");
+  // Of a value that isn't one of its type its bytes are shown.
+  const [broken] = chunks(Uint8Array.from(Buffer.from('00010002000000030000000001000005ff', 'hex')));
+  assert.equal(JSON.stringify(broken), '{"type":1,"name":"INIT","flags":0,"offset":12,"next":17,"value":"ff"}');
+  const builder = new Builder({ sourcePort: 1, destinationPort: 2, verificationTag: 3, room: 16 }).addCookieAck();
+  const chunk = { type: 11, name: 'COOKIE ACK', flags: 0, offset: 12, next: 16 };
+  const its = { sourcePort: 1, destinationPort: 2, verificationTag: 3, size: 16, room: 16, chunks: [{ ...chunk, value: '' }] };
+  assert.equal(JSON.stringify(builder), JSON.stringify(its));
+  assert.equal(shown(builder, 0), 'Builder { sourcePort: 1, destinationPort: 2, verificationTag: 3, size: 16, room: 16, chunks: [Array] }');
 });

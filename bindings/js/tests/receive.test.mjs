@@ -3,7 +3,7 @@
 import assert from 'node:assert/strict';
 import { readFileSync } from 'node:fs';
 import { test } from 'node:test';
-import * as davgyuti from '../davgyuti.mjs';
+import * as davgyuti from 'davgyuti';
 
 const { Action, Builder, ChunkType, InitFault, Result, Rule, chunks, ruleName } = davgyuti;
 const bytes = hex => Uint8Array.from(Buffer.from(hex.replace(/\s/g, ''), 'hex'));

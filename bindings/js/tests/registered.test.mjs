@@ -2,7 +2,7 @@
 // What IANA's registry has beyond the kinds: lists in one another, addresses as text, and what is refused.
 import assert from 'node:assert/strict';
 import { test } from 'node:test';
-import * as davgyuti from '../davgyuti.mjs';
+import * as davgyuti from 'davgyuti';
 
 const {
   Builder, CauseCode, ChunkType, ParameterType, Result, WriteError, addresses, causes, cause, check, chunks, parameter, parameters,
@@ -61,6 +61,27 @@ test('items that are made of fields', () => {
   assert.deepEqual(registeredChunk(more).parameters.map(it => it.type), [0xc003, 0xc005]);
   assert.deepEqual(parameter(ParameterType.ECN_CAPABLE, {}).bytes, bytes('8000 0004'));
   assert.deepEqual(parameter(ParameterType.PADDING, bytes('0102')).bytes, bytes('8005 0006 0102'));
+});
+
+// draft-stewart-sctp-pktdrprep section 2: the bits T, B and M, of which M is the lowest; the dropped packet begins with its header.
+test('the flags of a chunk', () => {
+  const fields = { bandwidth: 1, queued: 2, size: 3, packet: bytes('00070009') };
+  for (const flags of [0, 1, 2, 4, 7, 0x88, 255]) {
+    const hex = `81 ${flags.toString(16).padStart(2, '0')} 0014 00000001 00000002 0003 0000 00070009`;
+    for (const [chunk] of [[readChunk(bytes(hex))], [...chunks(bytes(HEADER + hex))], read(bytes(HEADER + hex), ANY).chunks]) {
+      const found = registeredChunk(chunk, ChunkType.PKTDROP);
+      assert.deepEqual(found, { flags, ...fields });
+      assert.deepEqual(new Builder(PORTS).addRegisteredChunk(ChunkType.PKTDROP, found).lastChunk().bytes, bytes(hex));
+    }
+  }
+  assert.equal(new Builder(PORTS).addRegisteredChunk(ChunkType.PKTDROP, fields).lastChunk().flags, 0);
+  // Neither a parameter nor an error cause has some.
+  const address = parameter(ParameterType.IPV4_ADDRESS, { flags: 1, address: '192.0.2.1' });
+  assert.deepEqual([address.bytes, registeredParameter(address).flags], [bytes('0005 0008 c0000201'), undefined]);
+  for (const [flags, kind] of [[256, RangeError], [-1, RangeError], ['1', TypeError], [true, TypeError], [null, TypeError]]) {
+    assert.throws(() => new Builder(PORTS).addRegisteredChunk(ChunkType.PKTDROP, { ...fields, flags }), kind);
+    assert.throws(() => registeredChunk({ type: ChunkType.PAD, flags, valueOffset: 0, value: new Uint8Array(0) }), kind);
+  }
 });
 
 test('addresses as text', () => {

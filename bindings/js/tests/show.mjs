@@ -2,7 +2,7 @@
 // usage: node tests/show.mjs FILE. Reads packets, one a line, in hexadecimal, and prints the chunks of each, its text, and
 // the packet that answers it.
 import { readFileSync } from 'node:fs';
-import { Builder, ChunkType, ParameterType, causes, chunks, firstFault, header, parameters, text } from '../davgyuti.mjs';
+import { Builder, ChunkType, ParameterType, causes, chunks, firstFault, header, parameters, text } from 'davgyuti';
 
 const OWN = { initiateTag: 0x0da73798, aRwnd: 0x20000, outboundStreams: 4, inboundStreams: 4, initialTsn: 0x66e387ab };
 const COOKIE = new TextEncoder().encode('abcd');

@@ -5,8 +5,8 @@ import assert from 'node:assert/strict';
 import { test } from 'node:test';
 import {
   Builder, CauseCode, ChunkType, Fault, ParameterType, Result, WriteError, canonical, cause, check, dataFlags, firstFault, needsChecksum,
-  parameter, parameters, readChunk, report, seal, text, withFlags,
-} from '../davgyuti.mjs';
+  parameter, parameters, readChunk, report, seal, text, withFlags, word,
+} from 'davgyuti';
 
 const bytes = hex => Uint8Array.from(Buffer.from(hex.replace(/\s/g, ''), 'hex'));
 const PORTS = { sourcePort: 5000, destinationPort: 5001, verificationTag: 0x01020304 };
@@ -33,6 +33,24 @@ test('what a chunk that was taken back leaves is not written', () => {
   builder.addIData({ tsn: 1, stream: 2, mid: 3, payload: bytes('61') }).addChunk(ChunkType.RE_CONFIG).addReConfig({ type: 17, newStreams: 5 });
   assert.deepEqual(builder.finish({ checksum: false }), zeroed('40030015 00000001 0002 0000 00000003 00000000 61 000000'
     + '82000010 0011000c 00000000 0005 0000'));
+});
+
+test('another packet by the same builder', () => {
+  const builder = new Builder({ ...PORTS, room: 60 }).addChunk(0xfe, 255, new Uint8Array(41).fill(255)), other = { sourcePort: 1, destinationPort: 2 };
+  const before = builder.finish();
+  for (const [ports, error] of [[{ sourcePort: 65_536 }, RangeError], [{ ...other, verificationTag: -1 }, RangeError], [null, TypeError]])
+    assert.throws(() => builder.reset(ports), error);
+  assert.deepEqual(builder.finish(), before);
+  for (const [ports, header] of [[other, '0001 0002 01020304'], [{ verificationTag: 9 }, '0001 0002 00000009'], [undefined, '0001 0002 00000009']]) {
+    assert.equal(builder.reset(ports), builder);
+    assert.deepEqual([builder.size, builder.room, builder.lastChunk()], [12, 60, null]);
+    for (const add of [() => builder.addParameter(1), () => builder.removeLast()])
+      assert.throws(add, { code: Result.BAD_PLACE });
+    builder.addIData({ tsn: 1, stream: 2, mid: 3, payload: bytes('61') }).addChunk(ChunkType.RE_CONFIG).addReConfig({ type: 17, newStreams: 5 });
+    assert.deepEqual(builder.finish({ checksum: false }), bytes(`${header} 00000000 40030015 00000001 0002 0000 00000003 00000000 61 000000`
+      + '82000010 0011000c 00000000 0005 0000'));
+    assert.throws(() => builder.addCookieEcho(new Uint8Array(5)), { code: Result.NO_ROOM });
+  }
 });
 
 test('a chunk that is an object of the caller\'s is read by its value', () => {
@@ -114,7 +132,7 @@ test('checksums of zero where they are allowed', () => {
       assert.throws(() => check(packet, allowed), Fault);
       check(packet, { ...allowed, zeroChecksum: true });
       check(packet, { ...allowed, anyChecksum: true });
-      check(packet, { ...allowed, word: 0 });
+      check(packet, { ...allowed, word: word(bytes('000000000000000000000000f62e80b0')) }); // (which is 0)
       check(seal(packet), allowed);
     }
   }

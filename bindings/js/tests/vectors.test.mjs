@@ -3,7 +3,7 @@
 import assert from 'node:assert/strict';
 import { readFileSync } from 'node:fs';
 import { test } from 'node:test';
-import * as davgyuti from '../davgyuti.mjs';
+import * as davgyuti from 'davgyuti';
 
 const { Builder, CauseCode, ChunkType, FIRST_CHUNK, ParameterType, Result, causes, chunks, parameters, read } = davgyuti;
 const PORTS = { sourcePort: 5000, destinationPort: 5001, verificationTag: 0x01020304 };
@@ -154,10 +154,10 @@ const itemBytes = ({ type, code, value }) => (code === undefined ? davgyuti.para
 const shorts = number => number.toString(16).padStart(4, '0');
 
 /** An item in a packet: a chunk, or a chunk with it as its list. */
-function itemIn(level, type, value) {
+function itemIn(level, type, value, flags = 0) {
   const size = value.length / 2 + 4, padding = '00'.repeat(-size & 3);
   if (level === 'chunk')
-    return `${shorts(type << 8)}${shorts(size)}${value}${padding}`;
+    return `${shorts(type << 8 | flags)}${shorts(size)}${value}${padding}`;
   return `${level === 'cause' ? '0900' : '8200'}${shorts(size + 4)}${shorts(type)}${shorts(size)}${value}${padding}`;
 }
 
@@ -168,11 +168,11 @@ function registered({ level, type, value, fields, written = value, refused }) {
     PARTS[name] ? it.map(itemBytes) : typeof it === 'string' ? bytes(it) : it]));
   if (refused)
     return assert.throws(() => begun()[call](type, own), { name: 'WriteError', code: Result.BAD_VALUE });
-  const packet = packetOf(itemIn(level, type, value)), ways = [[...chunks(packet)]];
+  const packet = packetOf(itemIn(level, type, value, type ^ 255)), ways = [[...chunks(packet)]];
   if (davgyuti.firstFault(packet, ANY) === null)
     ways.push(read(packet, ANY).chunks);
   for (const [chunk] of ways) {
-    const it = BARE[level](chunk), found = READ[level](it), { address, addressBytes, ...rest } = found ?? {};
+    const it = BARE[level](chunk), found = READ[level](it), { address, addressBytes, flags, ...rest } = found ?? {};
     if (fields === null) {
       assert.equal(found, null);
       continue;
@@ -182,8 +182,12 @@ function registered({ level, type, value, fields, written = value, refused }) {
     const others = Object.entries({ ...rest, ...lists, ...addressBytes && { address: addressBytes } }).map(([name, of]) => [name, plainItem(of)]);
     assert.deepEqual(Object.fromEntries(others), Object.fromEntries(Object.entries(fields).map(([name, of]) => [OTHER[name] ?? camel(name), of])));
     assert.equal(READ[level](it, type ^ 1), null);
-    for (const again of [own, found])
-      assert.equal(hex(begun()[call](type, again).lastChunk().bytes).slice(level === 'chunk' ? 8 : 16), written);
+    assert.equal(flags, level === 'chunk' ? type ^ 255 : undefined);
+    for (const again of [own, found]) {
+      const chunk = begun()[call](type, again).lastChunk();
+      assert.equal(hex(chunk.bytes).slice(level === 'chunk' ? 8 : 16), written);
+      assert.equal(chunk.flags, again.flags ?? 0);
+    }
   }
   return undefined;
 }

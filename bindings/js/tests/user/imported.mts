@@ -2,9 +2,9 @@
 // What TypeScript knows of the package: this compiles, but for each line below a @ts-expect-error, which must not.
 import {
   Builder, CauseCode, Chunk, ChunkType, CookieState, Fault, FaultCode, Packet, Parameter, ParameterType, ReConfigResult, ReConfigType, Result,
-  Rule, UncheckedChunk, WriteError, brokenRules, cause as causeOf, causes, check, chunks, dataFlags, firstFault, header,
+  Rule, UncheckedChunk, WriteError, brokenRules, cause as causeOf, causes, check, chunks, dataFlags, firstFault, header, init,
   isKnownChunk, needsChecksum, openCookie, outOfTheBlue, parameter, parameters, read, readChunk, readSack, registeredCause,
-  registeredChunk, registeredParameter, ruleName, withFlags,
+  registeredChunk, registeredParameter, ruleName, withFlags, word,
 } from 'davgyuti';
 // @ts-expect-error it is no part of the interface
 import { Needed } from 'davgyuti';
@@ -113,6 +113,9 @@ builder.addReConfig({ type: ParameterType.STATE_COOKIE });
 builder.addReConfig({ type: 16, result: 7 });
 // @ts-expect-error where nothing is said, nothing is passed
 check(bytes, { word: undefined });
+check(bytes, { word: word(bytes) });
+// @ts-expect-error a word is what `word` returned, not the packet's own checksum
+check(bytes, { word: header(packet).checksum });
 
 export { cause, davgyuti, item, known, Needed, part, result, type, unknown };
 
@@ -152,7 +155,7 @@ for (const chunk of chunks(packet)) {
   // @ts-expect-error DATA has a kind of its own
   registeredChunk(chunk, ChunkType.DATA);
   if (asconf)
-    builder.addRegisteredChunk(ChunkType.ASCONF, asconf);
+    numbers.push(builder.addRegisteredChunk(ChunkType.ASCONF, asconf).size, asconf.flags);
 }
 builder.addRegisteredChunk(ChunkType.ASCONF, { sequenceNumber: 1, address: bytes, parameters: [
   parameter(ParameterType.ADD_IP_ADDRESS, { correlationId: 1, address: '192.0.2.1' }),
@@ -192,3 +195,8 @@ for (const chunk of read(bytes).chunks) {
 }
 // @ts-expect-error it is no list
 readSack(readChunk(bytes), { blocks: 5 });
+
+// It begins with bytes, or what has them.
+init(bytes).then(() => check(bytes));
+// @ts-expect-error the name of a file is none
+init('dcsctp.wasm');
