@@ -165,7 +165,7 @@ class Responder:
             peer_port=header.source_port,
             outbound_streams=OUTBOUND_STREAMS,
             inbound_streams=init.outbound_streams,
-            addresses=of_parameters(
+            extra=of_parameters(
                 (
                     *([self.ties()] if is_there else []),
                     *own,
@@ -202,7 +202,7 @@ class Responder:
         numbers = cookie.peer_port, cookie.local_port, cookie.local_tag
         if (header.source_port, header.destination_port, header.verification_tag) != numbers:
             return b""
-        kept = parameters_of(cookie.addresses)
+        kept = parameters_of(cookie.extra)
         it = self.association if self.state is not State.CLOSED else None
         is_local, is_next = it is not None and cookie.local_tag == it.local_tag, cookie.local_tag == self.next.tag
         is_peers = it is not None and cookie.peer_tag == it.peer_tag

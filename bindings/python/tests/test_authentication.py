@@ -10,24 +10,26 @@ import davgyuti
 from davgyuti import BadPlace, Cookie, CookieError, CookieState, PacketBuilder, registered
 from support import of_hex
 
-KEY, ADDRESSES = b"a key", bytes([192, 0, 2, 1])
+KEY = b"a key"
 SAYS = Cookie(
     created=1000000,
     lifespan=60000000,
     local_tag=0x01020304,
     peer_tag=0x05060708,
+    local_tie_tag=0x11121314,
+    peer_tie_tag=0x15161718,
     local_initial_tsn=0x090A0B0C,
     peer_initial_tsn=0x0D0E0F10,
     local_port=5000,
     peer_port=5001,
     outbound_streams=10,
     inbound_streams=20,
-    addresses=ADDRESSES,
+    extra=bytes([192, 0, 2, 1]),
 )
 # (as tests/c/auth.c has it)
 SEALED = of_hex(
-    "0f4058d455d989f64110ebd32badc1d936581848510b55101d06d10654512b4e00000000000f4240"
-    "00000000039387000102030405060708090a0b0c0d0e0f1013881389000a0014c0000201"
+    "0e7f54ce817b4159983e9114aa8511194e5e71af023a055c38cb78f905a9ac0400000000000f4240"
+    "000000000393870001020304050607081112131415161718090a0b0c0d0e0f1013881389000a0014c0000201"
 )
 
 
@@ -64,17 +66,18 @@ class Cookies(unittest.TestCase):
         for key, data in ((KEY[:4], SEALED), (b"", SEALED), (b"", b"")):
             self.assertEqual(self.refused(key, data, 1000000), invalid)
 
-    def test_without_a_key_and_addresses(self) -> None:
-        says = replace(SAYS, addresses=b"")
+    def test_without_a_key_and_extra(self) -> None:
+        says = replace(SAYS, extra=b"")
         data = davgyuti.seal_cookie(b"", says)
-        self.assertEqual(data, hmac.digest(b"", SEALED[32:72], "sha256") + SEALED[32:72])
+        self.assertEqual(data, hmac.digest(b"", SEALED[32:80], "sha256") + SEALED[32:80])
         self.assertEqual(davgyuti.open_cookie(b"", data, 1000000), says)
 
     def test_numbers(self) -> None:
         """The largest of each field has a place in it, and the next one has none."""
         for name, bits in (
             *((it, 64) for it in ("created", "lifespan")),
-            *((it, 32) for it in ("local_tag", "peer_tag", "local_initial_tsn", "peer_initial_tsn")),
+            *((it, 32) for it in ("local_tag", "peer_tag", "local_tie_tag", "peer_tie_tag")),
+            *((it, 32) for it in ("local_initial_tsn", "peer_initial_tsn")),
             *((it, 16) for it in ("local_port", "peer_port", "outbound_streams", "inbound_streams")),
         ):
             says = replace(SAYS, **{name: 2**bits - 1})

@@ -1,6 +1,7 @@
 # SPDX-License-Identifier: Apache-2.0
 """The limits of a packet that is written, and what is refused: nothing is changed then."""
 
+import inspect
 import typing
 import unittest
 from collections.abc import Callable
@@ -8,7 +9,7 @@ from dataclasses import MISSING, fields, replace
 from typing import Any
 
 import davgyuti
-from davgyuti import PacketBuilder, Result
+from davgyuti import PacketBuilder, Result, _kinds
 from support import of_hex
 from test_vectors import HINTS, RAW
 
@@ -105,12 +106,30 @@ class Lists(unittest.TestCase):
         builder = self.builder()
         with self.assertRaises(KeyError), builder.error() as error:
             raise KeyError
+        self.assertRaises(davgyuti.BadPlace, error.cause, davgyuti.NoUserData(1))
+        self.assertEqual(len(builder), 16)
         # (where that chunk was, there are others: the library alone would take their lists for its own)
         builder.abort("why")
         with self.assertRaises(davgyuti.BadPlace) as caught:
             error.cause(davgyuti.NoUserData(1))
         self.assertEqual(str(caught.exception), "the chunk isn't the packet's last one any more")
         self.assertEqual(bytes(builder)[16:], of_hex("06 00 000b  000c 0007 77687900"))
+
+    def test_after_a_value_with_padding(self) -> None:
+        builder = self.builder()
+        before = bytes(builder)
+        with self.assertRaises(KeyError), builder.chunk(200, 1, b"abc"):
+            raise KeyError
+        self.assertEqual(bytes(builder), before)
+        builder.chunk(200, 1, b"abc").parameter(davgyuti.ForwardTsnSupported())
+        self.assertEqual(bytes(builder)[16:], of_hex("c8 01 000c  616263 00  c000 0004"))
+
+    def test_too_long(self) -> None:
+        builder = PacketBuilder(1, 2, 3)
+        error = builder.error()
+        for size, kind in ((65528, davgyuti.NoRoom), (65529, davgyuti.BadValue)):
+            self.assertRaises(kind, error.cause, davgyuti.ProtocolViolation(bytes(size - 1)))
+            self.assertEqual(bytes(builder)[12:], of_hex("09 00 0004"))
 
     def test_writers_within_one_another(self) -> None:
         builder = self.builder()
@@ -159,7 +178,7 @@ class Refused(unittest.TestCase):
         for kind in (*HINTS, *RAW.values()):
             hints = typing.get_type_hints(kind)
             part = kind(**{it.name: values.get(hints[it.name], ()) for it in fields(kind) if it.default is MISSING})
-            for name in [it.name for it in fields(kind) if hints[it.name] is int]:
+            for name in [it.name for it in fields(kind) if hints[it.name] is int and it.name != "reserved"]:
                 most = 2 ** (8 if kind is davgyuti.RawChunk else 16 if name in SHORT else 32) - 1
                 for number in (0, most, True, Number(most)):
                     bytes(replace(part, **{name: number}))
@@ -195,6 +214,42 @@ class Refused(unittest.TestCase):
         ):
             with self.subTest(text):
                 self.refused(error, write, text)
+
+    def test_arguments(self) -> None:
+        """A method takes the fields of its kind, with its defaults, by whichever name is equal."""
+        for kind in HINTS:
+            method = getattr(PacketBuilder, kind.type.name.lower()) if issubclass(kind, _kinds.ChunkPart) else None
+            if method is None or kind in (davgyuti.Heartbeat, davgyuti.HeartbeatAck, davgyuti.Abort):
+                continue
+            words = [*inspect.signature(method).parameters.values()][1:]
+            own = {it.name: it for it in fields(kind) if it.name not in ("offset", "parameters", "causes")}
+            self.assertEqual({it.name for it in words}, {*own})
+            needed: dict[str, Any] = {}
+            for number, it in enumerate(words, 1):
+                default = own[it.name].default
+                self.assertEqual(it.default, it.empty if default is MISSING else default)
+                if default is MISSING:
+                    needed["".join(it.name)] = b"a" if HINTS[kind][it.name] is bytes else number
+            more = {it.name: () for it in fields(kind) if it.name in ("parameters", "causes")}
+            builder, other = PacketBuilder(1, 2, 3), PacketBuilder(1, 2, 3)
+            writer = method(builder, **needed)
+            other.add(kind(**needed, **more))
+            self.assertEqual(bytes(builder), bytes(other))
+            self.assertEqual(isinstance(writer, davgyuti.ChunkWriter), bool(more))
+            for name in needed:
+                without = {it: value for it, value in needed.items() if it != name}
+                self.refused(TypeError, lambda it: method(it, **without), f"{kind.__name__} needs {name}")
+            self.refused(TypeError, lambda it: method(it, **needed, other=1), f"{kind.__name__} has no other")
+            self.refused(TypeError, lambda it: method(it, *range(9)), "arguments without a name, and got 9")
+        self.refused(TypeError, lambda it: it.sack(1, 2, a_rwnd=3), "Sack got a_rwnd twice")
+        self.assertRaisesRegex(TypeError, "^a PacketBuilder makes it$", davgyuti.ChunkWriter)
+        for words in ((), (1,), (1, 2, 3, 4)):
+            self.assertRaises(TypeError, PacketBuilder, *words)
+            self.refused(TypeError, lambda it: it.reset(*words))
+        builder = PacketBuilder(verification_tag=3, source_port=1, destination_port=2, limit=12)
+        self.assertEqual((bytes(builder), builder.limit), (bytes(PacketBuilder(1, 2, 3)), 12))
+        self.assertEqual(PacketBuilder(1, 2, 3, limit=2**100).limit, 65532)
+        self.assertRaises(TypeError, PacketBuilder, 1, 2, 3, limit="12")
 
     def test_what_a_number_does(self) -> None:
         """What runs while a chunk is written may write to the same builder: that comes before it, whole."""

@@ -65,7 +65,7 @@ class Hostile(unittest.TestCase):
                     self.assertEqual((fault.code, fault.offset), (davgyuti.Result.FAULT_SIZE, size))
 
     def test_no_memory_is_lost(self) -> None:
-        data = [*mutated(300, 5), *packets()]
+        data, full = [*mutated(300, 5), *packets()], davgyuti.PacketBuilder(1, 2, 3, limit=12)
 
         def work() -> None:
             builder = davgyuti.PacketBuilder(1, 2, 3, limit=200)
@@ -80,6 +80,8 @@ class Hostile(unittest.TestCase):
                 davgyuti.first_fault(it), [*davgyuti.raw_items(it)]
             for wrong in ([(1, 2**16)], [(1, 2, 3)], 7):
                 self.assertRaises((ValueError, TypeError), builder.sack, 1, 2, wrong)
+            for _ in range(40):
+                self.assertRaises(davgyuti.NoRoom, full.error)
 
         work()
         gc.collect()

@@ -149,6 +149,22 @@ class Program(unittest.TestCase):
             self.assertEqual((process.wait(600), process.stderr.read()), (130, "python -m davgyuti: interrupted\n"))
 
 
+class Import(unittest.TestCase):
+    def test_registered_is_imported_late(self) -> None:
+        """Where it is asked for, by whichever way: a program that needs it not doesn't wait for it."""
+        for ask in (
+            "davgyuti.registered.Ecne", "davgyuti.RawChunk(12, 0, bytes(4)).registered()", "davgyuti.addresses(())",
+            "davgyuti.PacketBuilder(1, 2, 3).init_ack(initiate_tag=1, a_rwnd=1, outbound_streams=1, inbound_streams=1, initial_tsn=1)"
+            ".addresses(())",
+        ):
+            code = f"import sys, davgyuti; is_there = lambda: 'davgyuti.registered' in sys.modules; print(is_there()); {ask}; print(is_there())"
+            self.assertEqual(run("-c", code).stdout, "False\nTrue\n", ask)
+        code = "from davgyuti import *; print(registered.Ecne.__module__); import davgyuti; davgyuti.register"
+        done = run("-c", code)
+        self.assertEqual(done.stdout, "davgyuti.registered\n")
+        self.assertIn("AttributeError: module 'davgyuti' has no attribute 'register'", done.stderr)
+
+
 class Types(unittest.TestCase):
     def test_mypy(self) -> None:
         words = [*mypy(), os.path.dirname(davgyuti.__file__)]

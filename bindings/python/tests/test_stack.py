@@ -65,7 +65,7 @@ class TypedValues(unittest.TestCase):
         self.assertEqual(davgyuti.parameter(1), davgyuti.HeartbeatInfo(b""))
         self.assertIsNone(davgyuti.parameter(1, bytearray(b"a")).offset)
         # reserved bytes
-        self.assertEqual(davgyuti.parameter(17, of_hex("00000001 0002 ffff")).value, of_hex("00000001 0002 0000"))
+        self.assertEqual(davgyuti.parameter(17, of_hex("00000001 0002 ffff")).value, of_hex("00000001 0002 ffff"))
         for make in (davgyuti.parameter, davgyuti.cause):
             self.assertRaises(ValueError, make, 65536)
 
@@ -107,7 +107,7 @@ class ZeroChecksums(unittest.TestCase):
             for more in ("zero_checksum", "any_checksum"):
                 self.assertIsNone(davgyuti.first_fault(data, replace(ALLOWED, **{more: True})))
             # (a word of 0 is right where the field is)
-            self.assertIsNone(davgyuti.first_fault(data, ALLOWED, word=0))
+            self.assertIsNone(davgyuti.first_fault(data, ALLOWED, word=davgyuti.Word(0)))
         for text in self.OTHERS:
             data = HEADER + of_hex(text)
             packet = davgyuti.Packet(data, ALLOWED)

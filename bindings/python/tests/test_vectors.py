@@ -7,7 +7,7 @@ import random
 import typing
 import unittest
 from collections.abc import Iterator
-from dataclasses import fields
+from dataclasses import fields, replace
 from ipaddress import IPv4Address, IPv6Address, ip_address
 from typing import Any
 
@@ -44,6 +44,11 @@ def own(it: Any) -> dict[str, Any]:
     return {field.name: getattr(it, field.name) for field in fields(it) if field.name != "offset"}
 
 
+def by_fields_alone(it: Any) -> dict[str, Any]:
+    """The same, without a chunk's flags."""
+    return {name: getattr(it, name) for name in it.fields}
+
+
 def made(level: str, said: dict[str, Any]) -> Any:
     """The value that is said of a chunk, a parameter or an error cause."""
     if "kind" not in said:
@@ -70,6 +75,10 @@ def by_method(builder: PacketBuilder, chunk: Any) -> None:
     writer = builder.chunk(**{"type": chunk.type, **given}) if is_raw else getattr(builder, chunk.type.name.lower())(**given)
     for it in items:
         writer.parameter(it) if hasattr(it, "type") else writer.cause(it)
+
+
+# What a `repr` evaluates among.
+NAMES = {**vars(davgyuti), **vars(registered), "IPv4Address": IPv4Address, "IPv6Address": IPv6Address}
 
 
 def offsets(chunk: Any) -> list[int | None]:
@@ -125,6 +134,7 @@ class Kinds(unittest.TestCase):
         self.assertEqual(found, chunks, text)
         # (of the same classes, too: a bool isn't a number)
         self.assertEqual(repr(found), repr(tuple(davgyuti.chunks(data))), text)
+        self.assertEqual(eval(repr(found), NAMES), found, text)
         self.assertEqual([*map(offsets, found)], [*map(offsets, davgyuti.chunks(data))], text)
         builder, other = PacketBuilder(5000, 5001, 0x01020304), PacketBuilder(5000, 5001, 0x01020304)
         for chunk, (raw, items) in zip(found, packet.raw_items(), strict=True):
@@ -136,6 +146,7 @@ class Kinds(unittest.TestCase):
             for part, item in zip(getattr(chunk, "parameters", getattr(chunk, "causes", ())), items, strict=True):
                 again = (davgyuti.parameter if hasattr(part, "type") else davgyuti.cause)(item.type, item.value)
                 self.assertEqual((again, again.offset, item.offset), (part, None, part.offset), text)
+                self.assertEqual((part.value, again.value), (item.value, item.value), text)
                 self.assertEqual(data[part.offset : part.offset + 2], bytes(part)[:2])
         self.assertEqual(bytes(builder)[12:].hex(), written, text)
         self.assertEqual(bytes(other), bytes(builder), text)
@@ -181,13 +192,36 @@ class Registered(unittest.TestCase):
                     continue
                 found.add(kind)
                 self.assertEqual((type(by_fields), by_fields.offset), (kind, 4))
-                self.assertEqual({name: said_of(part) for name, part in own(by_fields).items()}, it["fields"])
+                self.assertEqual(eval(repr(by_fields), NAMES), by_fields)
+                self.assertEqual({name: said_of(part) for name, part in by_fields_alone(by_fields).items()}, it["fields"])
                 items = getattr(by_fields, "parameters", getattr(by_fields, "causes", ()))
                 for part in items:
                     self.assertEqual(value[part.offset - 8 : part.offset - 6], bytes(part)[:2])
                 written = bytes.fromhex(it.get("written", it["value"]))
                 self.assertEqual((by_fields.value, kind(**values).value), (written, written))
         self.assertEqual(found, {kind for kinds in self.KINDS.values() for kind in kinds.values()})
+
+    def test_flags(self) -> None:
+        """Those of each chunk, as they are; and the bits C, T, B and M of PKTDROP (draft-stewart-sctp-pktdrprep)."""
+        values = bytes.fromhex("0000ffff 00000400 05dc 0000  0102")
+        for flags, said in ((0, ()), (1, ("MIDDLEBOX",)), (2, ("BAD_CHECKSUM",)), (4, ("TRUNCATED",)), (0x8D, ("MIDDLEBOX", "TRUNCATED"))):
+            data = b"\x81" + bytes((flags,)) + b"\0\x12" + values
+            dropped = davgyuti.read_chunk(data).registered()
+            assert isinstance(dropped, registered.Pktdrop)
+            self.assertEqual(dropped, registered.Pktdrop(0xFFFF, 0x400, 0x5DC, b"\1\2", flags=flags))
+            self.assertEqual(bytes(dropped), data)
+            bits = sum(getattr(registered.Pktdrop, name) for name in said)
+            self.assertEqual(dropped.flags & 7, bits)
+        self.assertNotEqual(dropped, registered.Pktdrop(0xFFFF, 0x400, 0x5DC, b"\1\2"))
+        for kind in registered.CHUNKS.values():
+            given: dict[str, Any] = dict.fromkeys(kind.fields, 0) | {"address": ip_address("192.0.2.1"), "counts": (0, 0, 0)}
+            chunk = kind(**{name: given[name] for name, form in kind.fields.items() if form not in ("bytes", "parameters")}, flags=0xA5)
+            self.assertEqual(bytes(chunk)[:2], bytes((chunk.type, 0xA5)))
+            self.assertEqual(davgyuti.read_chunk(bytes(chunk)).registered(), chunk)
+            for wrong in (-1, 256):
+                for it in (replace(chunk, flags=wrong), RAW["chunks"](chunk.type, wrong, chunk.value)):
+                    self.assertRaisesRegex(ValueError, f"^flags has to be 0 to 255, and is {wrong}$", bytes, it)
+                self.assertRaises(ValueError, it.registered)
 
 
 def init_of(it: dict[str, Any]) -> Any:

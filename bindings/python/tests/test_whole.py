@@ -2,11 +2,16 @@
 """What is said of a whole packet: faults, texts, the canonical packet."""
 
 import copy
+import inspect
 import pickle
+import types
 import unittest
+import weakref
+from dataclasses import MISSING, fields
 from functools import partial
 
 import davgyuti
+from davgyuti import _fast
 from support import ANY_CHECKSUM, of_hex
 
 COOKIE_ACK = of_hex("1388 1388 4d2df52d 67db78b5  0b 00 0004")
@@ -43,26 +48,35 @@ class Check(unittest.TestCase):
 
     def test_own_word(self) -> None:
         word = davgyuti.word(COOKIE_ACK)
-        self.assertEqual(word, 0x67DB78B5)
+        self.assertEqual((word, type(word)), (0x67DB78B5, davgyuti.Word))
         davgyuti.check(COOKIE_ACK, word=word)
         self.assertEqual(davgyuti.Packet(COOKIE_ACK, word=word).word, word)
         crc = crc32c(COOKIE_ACK[:8] + bytes(4) + COOKIE_ACK[12:])
-        self.assertEqual(int.from_bytes(crc.to_bytes(4, "little"), "big"), word)
+        self.assertEqual((own := davgyuti.Word.from_crc32c(crc), type(own)), (word, davgyuti.Word))
+        for wrong in (-1, 2**32):
+            self.assertRaisesRegex(ValueError, f"^crc has to be 0 to 4294967295, and is {wrong}$", davgyuti.Word.from_crc32c, wrong)
+        # (a number may be what the packet has, which is no word)
+        packet = davgyuti.Packet(COOKIE_ACK)
+        self.assertIs(type(packet.word), davgyuti.Word)
+        for function in (davgyuti.check, davgyuti.first_fault, davgyuti.Packet, davgyuti.canonical, davgyuti.text, davgyuti.report):
+            for number in (packet.header.checksum, 0, False, "1"):
+                with self.assertRaisesRegex(TypeError, f"^word has to be a Word, and is {number!r}$"):
+                    function(COOKIE_ACK, word=number)  # type: ignore[arg-type]
         for wrong in (0, word ^ 1, crc):
-            fault = davgyuti.first_fault(COOKIE_ACK, word=wrong)
+            fault = davgyuti.first_fault(COOKIE_ACK, word=davgyuti.Word(wrong))
             assert fault
             self.assertEqual(fault.code, davgyuti.Result.FAULT_CHECKSUM)
         # A word of 0 is a word too.
         zero = COOKIE_ACK[:8] + bytes(4) + COOKIE_ACK[12:]
         for function in (davgyuti.check, davgyuti.Packet, davgyuti.canonical, davgyuti.text, davgyuti.report):
-            function(zero, word=0)
+            function(zero, word=davgyuti.Word(0))
             with self.assertRaises(davgyuti.Fault):
-                function(COOKIE_ACK, word=0)
+                function(COOKIE_ACK, word=davgyuti.Word(0))
         text = "source=5000 destination=5000 tag=1294857517 checksum=0\nCOOKIE-ACK"
-        self.assertEqual(davgyuti.Packet(zero, word=0).text(), text)
+        self.assertEqual(davgyuti.Packet(zero, word=davgyuti.Word(0)).text(), text)
         for outside in (-1, 2**32):
             with self.assertRaises(ValueError):
-                davgyuti.check(COOKIE_ACK, word=outside)
+                davgyuti.check(COOKIE_ACK, word=davgyuti.Word(outside))
 
     def test_fault_offset(self) -> None:
         # (the vectors have those of all other faults)
@@ -176,9 +190,62 @@ class Value(unittest.TestCase):
             davgyuti.header(COOKIE_ACK[:11])
         self.assertEqual((caught.exception.code, caught.exception.offset), (davgyuti.Result.FAULT_SIZE, 11))
 
+        self.assertEqual(davgyuti.Packet(packet), packet)
+        with self.assertRaises(davgyuti.Fault):
+            davgyuti.Packet(davgyuti.Packet(COOKIE_ACK[:-1] + b"\5" + b"ab", ANY_CHECKSUM))
+
+    def test_reprs(self) -> None:
+        builder = davgyuti.PacketBuilder(5000, 5001, 7)
+        builder.cookie_ack()
+        self.assertEqual(repr(builder), "<PacketBuilder from port 5000 to 5001, tag 0x00000007, 16 bytes>")
+        self.assertEqual(repr(davgyuti.PacketBuilder.__new__(davgyuti.PacketBuilder)), "<PacketBuilder>")
+        for it in (
+            davgyuti.Policy(), davgyuti.Policy(zero_checksum=True, strict_padding=True), davgyuti.Fault(davgyuti.Result.FAULT_SIZE, 3),
+            davgyuti.ReConfigResponse(1, davgyuti.ReConfigResult.IN_PROGRESS), davgyuti.RawChunk(davgyuti.ChunkType.AUTH, 1, b"\0"),
+            davgyuti.Action.SKIP, davgyuti.Rule.TAG_ZERO,
+        ):
+            again = eval(repr(it), vars(davgyuti))
+            self.assertEqual((again, type(again)), (it, type(it)))
+        self.assertEqual(repr(ANY_CHECKSUM), "Policy(any_checksum=True)")
+
+    def test_classes(self) -> None:
+        """Each says where it is found; what reads and writes kinds names their union."""
+        for name in davgyuti.__all__:
+            it = getattr(davgyuti, name)
+            if isinstance(it, type):
+                self.assertEqual((it.__module__, it.__qualname__), ("davgyuti", name))
+            if callable(it) and not isinstance(it, types.UnionType):
+                for member in (it, *(vars(it).values() if isinstance(it, type) else ())):
+                    if inspect.isfunction(member):
+                        self.assertNotIn("_kinds.", str(inspect.signature(member)))
+        self.assertEqual(inspect.signature(davgyuti.Packet.chunks).return_annotation, "tuple[Chunk, ...]")
+        cookie = davgyuti.Cookie(**dict.fromkeys((it.name for it in fields(davgyuti.Cookie) if it.default is MISSING), 0))
+        for it in (
+            davgyuti.CookieAck(), davgyuti.RawParameter(1), davgyuti.ProtocolViolation(b"a"), davgyuti.registered.Ecne(1),
+            davgyuti.Policy(), davgyuti.header(COOKIE_ACK), davgyuti.PacketBuilder(1, 2, 3), cookie,
+        ):
+            self.assertIs(weakref.ref(it)(), it)
+
+    def test_reserved_bytes(self) -> None:
+        """`value` is what was read, what is written has zeros."""
+        for kind in (davgyuti.AddOutgoingStreams, davgyuti.AddIncomingStreams):
+            data = kind.type.to_bytes(2, "big") + of_hex("000c 2bc42959 8002000c")
+            (chunk,) = davgyuti.chunks(bytes(12) + of_hex("82 00 0010") + data)
+            assert isinstance(chunk, davgyuti.ReConfig)
+            (it,) = chunk.parameters
+            for again in (it, davgyuti.parameter(kind.type, data[4:]), pickle.loads(pickle.dumps(it)), copy.copy(it)):
+                assert isinstance(again, kind)
+                self.assertEqual((again, again.value), (kind(0x2BC42959, 0x8002), data[4:]))
+                self.assertEqual((bytes(again), again.reserved), (data[:10] + bytes(2), 12))
+            self.assertEqual((bytes(chunk), chunk.value), (of_hex("82 00 0010") + data[:10] + bytes(2), data[:10] + bytes(2)))
+            for wrong in (-1, 65536):
+                with self.assertRaisesRegex(ValueError, f"^reserved has to be 0 to 65535, and is {wrong}$"):
+                    kind(1, 2, reserved=wrong).value
+
     def test_no_checksum_is_computed_where_any_is_accepted(self) -> None:
         packet = davgyuti.Packet(COOKIE_ACK[:8] + bytes(4) + COOKIE_ACK[12:], ANY_CHECKSUM)
         self.assertIsNone(packet._word)
+        self.assertEqual(_fast.read(bytes(packet), ANY_CHECKSUM, None), (None, 1))
         # (the policy is kept)
         self.assertEqual((packet.canonical(), packet.text()[:12]), (bytes(packet), "source=5000 "))
         self.assertEqual((packet.word, packet.report().splitlines()[1]), (0x67DB78B5, "checksum 0x00000000: zero"))
@@ -192,6 +259,8 @@ class Value(unittest.TestCase):
         self.assertEqual((davgyuti.chunk_name(130), davgyuti.chunk_name(99)), ("RE-CONFIG", "chunk type 99 (0x63)"))
         self.assertEqual((davgyuti.parameter_name(5), davgyuti.parameter_name(0x8006)), ("IPv4 Address", "parameter type 32774 (0x8006)"))
         self.assertEqual((davgyuti.cause_name(0x105), davgyuti.cause_name(99)), ("Unsupported HMAC Identifier", "cause code 99 (0x0063)"))
+        for name in (davgyuti.chunk_name, davgyuti.parameter_name, davgyuti.cause_name):
+            self.assertRaisesRegex(TypeError, "^'str' object cannot be interpreted as an integer$", name, "x")
         self.assertEqual((davgyuti.ChunkType.is_known(15), davgyuti.ChunkType.is_known(99)), (True, False))
         self.assertEqual(f"{davgyuti.Action.SKIP} {davgyuti.Action.SKIP:d} {davgyuti.ChunkType.SACK}", "SKIP 2 3")
         self.assertEqual([(it.reports, it.skips) for it in davgyuti.Action], [(False, False), (True, False), (False, True), (True, True)])

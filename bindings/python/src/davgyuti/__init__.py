@@ -22,7 +22,9 @@ Any number of threads may call at once; a list that is written call by call belo
 child of a process with threads `text` may not be called. A handler of `signal` may call everything.
 """
 
-from . import _kinds, _numbers, registered
+from typing import TYPE_CHECKING, Any
+
+from . import _kinds, _numbers
 from ._authentication import Cookie, is_listed, open_cookie, seal_cookie, shared_key, verify_auth
 from ._builder import PacketBuilder, validate_sack
 from ._kinds import *  # noqa: F401, F403
@@ -39,13 +41,13 @@ from ._receiving import (
 from ._registered import addresses
 from ._values import (
     MAX_PACKET_SIZE, Address, BadPlace, BadValue, Buffer, CookieError, Error, Fault, Header, NoRoom, Policy,
-    TooLong, WriteError, cause_name, chunk_name, parameter_name,
+    TooLong, Word, WriteError, cause_name, chunk_name, parameter_name,
 )
 from ._writing import ChunkWriter, clean_blocks, seal, set_tag, sign_auth
 
 __all__ = [
     "Address", "BadPlace", "BadValue", "Buffer", "ChunkWriter", "Cookie", "CookieError", "Error", "Fault", "Header",
-    "MAX_PACKET_SIZE", "NoRoom", "Packet", "PacketBuilder", "Policy", "TooLong", "WriteError", "__version__",
+    "MAX_PACKET_SIZE", "NoRoom", "Packet", "PacketBuilder", "Policy", "TooLong", "Word", "WriteError", "__version__",
     "addresses", "adds_addresses", "broken_rules", "canonical", "cause", "cause_name", "check", "chunk_name",
     "chunks", "clean_blocks", "first_fault", "header", "init_abort", "init_fault", "init_refusal", "is_listed",
     "needs_checksum", "open_cookie", "out_of_the_blue", "parameter", "parameter_name", "raw_chunks", "raw_items",
@@ -54,3 +56,19 @@ __all__ = [
 ]
 __all__ += _kinds.__all__
 __all__ += _numbers.__all__
+
+for _it in [globals().get(_name) for _name in __all__]:
+    if isinstance(_it, type):
+        _it.__module__ = __name__
+
+if TYPE_CHECKING:
+    from . import registered
+else:
+
+    def __getattr__(name: str) -> Any:
+        """Imports `registered` where it is first asked for (PEP 562): it takes as long as a third of all else."""
+        if name != "registered":
+            raise AttributeError(f"module {__name__!r} has no attribute {name!r}")
+        from importlib import import_module
+
+        return import_module(".registered", __name__)

@@ -1,6 +1,8 @@
 # SPDX-License-Identifier: Apache-2.0
 """What is authenticated, under keys of the caller: chunks after AUTH (RFC 4895), and State Cookies (RFC 9260 section 5.1.3)."""
 
+from __future__ import annotations
+
 from ctypes import byref, c_uint64
 from dataclasses import dataclass
 from itertools import chain
@@ -8,9 +10,9 @@ from itertools import chain
 from . import _header as c
 from ._library import functions, number, sized, struct_of, written
 from ._numbers import CookieState
-from ._values import Buffer, CookieError
+from ._values import Buffer, CookieError, Referable
 
-# Before the place of a cookie's addresses are its numbers.
+# Before the place of a cookie's further bytes are its numbers.
 _PLACE = -2
 
 
@@ -37,7 +39,7 @@ def verify_auth(key: Buffer, data: Buffer) -> bool:
 
 
 @dataclass(slots=True, unsafe_hash=True, kw_only=True)
-class Cookie:
+class Cookie(Referable):
     """What a State Cookie says: what its sender needs to set up the association, and for how long (RFC 9260 section 5.1.3).
     *Local* is the end that seals and opens it."""
 
@@ -49,6 +51,10 @@ class Cookie:
     """The initiate tag of the INIT ACK."""
     peer_tag: int
     """That of the INIT."""
+    local_tie_tag: int = 0
+    """The Local Tie-Tag (RFC 9260 section 5.2.2): 0 where the INIT came without an association."""
+    peer_tie_tag: int = 0
+    """The Peer's Tie-Tag, likewise."""
     local_initial_tsn: int
     """The initial TSN of the INIT ACK."""
     peer_initial_tsn: int
@@ -58,16 +64,16 @@ class Cookie:
     outbound_streams: int
     """On which the local end sends."""
     inbound_streams: int
-    addresses: bytes = b""
-    """Bytes of yours: the peer's addresses, the parameters of its INIT."""
+    extra: bytes = b""
+    """Further bytes of yours, of any length: the peer's addresses, the parameters of its INIT, AUTH's key vectors."""
 
 
 def seal_cookie(key: Buffer, cookie: Cookie) -> bytes:
-    """Returns a State Cookie with an HMAC over what it says (RFC 9260 section 5.1.3): 72 bytes, and the addresses. Let the key be
-    32 random bytes that nobody else knows."""
-    addresses, count = sized(cookie.addresses)
+    """Returns a State Cookie with an HMAC over what it says (RFC 9260 section 5.1.3): 80 bytes, and the extra ones. Let the key
+    be 32 random bytes that nobody else knows."""
+    extra, count = sized(cookie.extra)
     says = struct_of(c.Cookie, cookie, _PLACE)
-    return written(functions.dcsctp_seal_cookie, 72 + count, *sized(key), byref(says), addresses, count)
+    return written(functions.dcsctp_seal_cookie, 80 + count, *sized(key), byref(says), extra, count)
 
 
 def open_cookie(key: Buffer, cookie: Buffer, now: int) -> Cookie:
@@ -82,8 +88,8 @@ def open_cookie(key: Buffer, cookie: Buffer, now: int) -> Cookie:
     state = functions.dcsctp_open_cookie(*sized(key), data, count, time, byref(out), byref(staleness))
     if state == CookieState.INVALID:
         raise CookieError(CookieState.INVALID)
-    start, size = out.addresses_offset, out.addresses_size
-    says = Cookie(**{name: getattr(out, name) for name, _ in c.Cookie._fields_[:_PLACE]}, addresses=data[start : start + size])
+    start, size = out.extra_offset, out.extra_size
+    says = Cookie(**{name: getattr(out, name) for name, _ in c.Cookie._fields_[:_PLACE]}, extra=data[start : start + size])
     if state == CookieState.STALE:
         raise CookieError(CookieState.STALE, staleness.value, says)
     return says

@@ -1,20 +1,24 @@
 # SPDX-License-Identifier: Apache-2.0
 """Writing packets."""
 
+from __future__ import annotations
+
 from collections.abc import Iterable
 from ctypes import byref, c_size_t, c_uint16
 
 from . import _fast, _header, _kinds
+from ._kinds import Heartbeat, HeartbeatAck, InitAck, ReConfig, Sack
 from ._library import functions, number, numbers, sized, to_bytes
-from ._methods import Methods
 from ._numbers import Result
-from ._values import MAX_PACKET_SIZE, BadValue, Buffer
+from ._reading import described
+from ._values import BadValue, Buffer
 from ._writing import ChunkWriter, listed, no_auth, reported, stop
 
 
-class PacketBuilder(Methods):
-    """Writes a packet (RFC 9260 section 3): a method for each kind of chunk, and `seal` for its bytes. `reset` begins the next
-    packet in the same memory. `bytes` of it is the packet with a checksum field of zero, and `len` how many there are.
+class PacketBuilder(_fast.Builder):
+    """Writes a packet (RFC 9260 section 3): a method for each kind of chunk, and `seal` for its bytes. It has at most `limit`
+    bytes, and never more than 65,532; NoRoom where the limit is below 12. `reset` begins the next packet in the same memory.
+    `bytes` of it is the packet with a checksum field of zero, and `len` how many there are.
 
     The values are written as they are: whether RFC 9260 lets them be sent, or `check` would accept the packet, isn't
     checked. A method that raises has changed nothing: NoRoom where the packet would have more bytes than the limit,
@@ -22,17 +26,10 @@ class PacketBuilder(Methods):
     is atomic, in any number of threads; but a list that is written call by call, by a ChunkWriter, belongs to one thread:
     no other may add to the packet, or take a chunk back, until it is complete. `add` writes a whole list in one call."""
 
-    def __init__(
-        self, source_port: int, destination_port: int, verification_tag: int, *, limit: int = MAX_PACKET_SIZE
-    ) -> None:
-        """Begins a packet of at most `limit` bytes, and never more than 65,532; NoRoom where the limit is below 12."""
-        self._open(limit)
-        self._begin(source_port, destination_port, verification_tag)
+    __slots__ = ("__weakref__",)
 
-    def reset(self, source_port: int, destination_port: int, verification_tag: int) -> None:
-        """Begins another packet in the memory of the one before, which is gone, as is what was written to it; with the same
-        limit. One builder for many packets takes less time than one for each."""
-        self._begin(source_port, destination_port, verification_tag)
+    def __repr__(self) -> str:
+        return f"<PacketBuilder {described(bytes(self))}>" if len(self) else "<PacketBuilder>"
 
     def sign_auth(self, key: Buffer, offset: int) -> None:
         """Writes the HMAC into the AUTH chunk that begins at an offset, what `len` was before it was added, under an association
@@ -50,11 +47,11 @@ class PacketBuilder(Methods):
 
     def heartbeat(self, info: Buffer) -> ChunkWriter:
         """Adds HEARTBEAT with this Heartbeat Info (RFC 9260 section 3.3.5)."""
-        return self._listed(_kinds.Heartbeat((_kinds.HeartbeatInfo(to_bytes(info)),)))
+        return self._listed(Heartbeat((_kinds.HeartbeatInfo(to_bytes(info)),)))
 
     def heartbeat_ack(self, info: Buffer) -> ChunkWriter:
         """Adds HEARTBEAT ACK with this Heartbeat Info (RFC 9260 section 3.3.6)."""
-        return self._listed(_kinds.HeartbeatAck((_kinds.HeartbeatInfo(to_bytes(info)),)))
+        return self._listed(HeartbeatAck((_kinds.HeartbeatInfo(to_bytes(info)),)))
 
     def abort(self, reason: str | Buffer | None = None, *, tag_reflected: bool = False) -> ChunkWriter:
         """Adds ABORT (RFC 9260 section 3.3.7), to which error causes can be added; with a reason it has the cause
@@ -69,7 +66,7 @@ class PacketBuilder(Methods):
         return self._listed(_kinds.Abort((cause,), tag_reflected))
 
     def unrecognized_parameters_error(
-        self, chunk: "_kinds.InitAck | _kinds.Heartbeat | _kinds.HeartbeatAck | _kinds.ReConfig", known: Iterable[int]
+        self, chunk: InitAck | Heartbeat | HeartbeatAck | ReConfig, known: Iterable[int]
     ) -> int | None:
         """Adds an ERROR with a cause Unrecognized Parameters (RFC 9260 section 3.3.10.8) for each parameter of an INIT ACK that
         came, or of another chunk but INIT, as `ChunkWriter.unrecognized_parameters` does; no ERROR if there is none. The packet is
@@ -91,10 +88,10 @@ class PacketBuilder(Methods):
         return end.value if end.value < len(data) else None
 
 
-def validate_sack(sack: "_kinds.Sack") -> bool:
+def validate_sack(sack: Sack) -> bool:
     """Returns whether the gap ack blocks are in order, with a gap between each two, and begin at 2 or later, as a receiver
     has to send them (RFC 9260 section 3.3.4). Raises NoRoom or BadValue where no packet can
     have as many."""
-    packet = bytes(12) + bytes(_kinds.Sack(0, 0, sack.blocks))
+    packet = bytes(12) + bytes(Sack(0, 0, sack.blocks))
     chunk = _header.Chunk(3, 0, 16, len(packet) - 16, len(packet))
     return bool(functions.dcsctp_validate_sack(packet, len(packet), byref(chunk)))

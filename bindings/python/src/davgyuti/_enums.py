@@ -7,7 +7,14 @@ from enum import IntEnum
 _OF_NUMBERS = {*"bcdeEfFgGnoxX%"}
 
 
-class Named(IntEnum):
+class Evaluated(IntEnum):
+    """Numbers whose `repr` evaluates, where their enum has its name."""
+
+    def __repr__(self) -> str:
+        return f"{type(self).__name__}.{self.name}"
+
+
+class Named(Evaluated):
     """Numbers whose `str` is their name in every Python: `format` too, unless it asks for a number, as "d" does."""
 
     def __str__(self) -> str:
@@ -45,7 +52,7 @@ class Reported(Documented):
         return bool(self & 2)
 
 
-class Numbers(IntEnum):
+class Numbers(Evaluated):
     """Types and codes, of which others may come. (One without a name is shown as a number too: so are those that have one.)"""
 
     def __str__(self) -> str:

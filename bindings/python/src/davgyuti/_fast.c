@@ -14,7 +14,7 @@
 /* What a value is made of, in order, but that flags come first, which are in its header, and the type of what is of no kind. */
 enum what { END, NUMBER, RESERVED, BIT, RESULT, COUNT, EITHER, OR_ELSE, LIST, RECORDS, OPTIONAL, REST, ITEMS, FLAG, HEAD };
 enum level { CHUNK, PARAMETER, CAUSE, RECORD };
-enum { MOST_STEPS = 12, LARGEST_CHUNK = 0xFFFF, HEADER_SIZE = 4 };
+enum { MOST_STEPS = 12, LARGEST_CHUNK = 0xFFFF, HEADER_SIZE = 4, MOST_BYTES = 65532 };
 struct step {
     uint8_t what;
     uint8_t size; /* of a number or an item, in bytes */
@@ -28,14 +28,24 @@ struct layout {
     struct step steps[MOST_STEPS];
     uint8_t fields; /* of a record: how many it has */
 };
+/* What a method is given. */
+enum otherwise { NEEDED, ZERO, NO, YES, NOTHING };
+struct words {
+    uint8_t count, plain; /* how many, and how many of these need not be named */
+    struct {
+        uint8_t step, otherwise;
+    } all[MOST_STEPS];
+};
 #include "_kinds.h"
 
 static const char *const LEVEL_NAMES[] = {"chunk", "parameter", "error cause"};
 
 struct state {
     PyTypeObject *types[KINDS];
-    PyObject *slots[KINDS][MOST_STEPS], *offsets[KINDS]; /* of a kind a slot for each step that has a name */
+    PyObject *slots[KINDS][MOST_STEPS], *names[KINDS][MOST_STEPS], *offsets[KINDS]; /* of a kind a slot for each step that has a name */
     PyObject *results[RESULTS], *error_of, *policy, *encoded; /* (a policy that was made before, by which nothing is set) */
+    PyObject *defaults[NOTHING + 1];
+    PyTypeObject *word, *writer;
     descrgetfunc get;
     descrsetfunc set;
 };
@@ -159,6 +169,11 @@ static PyObject *value_at(const struct state *state, int kind, const struct byte
         at += step->what == EITHER || step->what >= LIST ? 0 : step->size;
         switch ((enum what)step->what) {
         case NUMBER: value = PyLong_FromUnsignedLong(number); break;
+        case RESERVED:
+            if (!*step->name)
+                continue;
+            value = PyLong_FromUnsignedLong(number);
+            break;
         case RESULT: value = number < RESULTS ? Py_NewRef(state->results[number]) : NULL; break;
         case COUNT: counts[counted++] = number; continue;
         case EITHER: value = PyLong_FromUnsignedLong(flags & step->more ? number : 0); break;
@@ -279,6 +294,7 @@ struct out {
     const struct state *state;
     uint8_t *at;
     size_t size, room;
+    bool as_read; /* so are reserved bytes, and else zeros */
     uint8_t few[2048];
 };
 
@@ -380,8 +396,8 @@ static bool put_list(struct out *out, PyObject *list, const struct step *step, c
     return is_put;
 }
 
-/* The value of a kind, whose header is before it. */
-static bool put_value(struct out *out, PyObject *part, int kind)
+/* The value of a kind, whose header is before it: of a part, or of a value for each step. */
+static bool put_value(struct out *out, int kind, PyObject *part, PyObject *const *values)
 {
     const struct state *const state = out->state;
     const struct step *const steps = LAYOUTS[kind].steps, *counts[2] = {NULL, NULL};
@@ -390,7 +406,8 @@ static bool put_value(struct out *out, PyObject *part, int kind)
     uint32_t number = 0, other;
     bool is_put = true;
     for (const struct step *step = steps; is_put && step->what; step++) {
-        PyObject *value = *step->name ? got(state, kind, step - steps, part) : Py_NewRef(Py_None);
+        PyObject *const of_step = values ? values[step - steps] : Py_None;
+        PyObject *value = part && *step->name ? got(state, kind, step - steps, part) : Py_NewRef(of_step ? of_step : Py_None);
         uint8_t *at = NULL;
         int bit;
         is_put = value != NULL;
@@ -413,7 +430,10 @@ static bool put_value(struct out *out, PyObject *part, int kind)
             counts_at[counted++] = out->size;
             number = 0;
             break;
-        case RESERVED: number = 0; break;
+        case RESERVED:
+            number = 0;
+            is_put = !out->as_read || number_of(value, most_of(step->size), &number, step->name);
+            break;
         case REST: is_put = put_bytes(out, value); break;
         case OPTIONAL:
             is_put = value == Py_None || ((at = place_for(out, step->size)) && put_record(state, at, value, step, 0));
@@ -437,20 +457,40 @@ static bool put_value(struct out *out, PyObject *part, int kind)
     return is_put;
 }
 
-/* The class that an object is of; -1 of what is of no class of the level. */
-static int class_of(const struct state *state, PyObject *object, enum level level)
+/* The kind that an object is of; HEADER of what is of none. */
+static int class_of(const struct state *state, PyObject *object)
 {
     PyTypeObject *const type = Py_TYPE(object);
-    for (int kind = FIRST[level]; kind < (int)FIRST[level + 1]; kind++)
-        if (state->types[kind] == type)
-            return kind;
-    if (type == state->types[RAW_CHUNK + level])
-        return RAW_CHUNK + (int)level;
-    for (int kind = 0; kind < KINDS; kind++)
-        if (((kind >= (int)FIRST[level] && kind < (int)FIRST[level + 1]) || kind == RAW_CHUNK + (int)level || kind == REGISTERED_CHUNK + (int)level)
-            && PyType_IsSubtype(type, state->types[kind]))
-            return kind;
-    return -1;
+    int kind = 0, base = 0;
+    while (kind < HEADER && state->types[kind] != type)
+        kind++;
+    while (kind == HEADER && base < HEADER && !PyType_IsSubtype(type, state->types[base]))
+        base++;
+    return kind < HEADER ? kind : base;
+}
+
+static enum level level_of(int kind)
+{
+    enum level level = CHUNK;
+    if (kind >= RAW_CHUNK)
+        return (kind - RAW_CHUNK) % RECORD;
+    while (level < RECORD && kind >= (int)FIRST[level + 1])
+        level++;
+    return level;
+}
+
+/* What is of a kind, with its header. */
+static bool put_kind(struct out *out, int kind, enum level level, PyObject *part, PyObject *const *values)
+{
+    const size_t start = out->size;
+    uint8_t *const at = place_for(out, HEADER_SIZE);
+    if (!at)
+        return false;
+    put(at, level == CHUNK ? (uint32_t)LAYOUTS[kind].number << 8 : LAYOUTS[kind].number, 2);
+    if (!put_value(out, kind, part, values))
+        return false;
+    put(out->at + start + 2, (uint32_t)(out->size - start), 2);
+    return true;
 }
 
 /* A chunk, a parameter or an error cause, with its header; or, where there is none, the padding of the one before. */
@@ -462,11 +502,14 @@ static bool put_part(struct out *out, PyObject *part, enum level level)
         uint8_t *const at = place_for(out, padded(start) - start);
         return at && memset(at, 0, padded(start) - start);
     }
-    const int class = class_of(state, part, level);
-    if (class < 0) {
-        PyObject *name = PyObject_GetAttrString((PyObject *)Py_TYPE(part), "__name__");
+    const int class = class_of(state, part);
+    if (class == HEADER || level_of(class) != level) {
+        /* (Python's cache of attributes keeps each name that isn't interned) */
+        PyObject *attribute = PyUnicode_InternFromString("__name__");
+        PyObject *name = attribute ? PyObject_GetAttr((PyObject *)Py_TYPE(part), attribute) : NULL;
         if (name)
             PyErr_Format(PyExc_TypeError, "%U is no %s", name, LEVEL_NAMES[level]);
+        Py_XDECREF(attribute);
         Py_XDECREF(name);
         return false;
     }
@@ -476,20 +519,13 @@ static bool put_part(struct out *out, PyObject *part, enum level level)
         Py_XDECREF(encoded);
         return is_put;
     }
-    uint8_t *const at = place_for(out, HEADER_SIZE);
-    if (!at)
-        return false;
-    put(at, level == CHUNK ? (uint32_t)LAYOUTS[class].number << 8 : LAYOUTS[class].number, 2);
-    if (!put_value(out, part, class))
-        return false;
-    put(out->at + start + 2, (uint32_t)(out->size - start), 2);
-    return true;
+    return put_kind(out, class, level, part, NULL);
 }
 
 /* Begins to write, and ends it. */
 static struct out *begun(struct out *out, const struct state *state)
 {
-    out->state = state, out->at = out->few, out->size = 0, out->room = sizeof out->few;
+    out->state = state, out->at = out->few, out->size = 0, out->room = sizeof out->few, out->as_read = false;
     return out;
 }
 
@@ -528,35 +564,50 @@ static bool grow(struct builder *it, size_t size)
     return true;
 }
 
+static PyMethodDef METHODS[];
+
 static PyObject *builder_new(PyTypeObject *type, PyObject *arguments, PyObject *words)
 {
     (void)arguments, (void)words;
     struct builder *it = (struct builder *)PyType_GenericAlloc(type, 0);
     /* (the module's class is among those that a class of Python's is made of) */
-    for (; it && !(it->state = PyType_GetModuleState(type)); type = PyType_GetSlot(type, Py_tp_base))
-        PyErr_Clear();
+    while (PyType_GetSlot(type, Py_tp_methods) != METHODS)
+        type = PyType_GetSlot(type, Py_tp_base);
+    if (it)
+        it->state = PyType_GetModuleState(type);
     return (PyObject *)it;
 }
 
-static PyObject *builder_open(struct builder *it, PyObject *object)
-{
-    const Py_ssize_t limit = PyNumber_AsSsize_t(object, NULL);
-    it->limit = limit < 0 ? 0 : limit > 65532 ? 65532 : limit;
-    return PyErr_Occurred() ? NULL : Py_NewRef(Py_None);
-}
-
-static PyObject *builder_begin(struct builder *it, PyObject *const *arguments, Py_ssize_t count)
+static bool begin(struct builder *it, PyObject *source_port, PyObject *destination_port, PyObject *verification_tag)
 {
     uint32_t source, destination, tag;
-    if (!has_count(count, 3) || !number_of(arguments[0], 0xFFFF, &source, "source_port")
-        || !number_of(arguments[1], 0xFFFF, &destination, "destination_port")
-        || !number_of(arguments[2], 0xFFFFFFFF, &tag, "verification_tag"))
-        return NULL;
-    if (!grow(it, DCSCTP_FIRST_CHUNK))
-        return NULL;
+    if (!number_of(source_port, 0xFFFF, &source, "source_port") || !number_of(destination_port, 0xFFFF, &destination, "destination_port")
+        || !number_of(verification_tag, 0xFFFFFFFF, &tag, "verification_tag") || !grow(it, DCSCTP_FIRST_CHUNK))
+        return false;
     dcsctp_begin(it->packet, it->room, &it->size, (uint16_t)source, (uint16_t)destination, tag);
     it->last = 0;
-    return Py_NewRef(Py_None);
+    return true;
+}
+
+static int builder_init(struct builder *it, PyObject *arguments, PyObject *words)
+{
+    static char *NAMES[] = {"source_port", "destination_port", "verification_tag", "limit", NULL};
+    PyObject *given[4] = {NULL};
+    if (!words && PyTuple_Size(arguments) == 3) /* (so it takes less time) */
+        for (int i = 0; i < 3; i++)
+            given[i] = PyTuple_GetItem(arguments, i);
+    else if (!PyArg_ParseTupleAndKeywords(arguments, words, "OOO|$O:PacketBuilder", NAMES, &given[0], &given[1], &given[2], &given[3]))
+        return -1;
+    const Py_ssize_t limit = given[3] ? PyNumber_AsSsize_t(given[3], NULL) : MOST_BYTES;
+    if (PyErr_Occurred())
+        return -1;
+    it->limit = limit < 0 ? 0 : limit > MOST_BYTES ? MOST_BYTES : limit;
+    return begin(it, given[0], given[1], given[2]) ? 0 : -1;
+}
+
+static PyObject *builder_reset(struct builder *it, PyObject *const *arguments, Py_ssize_t count)
+{
+    return has_count(count, 3) && begin(it, arguments[0], arguments[1], arguments[2]) ? Py_NewRef(Py_None) : NULL;
 }
 
 /* Puts bytes behind the packet, and their padding. */
@@ -571,62 +622,99 @@ static bool append(struct builder *it, const struct out *out)
     return true;
 }
 
-/* Adds a chunk, to whose list the next number leads. */
-static bool add(struct builder *it, PyObject *chunk)
+/* What writes the list of a builder's chunk with a number. */
+struct writer {
+    PyObject_HEAD
+    struct builder *builder;
+    uint64_t chunk;
+};
+
+/* Adds a chunk that was put; and returns what writes its list, or None where it isn't listed. */
+static PyObject *added(struct builder *it, struct out *out, bool is_put, bool is_listed)
 {
-    struct out out;
-    const bool is_added = put_part(begun(&out, it->state), chunk, CHUNK) && append(it, &out);
-    if (is_added)
-        it->start = it->size - padded(out.size), it->last = ++it->chunks;
-    return ended(&out, is_added);
+    PyObject *const found = !is_put ? NULL : is_listed ? PyType_GenericAlloc(it->state->writer, 0) : Py_NewRef(Py_None);
+    if (!ended(out, found && append(it, out))) {
+        Py_XDECREF(found);
+        return NULL;
+    }
+    it->start = it->size - padded(out->size), it->chunks++;
+    it->last = is_listed ? it->chunks : 0;
+    if (is_listed) {
+        struct writer *const writer = (struct writer *)found;
+        writer->builder = (struct builder *)Py_NewRef((PyObject *)it), writer->chunk = it->last;
+    }
+    return found;
 }
 
-static PyObject *builder_list(struct builder *it, PyObject *chunk)
+static PyObject *add(struct builder *it, PyObject *chunk, bool is_listed)
 {
-    return add(it, chunk) ? PyLong_FromUnsignedLongLong(it->last) : NULL;
+    struct out out;
+    const bool is_put = put_part(begun(&out, it->state), chunk, CHUNK);
+    return added(it, &out, is_put, is_listed);
 }
 
 static PyObject *builder_add(struct builder *it, PyObject *chunk)
 {
-    const bool is_added = add(it, chunk);
-    it->last = is_added ? 0 : it->last;
-    return is_added ? Py_NewRef(Py_None) : NULL;
+    return add(it, chunk, false);
 }
 
-/* Where the chunk with a number begins, which has to be the last one; 0 where it isn't any more, or with an exception. */
-static size_t start_of(const struct builder *it, PyObject *chunk)
+static PyObject *builder_listed(struct builder *it, PyObject *chunk)
 {
-    const unsigned long long number = PyLong_AsUnsignedLongLong(chunk);
-    return PyErr_Occurred() || !number || number != it->last ? 0 : it->start;
+    return add(it, chunk, true);
 }
 
-/* Adds parameters or error causes to a chunk: all of them, or nothing. */
-static PyObject *builder_items(struct builder *it, PyObject *const *arguments, Py_ssize_t count)
+/* Which of a method's words has this name; -1 of none. */
+static int word_of(const struct state *state, enum kind kind, PyObject *name)
 {
-    static const struct step LISTS[] = {[PARAMETER] = {ITEMS, 0, PARAMETER, ""}, [CAUSE] = {ITEMS, 0, CAUSE, ""}};
+    const struct words *const words = &WORDS[kind];
+    for (int i = 0; i < words->count; i++)
+        if (state->names[kind][words->all[i].step] == name)
+            return i;
+    /* (most names are one with those in the state) */
+    for (int i = 0; i < words->count; i++)
+        if (PyUnicode_Compare(state->names[kind][words->all[i].step], name) == 0)
+            return i;
+    return -1;
+}
+
+/* Adds a chunk of a kind, of what a method is given. */
+static PyObject *builder_chunk(struct builder *it, enum kind kind, PyObject *const *given, Py_ssize_t count, PyObject *names)
+{
+    const struct state *const state = it->state;
+    const struct words *const words = &WORDS[kind];
+    const struct step *const steps = LAYOUTS[kind].steps;
+    const Py_ssize_t named = names ? PyTuple_Size(names) : 0;
+    PyObject *values[MOST_STEPS] = {NULL};
+    bool is_listed = false;
+    if (count > words->plain)
+        return PyErr_Format(PyExc_TypeError, "%s takes %d arguments without a name, and got %zd", LAYOUTS[kind].name, (int)words->plain, count);
+    for (Py_ssize_t i = 0; i < count + named; i++) {
+        PyObject *const name = i < count ? NULL : PyTuple_GetItem(names, i - count);
+        const int word = name ? word_of(state, kind, name) : (int)i;
+        PyObject **const value = word < 0 ? NULL : &values[words->all[word].step];
+        if (!value || *value)
+            return PyErr_Format(PyExc_TypeError, value ? "%s got %U twice" : "%s has no %U", LAYOUTS[kind].name, name);
+        *value = given[i];
+    }
+    for (int i = 0; i < words->count; i++) {
+        const int step = words->all[i].step;
+        if (!values[step] && !(values[step] = state->defaults[words->all[i].otherwise]))
+            return PyErr_Format(PyExc_TypeError, "%s needs %s", LAYOUTS[kind].name, steps[step].name);
+    }
+    for (int i = 0; steps[i].what; i++)
+        if (steps[i].what == ITEMS)
+            is_listed = true, values[i] = state->defaults[NOTHING];
     struct out out;
-    const long level = has_count(count, 3) ? PyLong_AsLong(arguments[0]) : -1;
-    if (level != PARAMETER && level != CAUSE)
-        return PyErr_Occurred() ? NULL : PyErr_Format(PyExc_ValueError, "it is no level: %ld", level);
-    bool is_put = put_list(begun(&out, it->state), arguments[1], &LISTS[level], NULL, 0);
-    const size_t start = is_put ? start_of(it, arguments[2]) : 0, size = it->size - start + out.size;
-    if (is_put && !start && !PyErr_Occurred())
-        error(it->state, DCSCTP_BAD_PLACE, PyUnicode_FromString("the chunk isn't the packet's last one any more"));
-    else if (is_put && start && size > LARGEST_CHUNK)
-        too_long(it->state);
-    else if ((is_put = is_put && start && (!out.size || append(it, &out))) && out.size)
-        put(it->packet + start + 2, (uint32_t)size, 2);
-    return ended(&out, is_put && !PyErr_Occurred()) ? Py_NewRef(Py_None) : NULL;
+    const bool is_put = put_kind(begun(&out, state), kind, CHUNK, NULL, values);
+    return added(it, &out, is_put, is_listed);
 }
 
-/* Takes a chunk back; false where it isn't the last one any more. */
-static PyObject *builder_back(struct builder *it, PyObject *chunk)
-{
-    const size_t start = start_of(it, chunk);
-    if (start)
-        it->size = start, it->last = 0;
-    return PyErr_Occurred() ? NULL : PyBool_FromLong(start != 0);
-}
+#define CHUNK_METHOD(name, kind, doc) \
+    static PyObject *add_##name(struct builder *it, PyObject *const *given, Py_ssize_t count, PyObject *names) \
+    { \
+        return builder_chunk(it, kind, given, count, names); \
+    }
+CHUNK_METHODS(CHUNK_METHOD)
 
 /* Writes the HMAC of the AUTH at an offset; false where it can't be. */
 static PyObject *builder_sign(struct builder *it, PyObject *const *arguments, Py_ssize_t count)
@@ -668,14 +756,15 @@ static void builder_free(struct builder *it)
 }
 
 #define METHOD(name, function, flags, doc) {name, (PyCFunction)(void (*)(void))function, flags, doc}
+#define CHUNK_ENTRY(name, kind, doc) METHOD(#name, add_##name, METH_FASTCALL | METH_KEYWORDS, doc),
 static PyMethodDef METHODS[] = {
-    METHOD("_open", builder_open, METH_O, NULL),
-    METHOD("_begin", builder_begin, METH_FASTCALL, NULL),
+    CHUNK_METHODS(CHUNK_ENTRY)
+    METHOD("reset", builder_reset, METH_FASTCALL,
+           "reset($self, source_port, destination_port, verification_tag, /)\n--\n\nBegins another packet in the memory of the one before, "
+           "which is gone, as is what was written to it; with the same\nlimit. One builder for many packets takes less time than one for each."),
     METHOD("add", builder_add, METH_O,
            "add($self, chunk, /)\n--\n\nAdds a chunk of any kind, with its parameters or error causes: all of it, or nothing."),
-    METHOD("_list", builder_list, METH_O, NULL),
-    METHOD("_items", builder_items, METH_FASTCALL, NULL),
-    METHOD("_back", builder_back, METH_O, NULL),
+    METHOD("_listed", builder_listed, METH_O, NULL),
     METHOD("_sign", builder_sign, METH_FASTCALL, NULL),
     METHOD("__bytes__", builder_bytes, METH_NOARGS,
            "__bytes__($self, /)\n--\n\nThe packet with a checksum field of zero, as RFC 9653 has it sent where that was negotiated."),
@@ -688,10 +777,114 @@ static PyMemberDef FIELDS[] = {
     {NULL, 0, 0, 0, NULL},
 };
 static PyType_Slot BUILDER_SLOTS[] = {
-    {Py_tp_new, builder_new}, {Py_tp_methods, METHODS}, {Py_tp_members, FIELDS}, {Py_sq_length, builder_length}, {Py_tp_dealloc, builder_free}, {0, NULL},
+    {Py_tp_new, builder_new}, {Py_tp_init, builder_init}, {Py_tp_methods, METHODS}, {Py_tp_members, FIELDS},
+    {Py_sq_length, builder_length}, {Py_tp_dealloc, builder_free},
+    {Py_tp_doc, "Builder(source_port, destination_port, verification_tag, *, limit=65532)\n--\n\nWhat a PacketBuilder is."},
+    {0, NULL},
 };
 static PyType_Spec BUILDER = {
     .name = "davgyuti._fast.Builder", .basicsize = sizeof(struct builder), .flags = Py_TPFLAGS_DEFAULT | Py_TPFLAGS_BASETYPE, .slots = BUILDER_SLOTS};
+
+/* ---- what writes the list of a chunk */
+
+/* Where its chunk begins, which has to be the last one; 0 where it isn't any more. */
+static size_t start_of(const struct writer *it)
+{
+    return it->chunk == it->builder->last ? it->builder->start : 0;
+}
+
+/* Adds parameters or error causes: all of them, or nothing. */
+static bool add_items(const struct writer *it, struct out *out, bool is_put)
+{
+    struct builder *const builder = it->builder;
+    const size_t start = is_put ? start_of(it) : 0, size = builder->size - start + out->size;
+    if (is_put && !start)
+        error(builder->state, DCSCTP_BAD_PLACE, PyUnicode_FromString("the chunk isn't the packet's last one any more"));
+    else if (is_put && size > LARGEST_CHUNK)
+        too_long(builder->state);
+    else if (is_put && out->size && append(builder, out))
+        put(builder->packet + start + 2, (uint32_t)size, 2);
+    return ended(out, !PyErr_Occurred());
+}
+
+static PyObject *writer_add(struct writer *it, PyObject *part, enum level level)
+{
+    struct out out;
+    const bool is_put = put_part(begun(&out, it->builder->state), part, level);
+    return add_items(it, &out, is_put) ? Py_NewRef((PyObject *)it) : NULL;
+}
+
+static PyObject *writer_parameter(struct writer *it, PyObject *parameter)
+{
+    return writer_add(it, parameter, PARAMETER);
+}
+
+static PyObject *writer_cause(struct writer *it, PyObject *cause)
+{
+    return writer_add(it, cause, CAUSE);
+}
+
+static PyObject *writer_items(struct writer *it, PyObject *const *arguments, Py_ssize_t count)
+{
+    static const struct step LISTS[] = {[PARAMETER] = {ITEMS, 0, PARAMETER, ""}, [CAUSE] = {ITEMS, 0, CAUSE, ""}};
+    struct out out;
+    const long level = has_count(count, 2) ? PyLong_AsLong(arguments[0]) : -1;
+    if (level != PARAMETER && level != CAUSE)
+        return PyErr_Occurred() ? NULL : PyErr_Format(PyExc_ValueError, "it is no level: %ld", level);
+    const bool is_put = put_list(begun(&out, it->builder->state), arguments[1], &LISTS[level], NULL, 0);
+    return add_items(it, &out, is_put) ? Py_NewRef(Py_None) : NULL;
+}
+
+/* Takes the chunk back; false where it isn't the last one any more. */
+static PyObject *writer_back(struct writer *it, PyObject *none)
+{
+    (void)none;
+    const size_t start = start_of(it);
+    if (start)
+        it->builder->size = start, it->builder->last = 0;
+    return PyBool_FromLong(start != 0);
+}
+
+static PyObject *writer_enter(PyObject *it, PyObject *none)
+{
+    (void)none;
+    return Py_NewRef(it);
+}
+
+static PyObject *writer_exit(PyObject *it, PyObject *const *arguments, Py_ssize_t count)
+{
+    if (!has_count(count, 3))
+        return NULL;
+    return arguments[0] == Py_None ? Py_NewRef(Py_None) : PyObject_CallMethod(it, "_raised", "O", arguments[1]);
+}
+
+static PyObject *writer_new(PyTypeObject *type, PyObject *arguments, PyObject *words)
+{
+    (void)type, (void)arguments, (void)words;
+    return PyErr_Format(PyExc_TypeError, "a PacketBuilder makes it");
+}
+
+static void writer_free(struct writer *it)
+{
+    PyTypeObject *const type = Py_TYPE(it);
+    Py_XDECREF((PyObject *)it->builder);
+    ((freefunc)PyType_GetSlot(type, Py_tp_free))(it);
+    Py_DECREF(type);
+}
+
+static PyMethodDef WRITER_METHODS[] = {
+    METHOD("parameter", writer_parameter, METH_O,
+           "parameter($self, parameter, /)\n--\n\nAdds a parameter (RFC 9260 section 3.2.1), and returns this."),
+    METHOD("cause", writer_cause, METH_O, "cause($self, cause, /)\n--\n\nAdds an error cause (RFC 9260 section 3.3.10), and returns this."),
+    METHOD("_items", writer_items, METH_FASTCALL, NULL),
+    METHOD("_back", writer_back, METH_NOARGS, NULL),
+    METHOD("__enter__", writer_enter, METH_NOARGS, NULL),
+    METHOD("__exit__", writer_exit, METH_FASTCALL, NULL),
+    {NULL, NULL, 0, NULL},
+};
+static PyType_Slot WRITER_SLOTS[] = {{Py_tp_new, writer_new}, {Py_tp_methods, WRITER_METHODS}, {Py_tp_dealloc, writer_free}, {0, NULL}};
+static PyType_Spec WRITER = {
+    .name = "davgyuti._fast.Writer", .basicsize = sizeof(struct writer), .flags = Py_TPFLAGS_DEFAULT | Py_TPFLAGS_BASETYPE, .slots = WRITER_SLOTS};
 
 /* ---- a whole packet */
 
@@ -725,6 +918,8 @@ static PyObject *fast_read(PyObject *module, PyObject *const *arguments, Py_ssiz
     bool has_word = arguments[2] != Py_None;
     if (policy != state->policy && !PyType_IsSubtype(Py_TYPE(policy), state->types[POLICY]))
         return PyErr_Format(PyExc_TypeError, "policy has to be a Policy, and is %R", policy);
+    if (has_word && !PyType_IsSubtype(Py_TYPE(arguments[2]), state->word))
+        return PyErr_Format(PyExc_TypeError, "word has to be a Word, and is %R", arguments[2]);
     if (has_word && !number_of(arguments[2], 0xFFFFFFFF, &word, "word"))
         return NULL;
     for (int i = 0; policy != state->policy && i < 4; i++) {
@@ -807,17 +1002,27 @@ static PyObject *fast_parts(PyObject *module, PyObject *const *arguments, Py_ssi
     return list;
 }
 
-static PyObject *fast_encoded(PyObject *module, PyObject *part)
+/* A part from an offset on, as it is written, or a parameter as it was read. */
+static PyObject *encoded(PyObject *module, PyObject *part, size_t from, bool as_read)
 {
     const struct state *const state = PyModule_GetState(module);
     struct out out;
-    enum level level = CHUNK;
-    while (level < CAUSE && class_of(state, part, level) < 0)
-        level++;
-    const bool is_put = put_part(begun(&out, state), part, level);
-    PyObject *data = is_put ? PyBytes_FromStringAndSize((const char *)out.at, (Py_ssize_t)out.size) : NULL;
+    const enum level level = level_of(class_of(state, part));
+    begun(&out, state)->as_read = as_read && level != CHUNK;
+    const bool is_put = put_part(&out, part, level);
+    PyObject *data = is_put ? PyBytes_FromStringAndSize((const char *)out.at + from, (Py_ssize_t)(out.size - from)) : NULL;
     ended(&out, is_put);
     return data;
+}
+
+static PyObject *fast_encoded(PyObject *module, PyObject *part)
+{
+    return encoded(module, part, 0, false);
+}
+
+static PyObject *fast_value(PyObject *module, PyObject *part)
+{
+    return encoded(module, part, HEADER_SIZE, true);
 }
 
 /* ---- the module */
@@ -826,7 +1031,7 @@ static PyObject *fast_encoded(PyObject *module, PyObject *part)
 static PyObject *fast_prepare(PyObject *module, PyObject *const *arguments, Py_ssize_t count)
 {
     struct state *const state = PyModule_GetState(module);
-    if (!has_count(count, 2) || state->encoded)
+    if (!has_count(count, 3) || state->encoded)
         return PyErr_Occurred() ? NULL : PyErr_Format(PyExc_TypeError, "it is prepared");
     for (int kind = 0; kind < KINDS; kind++) {
         PyObject *const class = PyMapping_GetItemString(arguments[0], LAYOUTS[kind].name);
@@ -837,7 +1042,8 @@ static PyObject *fast_prepare(PyObject *module, PyObject *const *arguments, Py_s
         if (!(state->offsets[kind] = PyObject_GetAttrString(class, "offset")))
             PyErr_Clear();
         for (int i = 0; steps[i].what; i++)
-            if (*steps[i].name && !(state->slots[kind][i] = PyObject_GetAttrString(class, steps[i].name)))
+            if (*steps[i].name && (!(state->slots[kind][i] = PyObject_GetAttrString(class, steps[i].name))
+                                   || !(state->names[kind][i] = PyUnicode_InternFromString(steps[i].name))))
                 return NULL;
     }
     PyTypeObject *const of_slot = Py_TYPE(state->offsets[0]);
@@ -849,6 +1055,10 @@ static PyObject *fast_prepare(PyObject *module, PyObject *const *arguments, Py_s
             return NULL;
     state->error_of = PyMapping_GetItemString(arguments[0], "error_of");
     state->policy = PyMapping_GetItemString(arguments[0], "DEFAULT");
+    state->word = (PyTypeObject *)PyMapping_GetItemString(arguments[0], "Word");
+    PyObject *const defaults[] = {[ZERO] = PyLong_FromLong(0), [NO] = Py_NewRef(Py_False), [YES] = Py_NewRef(Py_True), [NOTHING] = PyTuple_New(0)};
+    memcpy(state->defaults, defaults, sizeof defaults);
+    state->writer = (PyTypeObject *)Py_NewRef(arguments[2]);
     state->encoded = Py_NewRef(arguments[1]);
     return PyErr_Occurred() ? NULL : Py_NewRef(Py_None);
 }
@@ -861,15 +1071,18 @@ static PyMethodDef FUNCTIONS[] = {
     METHOD("chunks", fast_chunks, METH_O, NULL),
     METHOD("parts", fast_parts, METH_FASTCALL, NULL),
     METHOD("encoded", fast_encoded, METH_O, NULL),
+    METHOD("value", fast_value, METH_O, NULL),
     {NULL, NULL, 0, NULL},
 };
 
 static int fast_exec(PyObject *module)
 {
-    PyObject *builder = PyType_FromModuleAndSpec(module, &BUILDER, NULL);
-    const int failed = !builder || PyModule_AddObjectRef(module, "Builder", builder) < 0 || PyModule_AddIntMacro(module, CHUNK) < 0
+    PyObject *builder = PyType_FromModuleAndSpec(module, &BUILDER, NULL), *writer = PyType_FromModuleAndSpec(module, &WRITER, NULL);
+    const int failed = !builder || !writer || PyModule_AddObjectRef(module, "Builder", builder) < 0
+                       || PyModule_AddObjectRef(module, "Writer", writer) < 0 || PyModule_AddIntMacro(module, CHUNK) < 0
                        || PyModule_AddIntMacro(module, PARAMETER) < 0 || PyModule_AddIntMacro(module, CAUSE) < 0;
     Py_XDECREF(builder);
+    Py_XDECREF(writer);
     return failed ? -1 : 0;
 }
 

@@ -50,6 +50,7 @@ class Registered(ctypes.Structure):
         ("short_number", c_uint16),
         ("second_short_number", c_uint16),
         ("third_short_number", c_uint16),
+        ("flags", c_uint8),
         ("address_offset", c_size_t),
         ("address_size", c_size_t),
         ("rest_offset", c_size_t),
@@ -71,14 +72,16 @@ class Cookie(ctypes.Structure):
         ("lifespan", c_uint64),
         ("local_tag", c_uint32),
         ("peer_tag", c_uint32),
+        ("local_tie_tag", c_uint32),
+        ("peer_tie_tag", c_uint32),
         ("local_initial_tsn", c_uint32),
         ("peer_initial_tsn", c_uint32),
         ("local_port", c_uint16),
         ("peer_port", c_uint16),
         ("outbound_streams", c_uint16),
         ("inbound_streams", c_uint16),
-        ("addresses_offset", c_size_t),
-        ("addresses_size", c_size_t),
+        ("extra_offset", c_size_t),
+        ("extra_size", c_size_t),
     ]
 
 

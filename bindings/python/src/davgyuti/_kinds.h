@@ -56,9 +56,9 @@ static const struct layout LAYOUTS[KINDS] = {
     [RECONFIGURATION_RESPONSE] = {"ReConfigResponse", 16, 8, 8, 1, {{NUMBER, 4, 0, "response_number"},
         {RESULT, 4, 0, "result"}, {OPTIONAL, 8, NEXT_TSNS, "next_tsns"}, {END, 0, 0, ""}}},
     [ADD_OUTGOING_STREAMS] = {"AddOutgoingStreams", 17, 8, 0, 0, {{NUMBER, 4, 0, "request_number"},
-        {NUMBER, 2, 0, "new_streams"}, {RESERVED, 2, 0, ""}, {END, 0, 0, ""}}},
+        {NUMBER, 2, 0, "new_streams"}, {RESERVED, 2, 0, "reserved"}, {END, 0, 0, ""}}},
     [ADD_INCOMING_STREAMS] = {"AddIncomingStreams", 18, 8, 0, 0, {{NUMBER, 4, 0, "request_number"},
-        {NUMBER, 2, 0, "new_streams"}, {RESERVED, 2, 0, ""}, {END, 0, 0, ""}}},
+        {NUMBER, 2, 0, "new_streams"}, {RESERVED, 2, 0, "reserved"}, {END, 0, 0, ""}}},
     [ZERO_CHECKSUM_ACCEPTABLE] = {"ZeroChecksumAcceptable", 32769, 4, 0, 0, {{NUMBER, 4, 0, "method"},
         {END, 0, 0, ""}}},
     [SUPPORTED_EXTENSIONS] = {"SupportedExtensions", 32776, 0, 1, 65535, {{REST, 0, 0, "chunk_types"},
@@ -137,3 +137,54 @@ static int kind_of_number(enum level level, uint32_t number)
     }
     return -1;
 }
+
+/* What the methods that add chunks are given, in order: a step, and its default; and how much of it need not be named. */
+static const struct words WORDS[] = {
+    [DATA] = {9, 1, {{8, NEEDED}, {4, NEEDED}, {5, NEEDED}, {6, NEEDED}, {7, NEEDED}, {0, YES}, {1, YES},
+        {2, NO}, {3, NO}}},
+    [INIT] = {5, 0, {{0, NEEDED}, {1, NEEDED}, {2, NEEDED}, {3, NEEDED}, {4, NEEDED}}},
+    [INIT_ACK] = {5, 0, {{0, NEEDED}, {1, NEEDED}, {2, NEEDED}, {3, NEEDED}, {4, NEEDED}}},
+    [SACK] = {4, 4, {{0, NEEDED}, {1, NEEDED}, {4, NOTHING}, {5, NOTHING}}},
+    [SHUTDOWN] = {1, 1, {{0, NEEDED}}},
+    [SHUTDOWN_ACK] = {0, 0, {{0, NEEDED}}},
+    [ERROR] = {0, 0, {{0, NEEDED}}},
+    [COOKIE_ECHO] = {1, 1, {{0, NEEDED}}},
+    [COOKIE_ACK] = {0, 0, {{0, NEEDED}}},
+    [SHUTDOWN_COMPLETE] = {1, 0, {{0, NO}}},
+    [I_DATA] = {10, 1, {{10, NEEDED}, {4, NEEDED}, {5, NEEDED}, {7, NEEDED}, {8, ZERO}, {9, ZERO}, {0, YES},
+        {1, YES}, {2, NO}, {3, NO}}},
+    [RE_CONFIG] = {0, 0, {{0, NEEDED}}},
+    [FORWARD_TSN] = {2, 2, {{0, NEEDED}, {1, NOTHING}}},
+    [I_FORWARD_TSN] = {2, 2, {{0, NEEDED}, {1, NOTHING}}},
+};
+
+/* These methods: the name, the kind, and what help says. */
+#define CHUNK_METHODS(X) \
+    X(data, DATA, "data($self, payload, *, tsn, stream, ssn, ppid, is_end=True, is_beginning=True, is_unordered=False, immediate_ack=False)\n--\n\n" \
+      "Adds DATA (RFC 9260 section 3.3.1), by default a whole message.") \
+    X(init, INIT, "init($self, *, initiate_tag, a_rwnd, outbound_streams, inbound_streams, initial_tsn)\n--\n\n" \
+      "Adds INIT (RFC 9260 section 3.3.2), to which parameters can be added.") \
+    X(init_ack, INIT_ACK, "init_ack($self, *, initiate_tag, a_rwnd, outbound_streams, inbound_streams, initial_tsn)\n--\n\n" \
+      "Adds INIT ACK (RFC 9260 section 3.3.3), to which parameters can be added. It has to have a State Cookie, and may lack it\nin what was received.") \
+    X(sack, SACK, "sack($self, cumulative_tsn_ack, a_rwnd, blocks=(), duplicates=())\n--\n\n" \
+      "Adds SACK (RFC 9260 section 3.3.4). The blocks may be in any order.") \
+    X(shutdown, SHUTDOWN, "shutdown($self, cumulative_tsn_ack)\n--\n\n" \
+      "Adds SHUTDOWN (RFC 9260 section 3.3.8).") \
+    X(shutdown_ack, SHUTDOWN_ACK, "shutdown_ack($self)\n--\n\n" \
+      "Adds SHUTDOWN ACK (RFC 9260 section 3.3.9).") \
+    X(error, ERROR, "error($self)\n--\n\n" \
+      "Adds ERROR (RFC 9260 section 3.3.10), to which error causes have to be added.") \
+    X(cookie_echo, COOKIE_ECHO, "cookie_echo($self, cookie)\n--\n\n" \
+      "Adds COOKIE ECHO (RFC 9260 section 3.3.11).") \
+    X(cookie_ack, COOKIE_ACK, "cookie_ack($self)\n--\n\n" \
+      "Adds COOKIE ACK (RFC 9260 section 3.3.12).") \
+    X(shutdown_complete, SHUTDOWN_COMPLETE, "shutdown_complete($self, *, tag_reflected=False)\n--\n\n" \
+      "Adds SHUTDOWN COMPLETE (RFC 9260 section 3.3.13).") \
+    X(i_data, I_DATA, "i_data($self, payload, *, tsn, stream, mid, ppid=0, fsn=0, is_end=True, is_beginning=True, is_unordered=False, immediate_ack=False)\n--\n\n" \
+      "Adds I-DATA (RFC 8260 section 2.1), by default a whole message.") \
+    X(re_config, RE_CONFIG, "re_config($self)\n--\n\n" \
+      "Adds RE-CONFIG (RFC 6525 section 3.1), to which parameters can be added.") \
+    X(forward_tsn, FORWARD_TSN, "forward_tsn($self, new_cumulative_tsn, streams=())\n--\n\n" \
+      "Adds FORWARD-TSN (RFC 3758 section 3.2).") \
+    X(i_forward_tsn, I_FORWARD_TSN, "i_forward_tsn($self, new_cumulative_tsn, streams=())\n--\n\n" \
+      "Adds I-FORWARD-TSN (RFC 8260 section 2.3.1).")

@@ -1,6 +1,8 @@
 # SPDX-License-Identifier: Apache-2.0
 """Reading packets: the verdict and the texts are the library's, and the fields are read by the module in C, of its generated table."""
 
+from __future__ import annotations
+
 from collections.abc import Iterator
 from ctypes import byref, c_size_t
 from typing import Any
@@ -9,7 +11,7 @@ from . import _fast, _header
 from ._kinds import Cause, Chunk, Parameter, RawCause, RawChunk, RawParameter
 from ._library import functions, number, start_of, to_bytes
 from ._numbers import Result
-from ._values import DEFAULT, Buffer, Fault, Header, Policy, error_of
+from ._values import DEFAULT, Buffer, Fault, Header, Policy, Word, error_of
 
 _FIRST_CHUNK, _LARGEST = 12, 0xFFFF
 # An iteration reads as many chunks at once, and of a packet that has more each as it is reached.
@@ -20,12 +22,10 @@ _ALL = 1 << 30
 # ---- a whole packet
 
 
-def word(data: Buffer) -> int:
-    """Returns the word of a packet (RFC 9260 section 6.8): its CRC32c over zeros in the checksum field, as the number that
-    the field, bytes 8 to 11, has to be, most significant byte first. For fewer than 12 bytes it has no meaning."""
+def word(data: Buffer) -> Word:
+    """Returns the word of a packet (RFC 9260 section 6.8): see Word. For fewer than 12 bytes it has no meaning."""
     data = to_bytes(data)
-    result: int = functions.dcsctp_word(data, len(data))
-    return result
+    return Word(functions.dcsctp_word(data, len(data)))
 
 
 def needs_checksum(data: Buffer) -> bool:
@@ -35,14 +35,14 @@ def needs_checksum(data: Buffer) -> bool:
     return _fast.needs_checksum(data)
 
 
-def check(data: Buffer, policy: Policy = DEFAULT, *, word: int | None = None) -> None:
-    """Returns if the bytes are a packet (RFC 9260 section 3), and else raises the first Fault. `word` is the number that
-    the checksum field has to be, never what it is; None computes it. So does every function here that has these. Of a CRC32c
-    of your own, over zeros in that field, the word is `int.from_bytes(crc.to_bytes(4, "little"), "big")`."""
+def check(data: Buffer, policy: Policy = DEFAULT, *, word: Word | None = None) -> None:
+    """Returns if the bytes are a packet (RFC 9260 section 3), and else raises the first Fault. `word` is for who knows what the
+    checksum field has to be, as by `Word.from_crc32c`; None computes it, but for a policy that accepts any checksum. So does
+    every function here that has these."""
     _fast.read(data, policy, word)
 
 
-def first_fault(data: Buffer, policy: Policy = DEFAULT, *, word: int | None = None) -> Fault | None:
+def first_fault(data: Buffer, policy: Policy = DEFAULT, *, word: Word | None = None) -> Fault | None:
     """Returns the first fault, from the left, or None for a packet; raises no Fault."""
     try:
         _fast.read(data, policy, word)
@@ -51,7 +51,7 @@ def first_fault(data: Buffer, policy: Policy = DEFAULT, *, word: int | None = No
     return None
 
 
-def _made(function: Any, data: Buffer, policy: Policy, word: int | None, room: int, has_word: bool = False) -> bytes:
+def _made(function: Any, data: Buffer, policy: Policy, word: Word | None, room: int, has_word: bool = False) -> bytes:
     """What a function writes of a packet, once that was accepted."""
     data = to_bytes(data)
     right, _ = _fast.read(data, policy, word)
@@ -66,7 +66,7 @@ def _made(function: Any, data: Buffer, policy: Policy, word: int | None, room: i
     return bytes(output[: size.value])
 
 
-def canonical(data: Buffer, policy: Policy = DEFAULT, *, word: int | None = None) -> bytes:
+def canonical(data: Buffer, policy: Policy = DEFAULT, *, word: Word | None = None) -> bytes:
     """Returns the canonical packet: a checksum of zero, padding of zeros, zeros in reserved bits, and else the same ports,
     tag and chunks. Two packets have the same one if and only if they mean the same. `seal` it before you send it.
 
@@ -74,13 +74,13 @@ def canonical(data: Buffer, policy: Policy = DEFAULT, *, word: int | None = None
     return _made(functions.dcsctp_canonical, data, policy, word, len(data) + 3)
 
 
-def text(data: Buffer, policy: Policy = DEFAULT, *, word: int | None = None) -> str:
+def text(data: Buffer, policy: Policy = DEFAULT, *, word: Word | None = None) -> str:
     """Returns text for logs: a line for the header and one for each chunk, without a line feed at the end. In the line of
     an I-DATA `mid=` is the stream and `ssn=` the MID. Raises Fault, MemoryError."""
     return _made(functions.dcsctp_print, data, policy, word, 4096).decode()
 
 
-def report(data: Buffer, policy: Policy = DEFAULT, *, word: int | None = None) -> str:
+def report(data: Buffer, policy: Policy = DEFAULT, *, word: Word | None = None) -> str:
     """Returns all that the packet holds: each line ends in a line feed, and what is inside of something is two blanks
     deeper. Raises Fault, MemoryError."""
     return _made(functions.dcsctp_report, data, policy, word, 4096, has_word=True).decode()
@@ -152,7 +152,7 @@ def _part(level: int, number: int, value: Buffer) -> tuple[Any, ...]:
 
 def parameter(type: int, value: Buffer = b"") -> Parameter:
     """Returns the parameter of this type with this value: of its kind, or a RawParameter. It has them as its `type` and
-    `value` again, with zeros in reserved bytes."""
+    `value` again, reserved bytes too."""
     it: tuple[Parameter, ...] = _part(_fast.PARAMETER, number(type, 16, "type"), value)
     return it[0] if it else RawParameter(type, to_bytes(value))
 
@@ -163,6 +163,12 @@ def cause(code: int, value: Buffer = b"") -> Cause:
     return it[0] if it else RawCause(code, to_bytes(value))
 
 
+def described(data: bytes) -> str:
+    """What `repr` says of a packet."""
+    it = _fast.header(data)
+    return f"from port {it.source_port} to {it.destination_port}, tag {it.verification_tag:#010x}, {len(data)} bytes"
+
+
 class Packet:
     """A packet, in its bytes, that was checked (RFC 9260 section 3).
 
@@ -171,9 +177,12 @@ class Packet:
 
     __slots__ = ("_bytes", "_count", "_policy", "_word")
 
-    def __init__(self, data: Buffer, policy: Policy = DEFAULT, *, word: int | None = None) -> None:
-        """Checks the bytes; raises the first Fault if they are no packet."""
-        self._bytes = data = data if type(data) is bytes else to_bytes(data)
+    def __init__(self, data: Buffer | Packet, policy: Policy = DEFAULT, *, word: Word | None = None) -> None:
+        """Checks the bytes, or those of another Packet; raises the first Fault if they are no packet."""
+        self._bytes: bytes
+        if type(data) is not bytes:
+            data = data._bytes if isinstance(data, Packet) else to_bytes(data)
+        self._bytes = data
         self._policy = policy
         self._word, self._count = _fast.read(data, policy, word)
 
@@ -183,11 +192,16 @@ class Packet:
         return _fast.header(self._bytes)
 
     @property
-    def word(self) -> int:
-        """The number that the checksum field has to be: its CRC32c (section 6.8), or what was passed."""
+    def word(self) -> Word:
+        """What the checksum field has to be: its CRC32c (section 6.8), or what was passed."""
         if self._word is None:
             self._word = word(self._bytes)
-        return self._word
+        return Word(self._word)
+
+    @property
+    def _given(self) -> Word | None:
+        """The word, where there is one."""
+        return None if self._word is None else self.word
 
     def __iter__(self) -> Iterator[Chunk]:
         return iter(self.chunks()) if self._count <= _AT_ONCE else chunks(self._bytes)
@@ -206,15 +220,15 @@ class Packet:
 
     def canonical(self) -> bytes:
         """Returns its canonical form: see the function."""
-        return canonical(self._bytes, self._policy, word=self._word)
+        return canonical(self._bytes, self._policy, word=self._given)
 
     def text(self) -> str:
         """Returns text for logs: see the function."""
-        return text(self._bytes, self._policy, word=self._word)
+        return text(self._bytes, self._policy, word=self._given)
 
     def report(self) -> str:
         """Returns all that it holds: see the function."""
-        return report(self._bytes, self._policy, word=self._word)
+        return report(self._bytes, self._policy, word=self._given)
 
     def __bytes__(self) -> bytes:
         return self._bytes
@@ -231,6 +245,4 @@ class Packet:
         return hash(self._bytes)
 
     def __repr__(self) -> str:
-        it = self.header
-        ports = f"{it.source_port} to {it.destination_port}"
-        return f"<Packet from port {ports}, tag {it.verification_tag:#010x}, {len(self)} bytes>"
+        return f"<Packet {described(self._bytes)}>"

@@ -1,6 +1,8 @@
 # SPDX-License-Identifier: Apache-2.0
 """What RFC 9260 asks of whoever receives a packet, before an association's state matters."""
 
+from __future__ import annotations
+
 from ctypes import byref
 from typing import Any
 

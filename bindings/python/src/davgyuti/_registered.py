@@ -1,15 +1,18 @@
 # SPDX-License-Identifier: Apache-2.0
 """The kinds of `davgyuti.registered`: the library reads and writes their values, field by field."""
 
+from __future__ import annotations
+
 from collections.abc import Iterable
 from ctypes import byref, c_size_t
 from ipaddress import IPv4Address, IPv6Address, ip_address
 from typing import Any
 
-from . import _fast, _header, _kinds, _values, registered
-from ._kinds import CausePart, ParameterPart, RawCause, RawChunk, RawParameter
+from . import _fast, _header, _kinds, _values
+from ._kinds import CausePart, Parameter, ParameterPart, RawCause, RawChunk, RawParameter
 from ._library import functions, number, sized, start_of, to_bytes
 from ._values import Address, error_of
+from ._writing import ChunkWriter
 
 _NUMBERS = {name: 32 if "short" not in name else 16 for name, *_ in _header.Registered._fields_[:5]}
 _COUNTS = [name for name, bits in _NUMBERS.items() if bits == 16]
@@ -19,6 +22,8 @@ _CHUNK = 12
 
 def by_fields(part: Any) -> Any:
     """What a raw chunk, parameter or error cause is by its fields, or None; what is so already, as it is."""
+    from . import registered  # (late: see __init__.py)
+
     kind: Any
     if isinstance(part, RawChunk):
         kind, code, function = registered.CHUNKS.get(part.type), part.type, functions.dcsctp_registered_chunk
@@ -32,11 +37,12 @@ def by_fields(part: Any) -> Any:
         return None
     data, out = to_bytes(part.value), _header.Registered()
     places = 0, len(data), len(data)
-    item = _header.Chunk(code, 0, *places) if isinstance(part, RawChunk) else _header.Parameter(code, *places)
+    is_chunk = isinstance(part, RawChunk)
+    item = _header.Chunk(code, number(part.flags, 8, "flags"), *places) if is_chunk else _header.Parameter(code, *places)
     if not function(data, len(data), byref(item), byref(out)):
         return None
     found = {name: _field(data, out, form, part.offset) for name, form in kind.fields.items()}
-    return kind(**found, offset=part.offset)
+    return kind(**found, **({"flags": out.flags} if is_chunk else {}), offset=part.offset)
 
 
 def _field(data: bytes, out: Any, form: str, offset: int | None) -> Any:
@@ -55,10 +61,12 @@ def _field(data: bytes, out: Any, form: str, offset: int | None) -> Any:
     return _fast.parts(data[:end], start, _LEVELS[form][0], False, end, None if offset is None else offset + 4)
 
 
-def addresses(parameters: Iterable[_kinds.Parameter]) -> tuple[Address, ...]:
+def addresses(parameters: Iterable[Parameter]) -> tuple[Address, ...]:
     """Returns the addresses of a list of parameters, in order: those of the IPv4 Address and IPv6 Address parameters of an INIT
     or INIT ACK (RFC 9260 section 3.3.2.1), or of the cause Restart of an Association with New Addresses. All else is passed
     over, and so is an address parameter of a wrong size."""
+    from . import registered
+
     found = (it.registered() for it in parameters)
     return tuple(it.address for it in found if isinstance(it, registered.Ipv4Address | registered.Ipv6Address))
 
@@ -100,6 +108,7 @@ def _encoded(part: Any) -> bytes:
     start = _CHUNK if is_chunk else _CHUNK + 4
     given: tuple[Any, ...] = (start_of(packet), len(packet), byref(c_size_t(start)))
     if is_chunk:
+        values.flags = number(part.flags, 8, "flags")
         function, given = functions.dcsctp_add_registered_chunk, (*given, part.type)
     elif isinstance(part, _kinds.RegisteredParameter):
         function, given = functions.dcsctp_add_registered_parameter, (*given, _CHUNK, part.type)
@@ -112,4 +121,4 @@ def _encoded(part: Any) -> bytes:
     return bytes(packet[start : start + size])
 
 
-_fast.prepare({**vars(_values), **vars(_kinds)}, _encoded)
+_fast.prepare({**vars(_values), **vars(_kinds)}, _encoded, ChunkWriter)

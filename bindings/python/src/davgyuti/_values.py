@@ -1,11 +1,14 @@
 # SPDX-License-Identifier: Apache-2.0
 """What all values of a packet have, and the errors."""
 
+from __future__ import annotations
+
+import operator
 from dataclasses import dataclass, field, fields
 from ipaddress import IPv4Address, IPv6Address
 from typing import TYPE_CHECKING, TypeAlias
 
-from ._fast import encoded
+from . import _fast
 from ._numbers import CauseCode, ChunkType, CookieState, ParameterType, Result, name_of
 
 if TYPE_CHECKING:
@@ -100,10 +103,10 @@ class CookieError(Error, ValueError):
     staleness: int
     """For how many microseconds a stale one hasn't been good: registered.StaleCookie has the lower 32 bits (section
     3.3.10.3). 0 of one that is invalid."""
-    cookie: "Cookie | None"
+    cookie: Cookie | None
     """What a stale one says; None of one that is invalid."""
 
-    def __init__(self, code: CookieState, staleness: int = 0, cookie: "Cookie | None" = None) -> None:
+    def __init__(self, code: CookieState, staleness: int = 0, cookie: Cookie | None = None) -> None:
         super().__init__(code, staleness, cookie)
         self.code, self.staleness, self.cookie = code, staleness, cookie
 
@@ -130,22 +133,42 @@ def error_of(code: int, detail: int | str = "") -> Exception:
 def chunk_name(chunk_type: int) -> str:
     """Returns the name of a type of chunk as the standards write it; "chunk type 99 (0x63)" for one that ChunkType doesn't
     have."""
-    return name_of(ChunkType, chunk_type) or f"chunk type {chunk_type} ({chunk_type:#04x})"
+    return name_of(ChunkType, chunk_type) or f"chunk type {operator.index(chunk_type)} ({chunk_type:#04x})"
 
 
 def parameter_name(parameter_type: int) -> str:
     """Returns the name of a type of parameter; "parameter type 32774 (0x8006)" for one that ParameterType doesn't
     have."""
-    return name_of(ParameterType, parameter_type) or f"parameter type {parameter_type} ({parameter_type:#06x})"
+    return name_of(ParameterType, parameter_type) or f"parameter type {operator.index(parameter_type)} ({parameter_type:#06x})"
 
 
 def cause_name(code: int) -> str:
     """Returns the name of an error cause; "cause code 99 (0x0063)" for a code that CauseCode doesn't have."""
-    return name_of(CauseCode, code) or f"cause code {code} ({code:#06x})"
+    return name_of(CauseCode, code) or f"cause code {operator.index(code)} ({code:#06x})"
+
+
+class Word(int):
+    """What the checksum field of a packet, bytes 8 to 11, has to be (RFC 9260 section 6.8): its CRC32c over zeros in that field, as
+    the number that it is there, most significant byte first. `word` computes it. It is never what a packet has there."""
+
+    __slots__ = ()
+
+    @classmethod
+    def from_crc32c(cls, crc: int) -> Word:
+        """Returns the word of a CRC32c of your own, over zeros in the checksum field. ValueError for what isn't of 32 bits."""
+        if not 0 <= crc < 1 << 32:
+            raise ValueError(f"crc has to be 0 to 4294967295, and is {crc}")
+        return cls.from_bytes(crc.to_bytes(4, "little"), "big")
+
+
+class Referable:
+    """What a `weakref.ref` takes, though it has slots."""
+
+    __slots__ = ("__weakref__",)
 
 
 @dataclass(frozen=True, slots=True, kw_only=True)
-class Policy:
+class Policy(Referable):
     """Which checksum fields are accepted, and whether padding is checked. By default, as for a socket, the field has to be
     the word, and padding is ignored. Each is a bool: for all else, such as "no", there is a TypeError."""
 
@@ -165,13 +188,16 @@ class Policy:
             if not isinstance(value, bool):
                 raise TypeError(f"{it.name} has to be a bool, and is {value!r}")
 
+    def __repr__(self) -> str:
+        return f"Policy({', '.join(f'{it.name}=True' for it in fields(self) if getattr(self, it.name))})"
+
 
 DEFAULT = Policy()
 """What is asked where nothing is passed."""
 
 
 @dataclass(slots=True, unsafe_hash=True)
-class Header:
+class Header(Referable):
     """The common header (RFC 9260 section 3.1)."""
 
     source_port: int
@@ -182,7 +208,7 @@ class Header:
 
 
 @dataclass(slots=True, unsafe_hash=True)
-class Part:
+class Part(Referable):
     """What a chunk, a parameter and an error cause have."""
 
     offset: int | None = field(default=None, compare=False, repr=False, kw_only=True)
@@ -192,9 +218,10 @@ class Part:
     def __bytes__(self) -> bytes:
         """Its bytes as it is written, header included, without the padding after it. Those of a RawChunk, a RawParameter and
         a RawCause that were read are as they were. Raises what PacketBuilder raises for it."""
-        return encoded(self)
+        return _fast.encoded(self)
 
     @property
     def value(self) -> bytes:
-        """What follows its header of four bytes, as it is written. Raises what PacketBuilder raises for it."""
-        return encoded(self)[4:]
+        """What follows its header of four bytes: of a parameter or an error cause as it was read, with its reserved bytes; of a
+        chunk, and of a kind of `davgyuti.registered`, as it is written. Raises what PacketBuilder raises for it."""
+        return _fast.value(self)

@@ -1,14 +1,15 @@
 # SPDX-License-Identifier: Apache-2.0
 """Changing packets, and writing the lists of their chunks."""
 
+from __future__ import annotations
+
 from collections.abc import Iterable
 from ctypes import byref, c_size_t, c_uint16
 from ipaddress import IPv4Address
-from types import TracebackType
 from typing import Any
 
-from . import _fast, _header, registered
-from ._kinds import Cause, GapAckBlock, Init, Parameter
+from . import _fast, _header
+from ._kinds import GapAckBlock, Init
 from ._library import array, functions, number, numbers, sized, start_of, to_bytes
 from ._numbers import Result
 from ._values import MAX_PACKET_SIZE, Address, BadPlace, Buffer, error_of
@@ -86,40 +87,26 @@ def reported(function: Any, level: int, *arguments: Any) -> tuple[Any, ...]:
     return _fast.parts(bytes(packet[: end.value]), start, level, True, len(packet), None)
 
 
-class ChunkWriter:
+class ChunkWriter(_fast.Writer):
     """Adds parameters or error causes to the packet's last chunk. In a `with` statement that ends by an exception the chunk
     is taken back; where it isn't the last one any more the packet is left as it is, and BadPlace is raised.
 
     A method that raises has changed nothing: BadPlace where the chunk isn't the last one any more, be it that another was
     added or that it was taken back, and what the methods of PacketBuilder raise. Let one thread at a time write a list."""
 
-    def __init__(self, builder: _fast.Builder, chunk: int) -> None:
-        self._builder, self._chunk = builder, chunk
+    __slots__ = ()
 
-    def __enter__(self) -> "ChunkWriter":
-        return self
-
-    def __exit__(
-        self, kind: type[BaseException] | None, value: BaseException | None, traceback: TracebackType | None
-    ) -> None:
-        if kind is not None and not self._builder._back(self._chunk) and isinstance(value, Exception):
+    def _raised(self, value: BaseException) -> None:
+        if not self._back() and isinstance(value, Exception):
             raise BadPlace(Result.BAD_PLACE, "the chunk isn't the packet's last one any more") from value
 
-    def parameter(self, parameter: Parameter) -> "ChunkWriter":
-        """Adds a parameter (RFC 9260 section 3.2.1), and returns this."""
-        self._builder._items(_fast.PARAMETER, (parameter,), self._chunk)
-        return self
-
-    def cause(self, cause: Cause) -> "ChunkWriter":
-        """Adds an error cause (RFC 9260 section 3.3.10), and returns this."""
-        self._builder._items(_fast.CAUSE, (cause,), self._chunk)
-        return self
-
-    def addresses(self, addresses: Iterable[Address]) -> "ChunkWriter":
+    def addresses(self, addresses: Iterable[Address]) -> ChunkWriter:
         """Adds an IPv4 Address or IPv6 Address parameter for each of these (RFC 9260 section 3.3.2.1), and returns this: all of
         them, or nothing."""
+        from . import registered
+
         kinds = [registered.Ipv4Address(it) if isinstance(it, IPv4Address) else registered.Ipv6Address(it) for it in addresses]
-        self._builder._items(_fast.PARAMETER, kinds, self._chunk)
+        self._items(_fast.PARAMETER, kinds)
         return self
 
     def unrecognized_parameters(self, init: Init, known: Iterable[int]) -> int | None:
@@ -129,12 +116,12 @@ class ChunkWriter:
         (data, places), end, types = listed(init), c_size_t(), numbers(c_uint16, known, "a type")
         function = functions.dcsctp_add_unrecognized_parameters
         items = reported(function, _fast.PARAMETER, *sized(data), *types, byref(end))
-        self._builder._items(_fast.PARAMETER, items, self._chunk)
+        self._items(_fast.PARAMETER, items)
         return stop(places, end)
 
-    def new_addresses(self, init: Init, known: Buffer) -> "ChunkWriter":
+    def new_addresses(self, init: Init, known: Buffer) -> ChunkWriter:
         """Adds to an ABORT the cause Restart of an Association with New Addresses (RFC 9260 section 3.3.10.11), with the addresses
         that an INIT adds to those of an association, `known`, as they are in the INIT, and returns this: see `adds_addresses`."""
         items = reported(functions.dcsctp_add_new_addresses, _fast.CAUSE, *sized(listed(init)[0]), *sized(known))
-        self._builder._items(_fast.CAUSE, items, self._chunk)
+        self._items(_fast.CAUSE, items)
         return self

@@ -8,9 +8,11 @@
             ...
 
 A RawChunk, a RawParameter and a RawCause are read so. What is in a list is again a parameter or an error cause, which is read
-in turn. A PacketBuilder and a ChunkWriter add all of these; reserved fields are written as zeros. A builder raises BadValue for
-what the type does not allow: an address of the other version of IP in an Ipv4Address, a broken list.
+in turn. A PacketBuilder and a ChunkWriter add all of these, a chunk with its `flags`; reserved fields are written as zeros. A builder
+raises BadValue for what the type does not allow: an address of the other version of IP in an Ipv4Address, a broken list.
 """
+
+from __future__ import annotations
 
 from dataclasses import dataclass
 from typing import ClassVar
@@ -42,7 +44,8 @@ class Cwr(RegisteredChunk):
 
 @dataclass(slots=True, unsafe_hash=True)
 class Auth(RegisteredChunk):
-    """AUTH (RFC 4895 section 5.1). Authenticates the chunks after it. Its value: key u16, HMAC identifier u16, HMAC."""
+    """AUTH (RFC 4895 section 5.1). Authenticates the chunks after it. Its value: key u16, HMAC identifier u16, HMAC
+    bytes."""
 
     type: ClassVar[ChunkType] = ChunkType.AUTH
     fields: ClassVar[dict[str, str]] = {"key": "short_number", "hmac_identifier": "second_short_number",
@@ -55,7 +58,8 @@ class Auth(RegisteredChunk):
 @dataclass(slots=True, unsafe_hash=True)
 class NrSack(RegisteredChunk):
     """NR-SACK (draft-tuexen-tsvwg-sctp-multipath). Acknowledges user data, some of which can't be dropped any more. Its
-    value: cumulative TSN ack u32, a_rwnd u32, counts u16 u16 u16, u16, blocks, TSNs u32."""
+    value: cumulative TSN ack u32, a_rwnd u32, count of blocks u16, count of NR blocks u16, count of duplicates u16,
+    u16, blocks GapAckBlock*, NR blocks GapAckBlock*, duplicates u32*."""
 
     type: ClassVar[ChunkType] = ChunkType.NR_SACK
     fields: ClassVar[dict[str, str]] = {"cumulative_tsn_ack": "number", "a_rwnd": "second_number",
@@ -79,7 +83,7 @@ class AsconfAck(RegisteredChunk):
 @dataclass(slots=True, unsafe_hash=True)
 class Pktdrop(RegisteredChunk):
     """PKTDROP (draft-stewart-sctp-pktdrprep). Reports a packet that was dropped. Its value: bandwidth u32, queued u32,
-    size u16, u16, a packet."""
+    size u16, u16, packet bytes."""
 
     type: ClassVar[ChunkType] = ChunkType.PKTDROP
     fields: ClassVar[dict[str, str]] = {"bandwidth": "number", "queued": "second_number",
@@ -88,11 +92,17 @@ class Pktdrop(RegisteredChunk):
     queued: int
     size: int
     packet: bytes = b""
+    MIDDLEBOX: ClassVar[int] = 1
+    """Of `flags`: the M bit: a router on the way dropped it, and not the receiver."""
+    BAD_CHECKSUM: ClassVar[int] = 2
+    """Of `flags`: the B bit: its checksum was wrong."""
+    TRUNCATED: ClassVar[int] = 4
+    """Of `flags`: the T bit: its end is missing."""
 
 
 @dataclass(slots=True, unsafe_hash=True)
 class Pad(RegisteredChunk):
-    """PAD (RFC 4820 section 3). Makes the packet longer. Its value: any bytes."""
+    """PAD (RFC 4820 section 3). Makes the packet longer. Its value: data bytes."""
 
     type: ClassVar[ChunkType] = ChunkType.PAD
     fields: ClassVar[dict[str, str]] = {"data": "bytes"}
@@ -101,7 +111,7 @@ class Pad(RegisteredChunk):
 
 @dataclass(slots=True, unsafe_hash=True)
 class Asconf(RegisteredChunk):
-    """ASCONF (RFC 5061 section 4.1.1). Changes the addresses of its sender. Its value: sequence number u32, an address,
+    """ASCONF (RFC 5061 section 4.1.1). Changes the addresses of its sender. Its value: sequence number u32, address,
     parameters."""
 
     type: ClassVar[ChunkType] = ChunkType.ASCONF
@@ -114,7 +124,7 @@ class Asconf(RegisteredChunk):
 
 @dataclass(slots=True, unsafe_hash=True)
 class Ipv4Address(RegisteredParameter):
-    """IPv4 Address (RFC 9260 section 3.3.2.1.1). An address. Its value: 4 bytes."""
+    """IPv4 Address (RFC 9260 section 3.3.2.1.1). An address. Its value: address ipv4."""
 
     type: ClassVar[ParameterType] = ParameterType.IPV4_ADDRESS
     fields: ClassVar[dict[str, str]] = {"address": "address"}
@@ -123,7 +133,7 @@ class Ipv4Address(RegisteredParameter):
 
 @dataclass(slots=True, unsafe_hash=True)
 class Ipv6Address(RegisteredParameter):
-    """IPv6 Address (RFC 9260 section 3.3.2.1.2). An address. Its value: 16 bytes."""
+    """IPv6 Address (RFC 9260 section 3.3.2.1.2). An address. Its value: address ipv6."""
 
     type: ClassVar[ParameterType] = ParameterType.IPV6_ADDRESS
     fields: ClassVar[dict[str, str]] = {"address": "address"}
@@ -133,7 +143,7 @@ class Ipv6Address(RegisteredParameter):
 @dataclass(slots=True, unsafe_hash=True)
 class UnrecognizedParameter(RegisteredParameter):
     """Unrecognized Parameter (RFC 9260 section 3.3.3.1.2). A parameter of the INIT that its receiver doesn't know, sent
-    back in the INIT ACK. Its value: a parameter."""
+    back in the INIT ACK. Its value: parameters."""
 
     type: ClassVar[ParameterType] = ParameterType.UNRECOGNIZED_PARAMETER
     fields: ClassVar[dict[str, str]] = {"parameters": "parameters"}
@@ -153,7 +163,7 @@ class CookiePreservative(RegisteredParameter):
 @dataclass(slots=True, unsafe_hash=True)
 class HostNameAddress(RegisteredParameter):
     """Host Name Address (RFC 9260 section 3.3.2.1.4). A name in place of addresses, which no sender may use. Its value:
-    a name, and a zero."""
+    host name bytes."""
 
     type: ClassVar[ParameterType] = ParameterType.HOST_NAME_ADDRESS
     fields: ClassVar[dict[str, str]] = {"host_name": "bytes"}
@@ -163,7 +173,7 @@ class HostNameAddress(RegisteredParameter):
 @dataclass(slots=True, unsafe_hash=True)
 class SupportedAddressTypes(RegisteredParameter):
     """Supported Address Types (RFC 9260 section 3.3.2.1.5). The types of addresses that the sender can use. Its value:
-    types of parameters u16."""
+    types u16*."""
 
     type: ClassVar[ParameterType] = ParameterType.SUPPORTED_ADDRESS_TYPES
     fields: ClassVar[dict[str, str]] = {"types": "short_numbers"}
@@ -180,7 +190,7 @@ class EcnCapable(RegisteredParameter):
 
 @dataclass(slots=True, unsafe_hash=True)
 class Random(RegisteredParameter):
-    """Random (RFC 4895 section 3.1). A random number, for the key of AUTH. Its value: any bytes."""
+    """Random (RFC 4895 section 3.1). A random number, for the key of AUTH. Its value: data bytes."""
 
     type: ClassVar[ParameterType] = ParameterType.RANDOM
     fields: ClassVar[dict[str, str]] = {"data": "bytes"}
@@ -189,8 +199,7 @@ class Random(RegisteredParameter):
 
 @dataclass(slots=True, unsafe_hash=True)
 class ChunkList(RegisteredParameter):
-    """Chunk List (RFC 4895 section 3.2). The types of chunks that have to come after AUTH. Its value: types of chunks
-    u8."""
+    """Chunk List (RFC 4895 section 3.2). The types of chunks that have to come after AUTH. Its value: types bytes."""
 
     type: ClassVar[ParameterType] = ParameterType.CHUNK_LIST
     fields: ClassVar[dict[str, str]] = {"types": "bytes"}
@@ -199,7 +208,7 @@ class ChunkList(RegisteredParameter):
 
 @dataclass(slots=True, unsafe_hash=True)
 class RequestedHmacAlgorithm(RegisteredParameter):
-    """Requested HMAC Algorithm (RFC 4895 section 3.3). The HMACs that the sender can check. Its value: HMACs u16."""
+    """Requested HMAC Algorithm (RFC 4895 section 3.3). The HMACs that the sender can check. Its value: HMACs u16*."""
 
     type: ClassVar[ParameterType] = ParameterType.REQUESTED_HMAC_ALGORITHM
     fields: ClassVar[dict[str, str]] = {"hmacs": "short_numbers"}
@@ -208,7 +217,7 @@ class RequestedHmacAlgorithm(RegisteredParameter):
 
 @dataclass(slots=True, unsafe_hash=True)
 class Padding(RegisteredParameter):
-    """Padding (RFC 4820 section 4). Makes the chunk longer. Its value: any bytes."""
+    """Padding (RFC 4820 section 4). Makes the chunk longer. Its value: data bytes."""
 
     type: ClassVar[ParameterType] = ParameterType.PADDING
     fields: ClassVar[dict[str, str]] = {"data": "bytes"}
@@ -217,7 +226,7 @@ class Padding(RegisteredParameter):
 
 @dataclass(slots=True, unsafe_hash=True)
 class AddIpAddress(RegisteredParameter):
-    """Add IP Address (RFC 5061 section 4.2.1). Adds an address. Its value: correlation ID u32, an address."""
+    """Add IP Address (RFC 5061 section 4.2.1). Adds an address. Its value: correlation ID u32, address."""
 
     type: ClassVar[ParameterType] = ParameterType.ADD_IP_ADDRESS
     fields: ClassVar[dict[str, str]] = {"correlation_id": "number", "address": "address"}
@@ -227,7 +236,7 @@ class AddIpAddress(RegisteredParameter):
 
 @dataclass(slots=True, unsafe_hash=True)
 class DeleteIpAddress(RegisteredParameter):
-    """Delete IP Address (RFC 5061 section 4.2.2). Deletes an address. Its value: correlation ID u32, an address."""
+    """Delete IP Address (RFC 5061 section 4.2.2). Deletes an address. Its value: correlation ID u32, address."""
 
     type: ClassVar[ParameterType] = ParameterType.DELETE_IP_ADDRESS
     fields: ClassVar[dict[str, str]] = {"correlation_id": "number", "address": "address"}
@@ -238,7 +247,7 @@ class DeleteIpAddress(RegisteredParameter):
 @dataclass(slots=True, unsafe_hash=True)
 class ErrorCauseIndication(RegisteredParameter):
     """Error Cause Indication (RFC 5061 section 4.2.3). Refuses a request of ASCONF. Its value: correlation ID u32,
-    error causes."""
+    causes."""
 
     type: ClassVar[ParameterType] = ParameterType.ERROR_CAUSE_INDICATION
     fields: ClassVar[dict[str, str]] = {"correlation_id": "number", "causes": "causes"}
@@ -249,7 +258,7 @@ class ErrorCauseIndication(RegisteredParameter):
 @dataclass(slots=True, unsafe_hash=True)
 class SetPrimaryAddress(RegisteredParameter):
     """Set Primary Address (RFC 5061 section 4.2.4). Asks the peer to send to this address. Its value: correlation ID
-    u32, an address."""
+    u32, address."""
 
     type: ClassVar[ParameterType] = ParameterType.SET_PRIMARY_ADDRESS
     fields: ClassVar[dict[str, str]] = {"correlation_id": "number", "address": "address"}
@@ -304,8 +313,8 @@ class OutOfResource(RegisteredCause):
 
 @dataclass(slots=True, unsafe_hash=True)
 class UnresolvableAddress(RegisteredCause):
-    """Unresolvable Address (RFC 9260 section 3.3.10.5). An address is of a type that isn't supported. Its value: a
-    parameter."""
+    """Unresolvable Address (RFC 9260 section 3.3.10.5). An address is of a type that isn't supported. Its value:
+    parameters."""
 
     code: ClassVar[CauseCode] = CauseCode.UNRESOLVABLE_ADDRESS
     fields: ClassVar[dict[str, str]] = {"parameters": "parameters"}
@@ -334,7 +343,7 @@ class UnrecognizedParameters(RegisteredCause):
 @dataclass(slots=True, unsafe_hash=True)
 class RestartWithNewAddresses(RegisteredCause):
     """Restart of an Association with New Addresses (RFC 9260 section 3.3.10.11). An INIT for an association that is
-    there had addresses that this hasn't. Its value: addresses."""
+    there had addresses that this hasn't. Its value: parameters."""
 
     code: ClassVar[CauseCode] = CauseCode.RESTART_WITH_NEW_ADDRESSES
     fields: ClassVar[dict[str, str]] = {"parameters": "parameters"}
