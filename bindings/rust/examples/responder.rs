@@ -217,13 +217,15 @@ impl Responder {
             lifespan: lifespan(parameters),
             local_tag: self.next.tag,
             peer_tag: init.initiate_tag,
+            local_tie_tag: 0,
+            peer_tie_tag: 0,
             local_initial_tsn: self.next.tsn,
             peer_initial_tsn: init.initial_tsn,
             local_port,
             peer_port,
             outbound_streams: OUTBOUND_STREAMS,
             inbound_streams: init.outbound_streams,
-            addresses: &self.kept(parameters)?,
+            extra: &self.kept(parameters)?,
         };
         let mut packet =
             PacketBuilder::begin(&mut buffer, local_port, peer_port, init.initiate_tag)?;
@@ -325,7 +327,7 @@ impl Responder {
             packet.error()?.registered_cause(&RegisteredCause::StaleCookie { microseconds })?;
             return Ok(Some(packet.seal().to_vec()));
         }
-        let kept = Parameters::of(cookie.addresses);
+        let kept = Parameters::of(cookie.extra);
         let is_tie = |parameter: Parameter| {
             parameter.parameter_type() == ParameterType::HEARTBEAT_INFO
                 && parameter.value() == it.tie_tags

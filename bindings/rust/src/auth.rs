@@ -109,6 +109,10 @@ pub struct Cookie<'a> {
     pub local_tag: u32,
     /// The initiate tag of the INIT.
     pub peer_tag: u32,
+    /// The Local Tie-Tag (RFC 9260 section 5.2.2): 0 where the INIT came without an association.
+    pub local_tie_tag: u32,
+    /// The Peer's Tie-Tag (RFC 9260 section 5.2.2): 0 where the INIT came without an association.
+    pub peer_tie_tag: u32,
     /// The initial TSN of the INIT ACK.
     pub local_initial_tsn: u32,
     /// The initial TSN of the INIT.
@@ -121,10 +125,10 @@ pub struct Cookie<'a> {
     pub outbound_streams: u16,
     /// The number of streams on which the peer sends.
     pub inbound_streams: u16,
-    /// Bytes of yours, as the parameters of the peer's INIT by
-    /// [`Parameters::as_bytes`](crate::Parameters::as_bytes), with its addresses, which
-    /// [`Parameters::of`](crate::Parameters::of) reads back.
-    pub addresses: &'a [u8],
+    /// Further bytes of yours, of any length: AUTH's key vectors, say, or the parameters of the
+    /// peer's INIT by [`Parameters::as_bytes`](crate::Parameters::as_bytes), with its addresses,
+    /// which [`Parameters::of`](crate::Parameters::of) reads back.
+    pub extra: &'a [u8],
 }
 
 /// What a cookie says, here or in C, with the numbers of the other.
@@ -133,27 +137,28 @@ macro_rules! same_numbers {
     ($cookie:path, $other:expr, $($more:tt)*) => {{
         let it = $other;
         let (created, lifespan, local_tag, peer_tag) = (it.created, it.lifespan, it.local_tag, it.peer_tag);
+        let (local_tie_tag, peer_tie_tag) = (it.local_tie_tag, it.peer_tie_tag);
         let (local_initial_tsn, peer_initial_tsn) = (it.local_initial_tsn, it.peer_initial_tsn);
         let (local_port, peer_port) = (it.local_port, it.peer_port);
         let (outbound_streams, inbound_streams) = (it.outbound_streams, it.inbound_streams);
         $cookie {
-            created, lifespan, local_tag, peer_tag, local_initial_tsn, peer_initial_tsn, local_port, peer_port,
-            outbound_streams, inbound_streams, $($more)*
+            created, lifespan, local_tag, peer_tag, local_tie_tag, peer_tie_tag, local_initial_tsn, peer_initial_tsn,
+            local_port, peer_port, outbound_streams, inbound_streams, $($more)*
         }
     }};
 }
 
-/// Writes a State Cookie to the front of `output`, and returns it: 72 bytes, with an HMAC over what
-/// it says (RFC 9260 section 5.1.3), and the addresses. Let the key be 32 random bytes that nobody
+/// Writes a State Cookie to the front of `output`, and returns it: 80 bytes, with an HMAC over what
+/// it says (RFC 9260 section 5.1.3), and the extra ones. Let the key be 32 random bytes that nobody
 /// else knows.
 ///
 /// ```
 /// use davgyuti::{Cookie, CookieError};
 ///
-/// let says = Cookie { created: 5, lifespan: 10, addresses: &[192, 0, 2, 1], ..Cookie::default() };
+/// let says = Cookie { created: 5, lifespan: 10, extra: &[192, 0, 2, 1], ..Cookie::default() };
 /// let mut output = [0; 100];
 /// let sealed = davgyuti::seal_cookie(&mut output, b"key", &says)?;
-/// assert_eq!(sealed.len(), 72 + 4);
+/// assert_eq!(sealed.len(), 80 + 4);
 /// assert_eq!(davgyuti::open_cookie(b"key", sealed, 15), Ok(says));
 /// assert_eq!(davgyuti::open_cookie(b"key", sealed, 17), Err(CookieError::Stale { staleness: 2 }));
 /// assert_eq!(davgyuti::open_cookie(b"other key", sealed, 15), Err(CookieError::Invalid));
@@ -169,9 +174,9 @@ pub fn seal_cookie<'a>(
     cookie: &Cookie,
 ) -> Result<&'a mut [u8], WriteError> {
     let says = same_numbers!(ffi::Cookie, cookie, ..ffi::Cookie::default());
-    let (mut size, says, addresses) = (0, &raw const says, cookie.addresses);
+    let (mut size, says, extra) = (0, &raw const says, cookie.extra);
     let at = &raw mut size;
-    WriteError::check(call!(dcsctp_seal_cookie, mut [output], at, [key], says, [addresses]))?;
+    WriteError::check(call!(dcsctp_seal_cookie, mut [output], at, [key], says, [extra]))?;
     Ok(&mut output[..size])
 }
 
@@ -191,8 +196,8 @@ pub fn open_cookie<'a>(key: &[u8], bytes: &'a [u8], now: u64) -> Result<Cookie<'
     let (at, late) = (&raw mut says, &raw mut staleness);
     match call!(dcsctp_open_cookie, [key], [bytes], now, at, late) {
         0 => {
-            let addresses = &bytes[says.addresses_offset..][..says.addresses_size];
-            Ok(same_numbers!(Cookie, says, addresses))
+            let extra = &bytes[says.extra_offset..][..says.extra_size];
+            Ok(same_numbers!(Cookie, says, extra))
         }
         1 => Err(CookieError::Stale { staleness }),
         _ => Err(CookieError::Invalid),

@@ -9,6 +9,8 @@ use crate::registered::{RegisteredChunk, RegisteredParameter};
 use crate::returned::{Answer, InitFault};
 use crate::types::{ChunkType, ParameterType};
 use crate::values::Header;
+#[cfg(feature = "alloc")]
+use alloc::vec::Vec;
 use core::fmt;
 use core::net::IpAddr;
 use core::ptr;
@@ -198,6 +200,78 @@ impl<'a> PacketBuilder<'a> {
         let header = header.raw();
         add!(packet, dcsctp_init_abort, &raw const header, initiate_tag, fault.number())?;
         Ok(packet)
+    }
+
+    /// Appends to a `Vec` the packet that `write` returns: the front of the bytes that it gets, which
+    /// are `limit` zeros, or [`MAX_PACKET`] if that is less. This needs the feature `alloc`.
+    ///
+    /// ```
+    /// use davgyuti::PacketBuilder;
+    ///
+    /// let mut output = b"before".to_vec();
+    /// PacketBuilder::append(&mut output, 1200, |buffer| {
+    ///     let mut packet = PacketBuilder::begin(buffer, 5000, 5001, 7)?;
+    ///     packet.cookie_ack()?;
+    ///     Ok(packet.seal())
+    /// })?;
+    /// assert_eq!(output.len(), 6 + 16);
+    /// assert!(davgyuti::Packet::parse(&output[6..]).is_ok());
+    /// # Ok::<(), davgyuti::WriteError>(())
+    /// ```
+    ///
+    /// # Errors
+    /// What `write` returns; [`WriteError::BadPlace`] where it returns other bytes. Nothing is
+    /// appended then.
+    #[cfg(feature = "alloc")]
+    pub fn append(
+        output: &mut Vec<u8>,
+        limit: usize,
+        write: impl FnOnce(&mut [u8]) -> Result<&mut [u8], WriteError>,
+    ) -> Result<(), WriteError> {
+        let start = output.len();
+        output.resize(start + limit.min(MAX_PACKET), 0);
+        let buffer = &mut output[start..];
+        let front = buffer.as_ptr();
+        let size = write(buffer).and_then(|packet| {
+            let is_front = ptr::eq(packet.as_ptr(), front);
+            if is_front { Ok(packet.len()) } else { Err(WriteError::BadPlace) }
+        });
+        output.truncate(start + size.unwrap_or(0));
+        size.map(|_| ())
+    }
+
+    /// Writes the packet that `write` returns, as [`append`](Self::append) does, by one `write_all`: it
+    /// is one record where `output` sends records. This needs the feature `std`.
+    ///
+    /// ```
+    /// use davgyuti::PacketBuilder;
+    /// use std::io::{Error, Write};
+    ///
+    /// /// Sends a SHUTDOWN ACK over DTLS.
+    /// fn send(dtls: &mut impl Write, tag: u32) -> Result<(), Error> {
+    ///     PacketBuilder::write_to(dtls, 1200, |buffer| {
+    ///         let mut packet = PacketBuilder::begin(buffer, 5000, 5000, tag)?;
+    ///         packet.shutdown_ack()?;
+    ///         Ok(packet.seal())
+    ///     })
+    /// }
+    /// # let mut sent = Vec::new();
+    /// # send(&mut sent, 7)?;
+    /// # assert_eq!(davgyuti::Packet::parse(&sent)?.header().verification_tag, 7);
+    /// # Ok::<(), Error>(())
+    /// ```
+    ///
+    /// # Errors
+    /// As [`append`](Self::append), and nothing is written then; or those of `output`.
+    #[cfg(feature = "std")]
+    pub fn write_to(
+        output: &mut impl std::io::Write,
+        limit: usize,
+        write: impl FnOnce(&mut [u8]) -> Result<&mut [u8], WriteError>,
+    ) -> std::io::Result<()> {
+        let mut packet = Vec::new();
+        Self::append(&mut packet, limit, write)?;
+        output.write_all(&packet)
     }
 
     /// Returns the packet's size so far, in bytes.
@@ -416,8 +490,8 @@ impl<'a> PacketBuilder<'a> {
         Ok((end < list.len()).then_some(offset + end))
     }
 
-    /// Adds a chunk of the rest of IANA's registry by its fields, without flags, and zeros in what is
-    /// reserved. More parameters can be added to an ASCONF or an ASCONF ACK (RFC 5061 section 4.1).
+    /// Adds a chunk of the rest of IANA's registry by its fields, with the flags that are one of
+    /// them, and zeros in what is reserved. More parameters can be added to an ASCONF or an ASCONF ACK (RFC 5061 section 4.1).
     ///
     /// # Errors
     /// [`WriteError::BadValue`], also where the type does not allow it: counts that aren't those of

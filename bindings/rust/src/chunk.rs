@@ -10,7 +10,7 @@ use crate::kinds::{Content, Sack};
 #[cfg(feature = "alloc")]
 use crate::owned::OwnedChunk;
 #[cfg(feature = "alloc")]
-use crate::packet::first_fault;
+use crate::packet::{Word, first_fault};
 use crate::registered::RegisteredChunk;
 use crate::types::ChunkType;
 #[cfg(feature = "alloc")]
@@ -53,16 +53,16 @@ pub(crate) fn split(bytes: &[u8], offset: usize) -> Option<([u8; 2], &[u8], usiz
 
 /// Has `==` and `Hash` look at what `as_bytes` returns, and at nothing else.
 macro_rules! same_bytes {
-    ($name:ident) => {
-        impl PartialEq for $name<'_> {
+    ($name:ty) => {
+        impl PartialEq for $name {
             fn eq(&self, other: &Self) -> bool {
                 self.as_bytes() == other.as_bytes()
             }
         }
 
-        impl Eq for $name<'_> {}
+        impl Eq for $name {}
 
-        impl core::hash::Hash for $name<'_> {
+        impl core::hash::Hash for $name {
             fn hash<H: core::hash::Hasher>(&self, state: &mut H) {
                 self.as_bytes().hash(state);
             }
@@ -98,7 +98,7 @@ pub struct Chunk<'a> {
 }
 
 // The header and the value: the length between them is that of the value.
-same_bytes!(Chunk);
+same_bytes!(Chunk<'_>);
 
 impl<'a> Chunk<'a> {
     /// Reads the chunk at an offset of any bytes, checked or not; none where no whole chunk is (RFC
@@ -135,7 +135,9 @@ impl<'a> Chunk<'a> {
         // (no chunk is longer than these)
         let end = chunk.map_or(bytes.len().min(0x1_0000), |it| it.next_offset());
         let packet = [&[0; FIRST_CHUNK], &bytes[..end]].concat();
-        if let Some(it) = first_fault(&packet, 0, Policy::new().with_any_checksum(true)) {
+        if let Some(it) =
+            first_fault(&packet, Word::default(), Policy::new().with_any_checksum(true))
+        {
             return Err(Fault { offset: it.offset - FIRST_CHUNK, ..it });
         }
         let behind = Fault { kind: FaultKind::Length, offset: end };
@@ -211,8 +213,8 @@ impl<'a> Chunk<'a> {
     }
 
     /// Returns the chunk by its fields, if its type is one of [`RegisteredChunk`]; none where the
-    /// value has a size that its type doesn't allow, or a list that is broken. Its flags are in no
-    /// field: none of those types has one.
+    /// value has a size that its type doesn't allow, or a list that is broken. Its flags are a field
+    /// of PKTDROP alone: no other of those types has any.
     #[doc(alias = "dcsctp_registered_chunk")]
     #[must_use]
     pub fn registered(&self) -> Option<RegisteredChunk<'a>> {

@@ -143,6 +143,25 @@ impl fmt::Display for CookieError {
 
 impl Error for CookieError {}
 
+/// Defines how an error here is one of input and output.
+#[cfg(feature = "std")]
+macro_rules! into_io {
+    ($($name:ident, $kind:ident;)*) => {$(
+        impl From<$name> for std::io::Error {
+            #[doc = concat!("Returns one of the kind `", stringify!($kind), "` around it. This needs the feature `std`.")]
+            fn from(error: $name) -> Self {
+                Self::new(std::io::ErrorKind::$kind, error)
+            }
+        }
+    )*};
+}
+
+#[cfg(feature = "std")]
+into_io! {
+    Fault, InvalidData;
+    WriteError, InvalidInput;
+}
+
 /// A number that has no name: what the conversions from `u32` return.
 #[derive(Clone, Copy, PartialEq, Eq, Hash, Debug)]
 pub struct UnknownNumber(pub u32);

@@ -129,6 +129,7 @@ pub struct Registered {
     pub short_number: u16,
     pub second_short_number: u16,
     pub third_short_number: u16,
+    pub flags: u8,
     pub address_offset: usize,
     pub address_size: usize,
     pub rest_offset: usize,
@@ -202,14 +203,16 @@ pub struct Cookie {
     pub lifespan: u64,
     pub local_tag: u32,
     pub peer_tag: u32,
+    pub local_tie_tag: u32,
+    pub peer_tie_tag: u32,
     pub local_initial_tsn: u32,
     pub peer_initial_tsn: u32,
     pub local_port: u16,
     pub peer_port: u16,
     pub outbound_streams: u16,
     pub inbound_streams: u16,
-    pub addresses_offset: usize,
-    pub addresses_size: usize,
+    pub extra_offset: usize,
+    pub extra_size: usize,
 }
 
 // What every function asks of its caller, and what the SAFETY comments of this crate are about:
@@ -723,8 +726,8 @@ unsafe extern "C" {
         key: *const u8,
         key_size: usize,
         cookie: *const Cookie,
-        addresses: *const u8,
-        addresses_size: usize,
+        extra: *const u8,
+        extra_size: usize,
     ) -> u32;
     pub fn dcsctp_open_cookie(
         key: *const u8,

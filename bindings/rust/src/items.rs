@@ -88,7 +88,7 @@ impl FusedIterator for Parameters<'_> {}
 pub struct Parameter<'a>(Item<'a>);
 
 // The type and the value: the length between them is that of the value.
-same_bytes!(Parameter);
+same_bytes!(Parameter<'_>);
 
 impl<'a> Parameter<'a> {
     /// Writes one with this type and this value (RFC 9260 section 3.2.1) to the front of
@@ -362,7 +362,7 @@ impl FusedIterator for Causes<'_> {}
 pub struct Cause<'a>(Item<'a>);
 
 // The code and the value: the length between them is that of the value.
-same_bytes!(Cause);
+same_bytes!(Cause<'_>);
 
 impl<'a> Cause<'a> {
     /// Writes one with this code and this value (RFC 9260 section 3.3.10) to the front of

@@ -875,7 +875,8 @@ impl From<ReConfigResult> for u32 {
 /// A request or the response of RE-CONFIG (RFC 6525 section 4).
 ///
 /// The streams of the two requests that name some are a [`ResetStreams`] where they are read, and a
-/// slice of `u16` where they are written. A request that names no stream is for all of them.
+/// slice of `u16`, or any list of them, where they are written. A request that names no stream is
+/// for all of them.
 ///
 /// ```
 /// use davgyuti::ReConfig;

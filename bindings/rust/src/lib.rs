@@ -5,7 +5,7 @@
 
 #[cfg(feature = "alloc")]
 extern crate alloc;
-#[cfg(feature = "processor-crc32c")]
+#[cfg(feature = "std")]
 extern crate std;
 
 mod auth;
@@ -45,8 +45,10 @@ pub use kinds::{
 };
 pub use list::ShortNumbers;
 #[cfg(feature = "alloc")]
-pub use owned::OwnedChunk;
-pub use packet::{Packet, check, clean_blocks, first_fault, needs_checksum, seal, set_tag, word};
+pub use owned::{OwnedChunk, OwnedPacket};
+pub use packet::{
+    Packet, Word, check, clean_blocks, first_fault, needs_checksum, seal, set_tag, word,
+};
 pub use receive::{
     Association, adds_addresses, init_fault, init_refusal, out_of_the_blue, unrecognized_chunk,
     unrecognized_parameter, verify_tag,

@@ -1,7 +1,9 @@
 // SPDX-License-Identifier: Apache-2.0
-//! Chunks that are kept.
+//! Chunks and packets that are kept.
 
-use crate::chunk::Chunk;
+use crate::chunk::{Chunk, same_bytes};
+use crate::packet::{Packet, Word};
+use crate::values::Policy;
 use alloc::boxed::Box;
 use core::fmt;
 
@@ -41,5 +43,60 @@ impl From<Chunk<'_>> for OwnedChunk {
 impl fmt::Debug for OwnedChunk {
     fn fmt(&self, f: &mut fmt::Formatter<'_>) -> fmt::Result {
         self.as_chunk().fmt(f)
+    }
+}
+
+/// A packet with bytes of its own (RFC 9260 section 3): it was checked, and isn't checked again.
+///
+/// It needs the feature `alloc`, and takes its memory as [`OwnedChunk`] does. `==` and [`Hash`] are
+/// of the bytes alone.
+///
+/// ```
+/// # let bytes = *b"\x13\x88\x13\x88\x4d\x2d\xf5\x2d\x67\xdb\x78\xb5\x0b\0\0\x04";
+/// let kept: davgyuti::OwnedPacket = davgyuti::Packet::parse(&bytes)?.into_owned();
+/// assert_eq!(kept.as_packet().header().verification_tag, 0x4d2d_f52d);
+/// # Ok::<(), davgyuti::Fault>(())
+/// ```
+#[derive(Clone)]
+pub struct OwnedPacket {
+    bytes: Box<[u8]>,
+    word: Word,
+    policy: Policy,
+}
+
+same_bytes!(OwnedPacket);
+
+impl OwnedPacket {
+    /// Returns the packet, in a time that doesn't depend on its size.
+    #[must_use]
+    pub fn as_packet(&self) -> Packet<'_> {
+        let Self { bytes, word, policy } = self;
+        Packet { bytes, word: *word, policy: *policy }
+    }
+
+    /// Returns the bytes.
+    #[must_use]
+    pub fn as_bytes(&self) -> &[u8] {
+        &self.bytes
+    }
+}
+
+impl From<Packet<'_>> for OwnedPacket {
+    fn from(packet: Packet<'_>) -> Self {
+        let Packet { bytes, word, policy } = packet;
+        Self { bytes: bytes.into(), word, policy }
+    }
+}
+
+impl AsRef<[u8]> for OwnedPacket {
+    fn as_ref(&self) -> &[u8] {
+        &self.bytes
+    }
+}
+
+/// As of [`Packet`].
+impl fmt::Debug for OwnedPacket {
+    fn fmt(&self, f: &mut fmt::Formatter<'_>) -> fmt::Result {
+        self.as_packet().fmt(f)
     }
 }

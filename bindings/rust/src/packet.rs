@@ -5,26 +5,57 @@ use crate::chunk::{Chunk, Chunks, same_bytes};
 use crate::error::{Fault, FaultKind, OutputError, WriteError, call};
 use crate::ffi;
 use crate::kinds::{GapAckBlock, TAG_REFLECTED};
+#[cfg(feature = "alloc")]
+use crate::owned::OwnedPacket;
 use crate::types::ChunkType;
 use crate::values::{Header, Policy};
 #[cfg(feature = "alloc")]
 use alloc::{string::String, vec::Vec};
 
-/// Returns the word of a packet (RFC 9260 section 6.8): its CRC32c, over zeros in the checksum
-/// field, as the number that this field, bytes 8 to 11, has to be, most significant byte first.
+/// What the checksum field of a packet has to be (RFC 9260 section 6.8), as [`word`] returns it: it
+/// is computed, and never what the field is, with which every checksum would be right.
 ///
-/// If you have a faster CRC32c: the word is `crc.swap_bytes()`. The field itself is never it: with
-/// [`Header::checksum`] in its place, every checksum is right. For fewer than 12 bytes it has no
-/// meaning.
+/// The default is for a policy that accepts [any checksum](Policy::any_checksum).
 ///
 /// ```
+/// use davgyuti::Word;
+///
 /// let packet = *b"\x13\x88\x13\x88\x4d\x2d\xf5\x2d\x67\xdb\x78\xb5\x0b\0\0\x04";
-/// assert_eq!(davgyuti::word(&packet), 0x67db_78b5);
+/// let word: Word = davgyuti::word(&packet);
+/// assert_eq!(word.checksum(), 0x67db_78b5);
+/// assert_eq!(word, Word::from_crc32c(0xb578_db67));
 /// ```
+///
+/// ```compile_fail
+/// # let bytes = [0; 16];
+/// let field = davgyuti::Header::read(&bytes).unwrap().checksum;
+/// let packet = davgyuti::Packet::parse_with(&bytes, field, davgyuti::Policy::new());
+/// ```
+#[derive(Clone, Copy, Default, PartialEq, Eq, Hash, Debug)]
+pub struct Word(u32);
+
+impl Word {
+    /// Returns that of a CRC32c which something else computed, such as a network card: of the
+    /// packet's bytes, over zeros in the checksum field.
+    #[must_use]
+    pub const fn from_crc32c(crc32c: u32) -> Self {
+        Self(crc32c.swap_bytes())
+    }
+
+    /// Returns the number that the checksum field, bytes 8 to 11, has to be, most significant byte
+    /// first.
+    #[must_use]
+    pub const fn checksum(self) -> u32 {
+        self.0
+    }
+}
+
+/// Returns the word of a packet (RFC 9260 section 6.8): its CRC32c, over zeros in the checksum
+/// field. For fewer than 12 bytes it has no meaning.
 #[doc(alias = "dcsctp_word")]
 #[must_use]
-pub fn word(bytes: &[u8]) -> u32 {
-    call!(dcsctp_word, [bytes])
+pub fn word(bytes: &[u8]) -> Word {
+    Word(call!(dcsctp_word, [bytes]))
 }
 
 /// Returns whether a packet has to have its CRC32c also where a checksum of zero was negotiated (RFC
@@ -70,8 +101,7 @@ fn raw_policy(policy: Policy, bytes: &[u8]) -> ffi::Policy {
     }
 }
 
-/// Checks whether bytes are a packet (RFC 9260 section 3). `word` is what the checksum field has to
-/// be: [`word(bytes)`](word).
+/// Checks whether bytes are a packet (RFC 9260 section 3); `word` is [`word(bytes)`](word).
 ///
 /// ```
 /// use davgyuti::{FaultKind, Policy};
@@ -89,20 +119,20 @@ fn raw_policy(policy: Policy, bytes: &[u8]) -> ffi::Policy {
 /// The kind of the first fault; [`first_fault`] says where it is.
 #[doc(alias = "dcsctp_check")]
 #[inline]
-pub fn check(bytes: &[u8], word: u32, policy: Policy) -> Result<(), FaultKind> {
+pub fn check(bytes: &[u8], word: Word, policy: Policy) -> Result<(), FaultKind> {
     let policy = raw_policy(policy, bytes);
-    let code = call!(dcsctp_check, [bytes], word, &raw const policy);
+    let code = call!(dcsctp_check, [bytes], word.0, &raw const policy);
     FaultKind::of(code).map_or(Ok(()), Err)
 }
 
-/// Returns the first fault of bytes, or none if they are a packet (RFC 9260 section 3). `word` is
-/// what the checksum field has to be: [`word(bytes)`](word).
+/// Returns the first fault of bytes, or none if they are a packet (RFC 9260 section 3); `word` is
+/// [`word(bytes)`](word).
 #[doc(alias = "dcsctp_first_fault")]
 #[must_use]
-pub fn first_fault(bytes: &[u8], word: u32, policy: Policy) -> Option<Fault> {
+pub fn first_fault(bytes: &[u8], word: Word, policy: Policy) -> Option<Fault> {
     let (mut offset, policy) = (0, raw_policy(policy, bytes));
     let (policy, offset_at) = (&raw const policy, &raw mut offset);
-    let code = call!(dcsctp_first_fault, [bytes], word, policy, offset_at);
+    let code = call!(dcsctp_first_fault, [bytes], word.0, policy, offset_at);
     FaultKind::of(code).map(|kind| Fault { kind, offset })
 }
 
@@ -172,12 +202,12 @@ pub fn clean_blocks(blocks: &mut [GapAckBlock]) -> &mut [GapAckBlock] {
 /// ```
 #[derive(Clone, Copy)]
 pub struct Packet<'a> {
-    bytes: &'a [u8],
-    word: u32,
-    policy: Policy,
+    pub(crate) bytes: &'a [u8],
+    pub(crate) word: Word,
+    pub(crate) policy: Policy,
 }
 
-same_bytes!(Packet);
+same_bytes!(Packet<'_>);
 
 /// The type of the functions that write what a packet holds.
 type Write = unsafe extern "C" fn(
@@ -199,9 +229,7 @@ impl<'a> Packet<'a> {
         Self::parse_with(bytes, word(bytes), Policy::default())
     }
 
-    /// Checks bytes under a policy. `word` is what the checksum field has to be:
-    /// [`word(bytes)`](word), or what computes it faster. It must not be read from the packet: with
-    /// its own checksum field here every checksum is accepted.
+    /// Checks bytes under a policy; `word` is [`word(bytes)`](word), or what computes it faster.
     ///
     /// ```
     /// use davgyuti::{Fault, FaultKind, Packet, Policy};
@@ -217,7 +245,7 @@ impl<'a> Packet<'a> {
     /// # Errors
     /// The first fault.
     #[inline]
-    pub fn parse_with(bytes: &'a [u8], word: u32, policy: Policy) -> Result<Self, Fault> {
+    pub fn parse_with(bytes: &'a [u8], word: Word, policy: Policy) -> Result<Self, Fault> {
         // (whether there is a fault takes less time than which)
         if check(bytes, word, policy).is_ok() {
             return Ok(Packet { bytes, word, policy });
@@ -230,6 +258,13 @@ impl<'a> Packet<'a> {
     #[inline]
     pub const fn as_bytes(&self) -> &'a [u8] {
         self.bytes
+    }
+
+    /// Returns a copy that has bytes of its own, to keep it.
+    #[cfg(feature = "alloc")]
+    #[must_use]
+    pub fn into_owned(self) -> OwnedPacket {
+        self.into()
     }
 
     /// Returns the common header (RFC 9260 section 3.1).
@@ -297,7 +332,7 @@ impl<'a> Packet<'a> {
     /// [`OutputError::NoRoom`]; `output` stays as it is.
     #[doc(alias = "dcsctp_report")]
     pub fn write_report<'b>(&self, output: &'b mut [u8]) -> Result<&'b str, OutputError> {
-        let size = self.write(ffi::dcsctp_report, output)?;
+        let size = self.with_word().write(ffi::dcsctp_report, output)?;
         Ok(utf8(&output[..size]))
     }
 
@@ -338,7 +373,14 @@ impl<'a> Packet<'a> {
     /// [`OutputError::OutOfMemory`].
     #[cfg(feature = "alloc")]
     pub fn to_report(&self) -> Result<String, OutputError> {
-        self.collect(ffi::dcsctp_report).map(text)
+        self.with_word().collect(ffi::dcsctp_report).map(text)
+    }
+
+    /// The packet with a word, with which a report compares the field also where any is accepted.
+    fn with_word(self) -> Self {
+        let is_given = !self.policy.any_checksum || self.word != Word::default();
+        let word = if is_given { self.word } else { crate::word(self.bytes) };
+        Self { word, ..self }
     }
 
     /// Calls the function, and returns the size of what it writes.
@@ -350,7 +392,7 @@ impl<'a> Packet<'a> {
         // SAFETY: `function` is one of dcsctp_canonical, dcsctp_print and dcsctp_report. `bytes`
         // and `output` are slices, and `policy` and `size` values here.
         let code = unsafe {
-            function(start, length, *word, &raw const policy, front, room, &raw mut size)
+            function(start, length, word.0, &raw const policy, front, room, &raw mut size)
         };
         match code {
             0 => Ok(size),

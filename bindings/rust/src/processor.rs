@@ -11,13 +11,14 @@
 //!
 //! let bytes = *b"\x13\x88\x13\x88\x4d\x2d\xf5\x2d\x67\xdb\x78\xb5\x0b\0\0\x04";
 //! let packet = Packet::parse_with(&bytes, processor::word(&bytes), Policy::default())?;
-//! # assert_eq!(packet.header().checksum, davgyuti::word(&bytes));
+//! # assert_eq!(packet.header().checksum, davgyuti::word(&bytes).checksum());
 //! # Ok::<(), davgyuti::Fault>(())
 //! ```
 //!
 //! It takes about a third of the time of [`crate::word`] for packets of 64 to 1,200 bytes.
 
 use crate::error::WriteError;
+use crate::packet::Word;
 
 #[cfg(target_arch = "aarch64")]
 use core::arch::aarch64::{__crc32cb as of_1, __crc32cd as of_8, __crc32cw as of_4};
@@ -61,12 +62,12 @@ unsafe fn after(first: u64, rest: &[u8]) -> u32 {
 
 /// Returns what [`crate::word`] does.
 #[must_use]
-pub fn word(bytes: &[u8]) -> u32 {
+pub fn word(bytes: &[u8]) -> Word {
     match (bytes.first_chunk(), bytes.get(12..)) {
         (Some(first), Some(rest)) if is_there() => {
             // SAFETY: it is there.
             let register = unsafe { after(u64::from_le_bytes(*first), rest) };
-            (!register).swap_bytes()
+            Word::from_crc32c(!register)
         }
         _ => crate::word(bytes),
     }
@@ -80,6 +81,6 @@ pub fn word(bytes: &[u8]) -> u32 {
 pub fn seal(packet: &mut [u8]) -> Result<(), WriteError> {
     let word = word(packet);
     let field = packet.get_mut(8..12).ok_or(WriteError::BadPlace)?;
-    field.copy_from_slice(&word.to_be_bytes());
+    field.copy_from_slice(&word.checksum().to_be_bytes());
     Ok(())
 }

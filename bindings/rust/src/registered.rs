@@ -43,75 +43,91 @@ use core::net::IpAddr;
 pub enum RegisteredChunk<'a> {
     /// ECNE (RFC 4960 appendix A). Says that the network was congested. Its value: lowest TSN u32.
     Ecne {
-        /// Lowest TSN, a number of 4 bytes.
+        /// The lowest TSN that came with the mark of congestion.
         lowest_tsn: u32,
     },
     /// CWR (RFC 4960 appendix A). Answers ECNE: the sender sends less. Its value: lowest TSN u32.
     Cwr {
-        /// Lowest TSN, a number of 4 bytes.
+        /// The lowest TSN that came with the mark of congestion.
         lowest_tsn: u32,
     },
     /// AUTH (RFC 4895 section 5.1). Authenticates the chunks after it. Its value: key u16, HMAC
-    /// identifier u16, HMAC.
+    /// identifier u16, HMAC bytes.
     Auth {
-        /// Key, a number of 2 bytes.
+        /// Which of the shared keys was used.
         key: u16,
-        /// HMAC identifier, a number of 2 bytes.
+        /// Which HMAC: 1 is SHA-1, and 3 SHA-256.
         hmac_identifier: u16,
-        /// HMAC.
+        /// Over this chunk, with zeros in this place, and all chunks after it.
         hmac: &'a [u8],
     },
     /// NR-SACK (draft-tuexen-tsvwg-sctp-multipath). Acknowledges user data, some of which can't be
-    /// dropped any more. Its value: cumulative TSN ack u32, `a_rwnd` u32, counts u16 u16 u16, u16,
-    /// blocks, TSNs u32.
+    /// dropped any more. Its value: cumulative TSN ack u32, `a_rwnd` u32, count of blocks u16,
+    /// count of NR blocks u16, count of duplicates u16, u16, blocks `GapAckBlock*`, NR blocks
+    /// `GapAckBlock*`, duplicates u32*.
     NrSack {
-        /// Cumulative TSN ack, a number of 4 bytes.
+        /// The last TSN before the first that is missing.
         cumulative_tsn_ack: u32,
-        /// `a_rwnd`, a number of 4 bytes.
+        /// The advertised receiver window credit, in bytes.
         a_rwnd: u32,
-        /// Counts.
+        /// How many blocks, NR blocks and duplicates.
         counts: [u16; 3],
-        /// Lists.
+        /// The blocks, NR blocks and duplicates, one after the other.
         lists: &'a [u8],
     },
     /// ASCONF ACK (RFC 5061 section 4.1.2). Answers ASCONF. Its value: sequence number u32,
     /// parameters.
     AsconfAck {
-        /// Sequence number, a number of 4 bytes.
+        /// One more than in the last ASCONF; of its answer the same.
         sequence_number: u32,
-        /// Parameters.
+        /// The parameters, in order.
         parameters: Parameters<'a>,
     },
     /// PKTDROP (draft-stewart-sctp-pktdrprep). Reports a packet that was dropped. Its value:
-    /// bandwidth u32, queued u32, size u16, u16, a packet.
+    /// bandwidth u32, queued u32, size u16, u16, packet bytes.
     Pktdrop {
-        /// Bandwidth, a number of 4 bytes.
+        /// Flags: [`PKTDROP_MIDDLEBOX`](Self::PKTDROP_MIDDLEBOX),
+        /// [`PKTDROP_BAD_CHECKSUM`](Self::PKTDROP_BAD_CHECKSUM) and
+        /// [`PKTDROP_TRUNCATED`](Self::PKTDROP_TRUNCATED).
+        flags: u8,
+        /// The bandwidth of the link, or the most that the receiver has room for, in bytes.
         bandwidth: u32,
-        /// Queued, a number of 4 bytes.
+        /// How many bytes of data are queued.
         queued: u32,
-        /// Size, a number of 2 bytes.
+        /// The size of the packet before it was cut, where it was; else 0.
         size: u16,
-        /// Packet.
+        /// The packet that was dropped, as far as it is here.
         packet: &'a [u8],
     },
-    /// PAD (RFC 4820 section 3). Makes the packet longer. Its value: any bytes.
+    /// PAD (RFC 4820 section 3). Makes the packet longer. Its value: data bytes.
     Pad {
-        /// Data.
+        /// Bytes that say nothing.
         data: &'a [u8],
     },
     /// ASCONF (RFC 5061 section 4.1.1). Changes the addresses of its sender. Its value: sequence
-    /// number u32, an address, parameters.
+    /// number u32, address, parameters.
     Asconf {
-        /// Sequence number, a number of 4 bytes.
+        /// One more than in the last ASCONF; of its answer the same.
         sequence_number: u32,
-        /// Address.
+        /// An address of the sender, by which its association can be found; zeros, where something
+        /// else says which it is.
         address: IpAddr,
-        /// Parameters.
+        /// The parameters, in order.
         parameters: Parameters<'a>,
     },
 }
 
 impl<'a> RegisteredChunk<'a> {
+    /// A flag of PKTDROP (draft-stewart-sctp-pktdrprep). The M bit: a router on the way dropped it,
+    /// and not the receiver.
+    pub const PKTDROP_MIDDLEBOX: u8 = 0x01;
+
+    /// A flag of PKTDROP (draft-stewart-sctp-pktdrprep). The B bit: its checksum was wrong.
+    pub const PKTDROP_BAD_CHECKSUM: u8 = 0x02;
+
+    /// A flag of PKTDROP (draft-stewart-sctp-pktdrprep). The T bit: its end is missing.
+    pub const PKTDROP_TRUNCATED: u8 = 0x04;
+
     /// Returns the number of this kind.
     ///
     /// ```
@@ -155,6 +171,7 @@ impl<'a> RegisteredChunk<'a> {
                 Self::AsconfAck { sequence_number: it.fields.number, parameters: it.parameters() }
             }
             ChunkType::PKTDROP => Self::Pktdrop {
+                flags: it.fields.flags,
                 bandwidth: it.fields.number,
                 queued: it.fields.second_number,
                 size: it.fields.short_number,
@@ -191,7 +208,8 @@ impl<'a> RegisteredChunk<'a> {
                 raw.fields.number = *sequence_number;
                 raw.rest = parameters.as_bytes();
             }
-            Self::Pktdrop { bandwidth, queued, size, packet } => {
+            Self::Pktdrop { flags, bandwidth, queued, size, packet } => {
+                raw.fields.flags = *flags;
                 raw.fields.number = *bandwidth;
                 raw.fields.second_number = *queued;
                 raw.fields.short_number = *size;
@@ -235,8 +253,9 @@ impl fmt::Debug for RegisteredChunk<'_> {
                 .field("sequence_number", sequence_number)
                 .field("parameters", parameters)
                 .finish(),
-            Self::Pktdrop { bandwidth, queued, size, packet } => f
+            Self::Pktdrop { flags, bandwidth, queued, size, packet } => f
                 .debug_struct("Pktdrop")
+                .field("flags", flags)
                 .field("bandwidth", bandwidth)
                 .field("queued", queued)
                 .field("size", size)
@@ -269,106 +288,106 @@ impl fmt::Debug for RegisteredChunk<'_> {
 #[derive(Clone, PartialEq, Eq)]
 #[non_exhaustive]
 pub enum RegisteredParameter<'a> {
-    /// IPv4 Address (RFC 9260 section 3.3.2.1.1). An address. Its value: 4 bytes.
+    /// IPv4 Address (RFC 9260 section 3.3.2.1.1). An address. Its value: address ipv4.
     Ipv4Address {
-        /// Address.
+        /// An address of IPv4 or of IPv6.
         address: IpAddr,
     },
-    /// IPv6 Address (RFC 9260 section 3.3.2.1.2). An address. Its value: 16 bytes.
+    /// IPv6 Address (RFC 9260 section 3.3.2.1.2). An address. Its value: address ipv6.
     Ipv6Address {
-        /// Address.
+        /// An address of IPv4 or of IPv6.
         address: IpAddr,
     },
     /// Unrecognized Parameter (RFC 9260 section 3.3.3.1.2). A parameter of the INIT that its
-    /// receiver doesn't know, sent back in the INIT ACK. Its value: a parameter.
+    /// receiver doesn't know, sent back in the INIT ACK. Its value: parameters.
     UnrecognizedParameter {
-        /// Parameters.
+        /// The parameters, in order.
         parameters: Parameters<'a>,
     },
     /// Cookie Preservative (RFC 9260 section 3.3.2.1.3). Asks for a longer life of the State
     /// Cookie. Its value: milliseconds u32.
     CookiePreservative {
-        /// Milliseconds, a number of 4 bytes.
+        /// How much longer the State Cookie is to live.
         milliseconds: u32,
     },
     /// Host Name Address (RFC 9260 section 3.3.2.1.4). A name in place of addresses, which no
-    /// sender may use. Its value: a name, and a zero.
+    /// sender may use. Its value: host name bytes.
     HostNameAddress {
-        /// Host name.
+        /// The name; that a zero ends it isn't checked.
         host_name: &'a [u8],
     },
     /// Supported Address Types (RFC 9260 section 3.3.2.1.5). The types of addresses that the sender
-    /// can use. Its value: types of parameters u16.
+    /// can use. Its value: types u16*.
     SupportedAddressTypes {
-        /// Types.
+        /// The types of address parameters.
         types: ShortNumbers<'a>,
     },
     /// ECN Capable (RFC 4960 appendix A). ECNE and CWR are understood.
     EcnCapable,
-    /// Random (RFC 4895 section 3.1). A random number, for the key of AUTH. Its value: any bytes.
+    /// Random (RFC 4895 section 3.1). A random number, for the key of AUTH. Its value: data bytes.
     Random {
-        /// Data.
+        /// The random number.
         data: &'a [u8],
     },
     /// Chunk List (RFC 4895 section 3.2). The types of chunks that have to come after AUTH. Its
-    /// value: types of chunks u8.
+    /// value: types bytes.
     ChunkList {
-        /// Types.
+        /// The types of chunks, a byte each.
         types: &'a [u8],
     },
     /// Requested HMAC Algorithm (RFC 4895 section 3.3). The HMACs that the sender can check. Its
-    /// value: HMACs u16.
+    /// value: HMACs u16*.
     RequestedHmacAlgorithm {
-        /// HMACs.
+        /// Identifiers of HMACs, the one that the sender prefers first.
         hmacs: ShortNumbers<'a>,
     },
-    /// Padding (RFC 4820 section 4). Makes the chunk longer. Its value: any bytes.
+    /// Padding (RFC 4820 section 4). Makes the chunk longer. Its value: data bytes.
     Padding {
-        /// Data.
+        /// Bytes that say nothing.
         data: &'a [u8],
     },
-    /// Add IP Address (RFC 5061 section 4.2.1). Adds an address. Its value: correlation ID u32, an
+    /// Add IP Address (RFC 5061 section 4.2.1). Adds an address. Its value: correlation ID u32,
     /// address.
     AddIpAddress {
-        /// Correlation ID, a number of 4 bytes.
+        /// By which a request is answered.
         correlation_id: u32,
-        /// Address.
+        /// An address of IPv4 or of IPv6.
         address: IpAddr,
     },
     /// Delete IP Address (RFC 5061 section 4.2.2). Deletes an address. Its value: correlation ID
-    /// u32, an address.
+    /// u32, address.
     DeleteIpAddress {
-        /// Correlation ID, a number of 4 bytes.
+        /// By which a request is answered.
         correlation_id: u32,
-        /// Address.
+        /// An address of IPv4 or of IPv6.
         address: IpAddr,
     },
     /// Error Cause Indication (RFC 5061 section 4.2.3). Refuses a request of ASCONF. Its value:
-    /// correlation ID u32, error causes.
+    /// correlation ID u32, causes.
     ErrorCauseIndication {
-        /// Correlation ID, a number of 4 bytes.
+        /// By which a request is answered.
         correlation_id: u32,
-        /// Causes.
+        /// The error causes, in order.
         causes: Causes<'a>,
     },
     /// Set Primary Address (RFC 5061 section 4.2.4). Asks the peer to send to this address. Its
-    /// value: correlation ID u32, an address.
+    /// value: correlation ID u32, address.
     SetPrimaryAddress {
-        /// Correlation ID, a number of 4 bytes.
+        /// By which a request is answered.
         correlation_id: u32,
-        /// Address.
+        /// An address of IPv4 or of IPv6.
         address: IpAddr,
     },
     /// Success Indication (RFC 5061 section 4.2.5). Grants a request of ASCONF. Its value:
     /// correlation ID u32.
     SuccessIndication {
-        /// Correlation ID, a number of 4 bytes.
+        /// By which a request is answered.
         correlation_id: u32,
     },
     /// Adaptation Layer Indication (RFC 5061 section 4.2.6). Names the layer above SCTP. Its value:
     /// code u32.
     AdaptationLayerIndication {
-        /// Code, a number of 4 bytes.
+        /// Which adaptation layer it is.
         code: u32,
     },
 }
@@ -568,21 +587,21 @@ pub enum RegisteredCause<'a> {
     /// Invalid Stream Identifier (RFC 9260 section 3.3.10.1). User data came on a stream that isn't
     /// there. Its value: stream u16, u16.
     InvalidStreamIdentifier {
-        /// Stream, a number of 2 bytes.
+        /// The stream identifier.
         stream: u16,
     },
     /// Stale Cookie (RFC 9260 section 3.3.10.3). The State Cookie was too old. Its value:
     /// microseconds u32.
     StaleCookie {
-        /// Microseconds, a number of 4 bytes.
+        /// Since when the State Cookie is too old.
         microseconds: u32,
     },
     /// Out of Resource (RFC 9260 section 3.3.10.4). There is no memory for the association.
     OutOfResource,
     /// Unresolvable Address (RFC 9260 section 3.3.10.5). An address is of a type that isn't
-    /// supported. Its value: a parameter.
+    /// supported. Its value: parameters.
     UnresolvableAddress {
-        /// Parameters.
+        /// The parameters, in order.
         parameters: Parameters<'a>,
     },
     /// Invalid Mandatory Parameter (RFC 9260 section 3.3.10.7). A parameter that has to be there
@@ -591,31 +610,31 @@ pub enum RegisteredCause<'a> {
     /// Unrecognized Parameters (RFC 9260 section 3.3.10.8). Parameters of unknown types came, and
     /// are in the cause. Its value: parameters.
     UnrecognizedParameters {
-        /// Parameters.
+        /// The parameters, in order.
         parameters: Parameters<'a>,
     },
     /// Restart of an Association with New Addresses (RFC 9260 section 3.3.10.11). An INIT for an
-    /// association that is there had addresses that this hasn't. Its value: addresses.
+    /// association that is there had addresses that this hasn't. Its value: parameters.
     RestartWithNewAddresses {
-        /// Parameters.
+        /// The parameters that are the new addresses: [`Parameters::addresses`] returns these.
         parameters: Parameters<'a>,
     },
     /// Request to Delete Last Remaining IP Address (RFC 5061 section 4.3.1). The request would
     /// leave no address. Its value: parameters.
     DeleteLastRemainingIpAddress {
-        /// Parameters.
+        /// The parameters, in order.
         parameters: Parameters<'a>,
     },
     /// Operation Refused Due to Resource Shortage (RFC 5061 section 4.3.2). There is no room for
     /// what is asked. Its value: parameters.
     OperationRefused {
-        /// Parameters.
+        /// The parameters, in order.
         parameters: Parameters<'a>,
     },
     /// Request to Delete Source IP Address (RFC 5061 section 4.3.3). The request would delete the
     /// address that it came from. Its value: parameters.
     DeleteSourceIpAddress {
-        /// Parameters.
+        /// The parameters, in order.
         parameters: Parameters<'a>,
     },
     /// Association Aborted due to illegal ASCONF-ACK (RFC 5061 section 4.3.4). An ASCONF ACK came
@@ -624,13 +643,13 @@ pub enum RegisteredCause<'a> {
     /// Request refused - no authorization (RFC 5061 section 4.3.5). The sender may not ask for it.
     /// Its value: parameters.
     RequestRefused {
-        /// Parameters.
+        /// The parameters, in order.
         parameters: Parameters<'a>,
     },
     /// Unsupported HMAC Identifier (RFC 4895 section 4.1). An AUTH has an HMAC that its receiver
     /// can't check. Its value: HMAC u16.
     UnsupportedHmacIdentifier {
-        /// HMAC, a number of 2 bytes.
+        /// Its identifier.
         hmac: u16,
     },
 }

@@ -86,8 +86,8 @@ pub struct Header {
     /// The tag that the receiver asked for; 0 with INIT. With the T bit it is the one that the
     /// receiver sends, sent back to it (RFC 9260 section 8.5.1).
     pub verification_tag: u32,
-    /// The checksum field, bytes 8 to 11, most significant byte first: what [`word`](crate::word)
-    /// returns, if it is right.
+    /// The checksum field, bytes 8 to 11, most significant byte first: the
+    /// [`checksum`](crate::Word::checksum) of the packet's word, if it is right.
     pub checksum: u32,
 }
 

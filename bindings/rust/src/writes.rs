@@ -460,13 +460,38 @@ impl ChunkBuilder<'_, '_> {
     /// [`WriteError::BadValue`] or [`WriteError::NoRoom`].
     #[doc(alias = "dcsctp_add_re_config")]
     pub fn re_config(&mut self, re_config: &ReConfig<&[u16]>) -> Result<&mut Self, WriteError> {
-        match *re_config {
+        self.re_config_from(re_config.map_streams(|it| it.iter().copied()))
+    }
+
+    /// Adds the same with any list of streams that knows its length: that of a request which
+    /// [`Parameter::re_config`](crate::Parameter::re_config) read, too. Zeros follow a list that
+    /// ends before the length it says.
+    ///
+    /// ```
+    /// # let mut buffer = [0; 100];
+    /// # let mut packet = davgyuti::PacketBuilder::begin(&mut buffer, 5000, 5001, 7)?;
+    /// let mut parameters = davgyuti::Parameters::of(b"\0\x0d\0\x12\0\0\0\x01\0\0\0\x02\0\0\0\x03\0\x04\0\0");
+    /// let request = parameters.next().unwrap().re_config().unwrap();
+    /// packet.re_config()?.re_config_from(request)?;
+    /// assert_eq!(packet.as_bytes()[16..], *b"\0\x0d\0\x12\0\0\0\x01\0\0\0\x02\0\0\0\x03\0\x04\0\0");
+    /// # Ok::<(), davgyuti::WriteError>(())
+    /// ```
+    ///
+    /// # Errors
+    /// [`WriteError::BadValue`] or [`WriteError::NoRoom`].
+    pub fn re_config_from(
+        &mut self,
+        re_config: ReConfig<impl IntoIterator<Item = u16, IntoIter: ExactSizeIterator>>,
+    ) -> Result<&mut Self, WriteError> {
+        match re_config.map_streams(IntoIterator::into_iter) {
             ReConfig::OutgoingSsnReset { request_number, response_number, last_tsn, streams } => {
                 let mut it = [0; 12];
                 put(&mut it, 0, request_number.to_be_bytes());
                 put(&mut it, 4, response_number.to_be_bytes());
                 put(&mut it, 8, last_tsn.to_be_bytes());
-                let rest = self.item(ParameterType::OUTGOING_SSN_RESET.0, it, 2 * streams.len())?;
+                let size = 2 * streams.len().min(0xffff);
+                let rest = self.item(ParameterType::OUTGOING_SSN_RESET.0, it, size)?;
+                rest.fill(0);
                 for (bytes, it) in rest.chunks_exact_mut(2).zip(streams) {
                     put(bytes, 0, it.to_be_bytes());
                 }
@@ -474,7 +499,9 @@ impl ChunkBuilder<'_, '_> {
             ReConfig::IncomingSsnReset { request_number, streams } => {
                 let mut it = [0; 4];
                 put(&mut it, 0, request_number.to_be_bytes());
-                let rest = self.item(ParameterType::INCOMING_SSN_RESET.0, it, 2 * streams.len())?;
+                let size = 2 * streams.len().min(0xffff);
+                let rest = self.item(ParameterType::INCOMING_SSN_RESET.0, it, size)?;
+                rest.fill(0);
                 for (bytes, it) in rest.chunks_exact_mut(2).zip(streams) {
                     put(bytes, 0, it.to_be_bytes());
                 }

@@ -16,25 +16,27 @@ const SAYS: Cookie = Cookie {
     lifespan: 60_000_000,
     local_tag: 0x0102_0304,
     peer_tag: 0x0506_0708,
+    local_tie_tag: 0x1112_1314,
+    peer_tie_tag: 0x1516_1718,
     local_initial_tsn: 0x090a_0b0c,
     peer_initial_tsn: 0x0d0e_0f10,
     local_port: 5000,
     peer_port: 5001,
     outbound_streams: 10,
     inbound_streams: 20,
-    addresses: &[192, 0, 2, 1],
+    extra: &[192, 0, 2, 1],
 };
-const SEALED: &str = "0f4058d455d989f64110ebd32badc1d936581848510b55101d06d10654512b4e
-    00000000000f4240 0000000003938700 01020304 05060708 090a0b0c 0d0e0f10 1388 1389 000a 0014
-    c0000201";
+const SEALED: &str = "0e7f54ce817b4159983e9114aa8511194e5e71af023a055c38cb78f905a9ac04
+    00000000000f4240 0000000003938700 01020304 05060708 11121314 15161718 090a0b0c 0d0e0f10
+    1388 1389 000a 0014 c0000201";
 
 #[test]
 fn cookies_are_sealed() {
     let mut output = [0x5a; 128];
-    assert_eq!(seal_cookie(&mut output[..75], KEY, &SAYS), Err(WriteError::NoRoom));
+    assert_eq!(seal_cookie(&mut output[..83], KEY, &SAYS), Err(WriteError::NoRoom));
     assert_eq!(output, [0x5a; 128]);
     assert_eq!(seal_cookie(&mut output, KEY, &SAYS).unwrap(), bytes(SEALED));
-    assert_eq!(output[76..], [0x5a; 52]);
+    assert_eq!(output[84..], [0x5a; 44]);
 }
 
 #[test]

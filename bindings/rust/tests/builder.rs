@@ -4,7 +4,9 @@
 mod common;
 
 use common::bytes;
-use davgyuti::{CauseCode, ChunkType, Data, Init, PacketBuilder, ParameterType, WriteError};
+use davgyuti::{
+    CauseCode, ChunkType, Data, Init, PacketBuilder, ParameterType, ReConfig, WriteError,
+};
 
 /// The packet without its checksum.
 fn unsealed(chunks: &str) -> Vec<u8> {
@@ -144,4 +146,137 @@ fn no_other_builder() {
         packet.cookie_ack().unwrap();
         assert_eq!(packet.seal(), common::packet("0b000004 0b000004"));
     }
+}
+
+/// Streams that don't tell their number: what `length` says is wrong.
+struct Lying<T> {
+    streams: T,
+    length: usize,
+}
+
+impl<T: Iterator<Item = u16>> Iterator for Lying<T> {
+    type Item = u16;
+
+    fn next(&mut self) -> Option<u16> {
+        self.streams.next()
+    }
+
+    fn size_hint(&self) -> (usize, Option<usize>) {
+        (self.length, Some(self.length))
+    }
+}
+
+impl<T: Iterator<Item = u16>> ExactSizeIterator for Lying<T> {}
+
+/// The requests that have streams (RFC 6525 sections 4.1 and 4.2), with these, after a RE-CONFIG's
+/// header; or why there is none.
+fn with_streams<T: Iterator<Item = u16>>(
+    streams: impl Fn() -> T,
+    length: usize,
+) -> [Result<Vec<u8>, WriteError>; 2] {
+    let [outgoing, incoming] = [streams(), streams()].map(|streams| Lying { streams, length });
+    let (request_number, response_number, last_tsn) = (1, 2, 3);
+    [
+        ReConfig::OutgoingSsnReset { request_number, response_number, last_tsn, streams: outgoing },
+        ReConfig::IncomingSsnReset { request_number, streams: incoming },
+    ]
+    .map(|request| {
+        let mut buffer = [0xaa; 100];
+        let mut packet = PacketBuilder::begin(&mut buffer, 1, 2, 3).unwrap();
+        let mut chunk = packet.re_config().unwrap();
+        let write = std::panic::AssertUnwindSafe(|| chunk.re_config_from(request).map(|_| ()));
+        let written = std::panic::catch_unwind(write).unwrap_or(Ok(()));
+        assert!(written.is_ok() || packet.size() == 16);
+        written.map(|()| packet.as_bytes()[16..].to_vec())
+    })
+}
+
+/// No byte that was in the buffer is sent, whatever a list of streams says of itself.
+#[test]
+fn streams_of_a_wrong_length() {
+    let outgoing = |digits| Ok(bytes(&["000d0016 00000001 00000002 00000003", digits].concat()));
+    let incoming = |digits| Ok(bytes(&["000e000e 00000001", digits].concat()));
+    let refused = |error| [Err(error), Err(error)];
+    let both = |digits| [outgoing(digits), incoming(digits)];
+    assert_eq!(with_streams(|| 7..10, 3), both("000700080009 0000"));
+    assert_eq!(with_streams(|| 7..8, 3), both("000700000000 0000"));
+    assert_eq!(with_streams(|| 7..20, 3), both("000700080009 0000"));
+    let panicking = || (7..10).inspect(|&it| assert_ne!(it, 8, "on purpose"));
+    assert_eq!(with_streams(panicking, 3), both("000700000000 0000"));
+    for length in [0x7ffd, 1 << 16, usize::MAX / 2 + 1, usize::MAX] {
+        assert_eq!(with_streams(|| 7..10, length), refused(WriteError::BadValue), "{length}");
+    }
+    assert_eq!(with_streams(|| 7..10, 0x7000), refused(WriteError::NoRoom));
+}
+
+/// Writes a packet with COOKIE ACK into a buffer, which has to be of zeros.
+#[cfg(feature = "alloc")]
+fn cookie_ack(buffer: &mut [u8]) -> Result<&mut [u8], WriteError> {
+    assert!(buffer.iter().all(|&it| it == 0));
+    let mut packet = PacketBuilder::begin(buffer, 1, 2, 3)?;
+    packet.cookie_ack()?;
+    Ok(packet.seal())
+}
+
+/// Packets one after the other, and nothing where one isn't written.
+#[cfg(feature = "alloc")]
+#[test]
+fn a_vec_grows() {
+    let mut output = b"before".to_vec();
+    PacketBuilder::append(&mut output, 1200, cookie_ack).unwrap();
+    PacketBuilder::append(&mut output, 16, cookie_ack).unwrap();
+    let one = common::packet("0b000004");
+    let expected = [b"before", &one[..], &one].concat();
+    assert_eq!(output, expected);
+    let refused = |limit: usize, error, write: fn(&mut [u8]) -> Result<&mut [u8], WriteError>| {
+        let mut output = output.clone();
+        assert_eq!(PacketBuilder::append(&mut output, limit, write), Err(error));
+        assert_eq!(output, expected);
+    };
+    refused(15, WriteError::NoRoom, cookie_ack);
+    refused(0, WriteError::NoRoom, cookie_ack);
+    refused(1200, WriteError::BadValue, |buffer| {
+        cookie_ack(buffer)?;
+        Err(WriteError::BadValue)
+    });
+    // Not the front of the bytes that were given.
+    refused(1200, WriteError::BadPlace, |buffer| cookie_ack(&mut buffer[4..]));
+    refused(1200, WriteError::BadPlace, |_| Ok(vec![0; 16].leak()));
+    PacketBuilder::append(&mut output, usize::MAX, |buffer| Ok(buffer)).unwrap();
+    assert_eq!(output.len(), expected.len() + davgyuti::MAX_PACKET);
+}
+
+/// A `Write` gets a packet in one piece; errors are those of `std::io`, and keep what they are.
+#[cfg(feature = "std")]
+#[test]
+fn packets_to_a_write() {
+    use davgyuti::{Fault, Packet};
+    use std::io::{Error, ErrorKind, Write};
+
+    #[derive(Default)]
+    struct Records(Vec<Vec<u8>>);
+
+    impl Write for Records {
+        fn write(&mut self, bytes: &[u8]) -> Result<usize, Error> {
+            self.0.push(bytes.to_vec());
+            Ok(bytes.len())
+        }
+
+        fn flush(&mut self) -> Result<(), Error> {
+            Ok(())
+        }
+    }
+
+    let mut records = Records::default();
+    PacketBuilder::write_to(&mut records, 1200, cookie_ack).unwrap();
+    let error = PacketBuilder::write_to(&mut records, 15, cookie_ack).unwrap_err();
+    assert_eq!(error.kind(), ErrorKind::InvalidInput);
+    assert_eq!(error.downcast::<WriteError>().unwrap(), WriteError::NoRoom);
+    assert_eq!(records.0, [common::packet("0b000004")]);
+    let full = PacketBuilder::write_to(&mut &mut [0; 15][..], 1200, cookie_ack).unwrap_err();
+    assert_eq!(full.kind(), ErrorKind::WriteZero);
+    let fault = Packet::parse(b"").unwrap_err();
+    let error = Error::from(fault);
+    assert_eq!((error.kind(), error.to_string()), (ErrorKind::InvalidData, fault.to_string()));
+    assert_eq!(error.downcast::<Fault>().unwrap(), fault);
 }

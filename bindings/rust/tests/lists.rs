@@ -55,6 +55,10 @@ fn lists() {
     both_ways(&skipped, chunks[1].forward_tsn().unwrap().skipped_streams());
     both_ways(&skipped_i, chunks[2].forward_tsn().unwrap().skipped_streams());
     let read = chunks[3].parameters().next().unwrap().re_config().unwrap();
+    let mut buffer = [0xaa; 1200];
+    let mut again = PacketBuilder::begin(&mut buffer, 1, 2, 3).unwrap();
+    let mut again = again.re_config().unwrap();
+    assert_eq!(again.re_config_from(read.clone()).unwrap().as_bytes(), chunks[3].as_bytes());
     let read = read.map_streams(|it| {
         both_ways(&streams, it);
         &streams[..]

@@ -76,7 +76,11 @@ fn refusals() {
         let written = refused(|| packet.write_report(&mut output).map(str::len));
         assert_eq!(written, (report.len(), 0));
 
-        // A chunk that is kept makes one request, that of its Box.
+        // A packet or a chunk that is kept makes one request, that of its Box.
+        GRANTED.set(Some(9));
+        let owned = packet.into_owned();
+        let is_same = owned.as_packet() == packet;
+        assert_eq!((GRANTED.replace(None), is_same), (Some(8), true));
         for chunk in &packet {
             GRANTED.set(Some(9));
             let owned = chunk.into_owned();

@@ -6,13 +6,15 @@ mod common;
 use common::{bytes, crc32c, examples, packet, sealed};
 use davgyuti::{
     CauseCode, Chunk, ChunkType, Chunks, Content, Data, Fault, FaultKind, GapAckBlock, MAX_PACKET,
-    Packet, PacketBuilder, ParameterType, Policy, WriteError,
+    Packet, PacketBuilder, ParameterType, Policy, RegisteredChunk, Word, WriteError,
 };
 
 #[test]
 fn word_is_the_crc32c() {
     for packet in examples() {
-        assert_eq!(davgyuti::word(&packet), crc32c(&packet).swap_bytes());
+        let word = davgyuti::word(&packet);
+        assert_eq!(word, Word::from_crc32c(crc32c(&packet)));
+        assert_eq!(word.checksum().to_be_bytes(), sealed(packet)[8..12]);
     }
     let _ = davgyuti::word(&[]);
 }
@@ -49,11 +51,11 @@ fn word_of_zero() {
     let (right, socket) = (packet("0b000004"), Policy::default());
     let mut zero = right.clone();
     zero[8..12].fill(0);
-    assert_eq!(davgyuti::first_fault(&zero, 0, socket), None);
-    let accepted = Packet::parse_with(&zero, 0, socket).unwrap();
+    assert_eq!(davgyuti::first_fault(&zero, Word::default(), socket), None);
+    let accepted = Packet::parse_with(&zero, Word::default(), socket).unwrap();
     assert_eq!(accepted.write_canonical(&mut [0; 100]).unwrap(), zero);
     let fault = Fault { kind: FaultKind::Checksum, offset: 8 };
-    assert_eq!(Packet::parse_with(&right, 0, socket), Err(fault));
+    assert_eq!(Packet::parse_with(&right, Word::default(), socket), Err(fault));
 }
 
 /// Bytes that weren't checked: chunks up to where no whole one is.
@@ -81,6 +83,10 @@ fn texts() {
         let canonical = packet.to_canonical().unwrap();
         assert_eq!(packet.to_string(), text);
         assert!(report.ends_with('\n') && !text.ends_with('\n'));
+        // A report says whether the checksum is right, also where any is accepted.
+        let policy = Policy::new().with_any_checksum(true);
+        let any = Packet::parse_with(&bytes, Word::default(), policy).unwrap();
+        assert!(report.contains(": right\n") && any.to_report().unwrap() == report);
         let mut output = [0xaa; 8192];
         assert_eq!(packet.write_text(&mut output), Ok(&text[..]));
         assert_eq!(packet.write_report(&mut output), Ok(&report[..]));
@@ -167,6 +173,41 @@ fn bad_values() {
     assert_eq!(error.cause(CauseCode(1), &long[..65_528]).unwrap_err(), WriteError::BadValue);
     assert_eq!(error.cause(CauseCode(1), &long[..65_527]).unwrap_err(), WriteError::NoRoom);
     assert_eq!(packet.size(), 16);
+}
+
+/// PKTDROP of draft-stewart-sctp-pktdrprep: the type 0x81, flags whose lowest bits are M (from a
+/// middlebox), B (bad checksum) and T (truncated), bandwidth, bytes queued, truncated length, two
+/// bytes that are reserved, and the packet. Flags that have no meaning are read and written too; of
+/// an AUTH (RFC 4895 section 5.1) none is.
+#[test]
+fn flags_of_the_registry() {
+    for (digits, flags) in [
+        ("01", RegisteredChunk::PKTDROP_MIDDLEBOX),
+        ("02", RegisteredChunk::PKTDROP_BAD_CHECKSUM),
+        ("04", RegisteredChunk::PKTDROP_TRUNCATED),
+        ("00", 0),
+        ("ff", 0xff),
+    ] {
+        let chunk = bytes(&format!("81{digits}0018 00010002 00030004 05dc0000 01020304 05060708"));
+        let expected = RegisteredChunk::Pktdrop {
+            flags,
+            bandwidth: 0x0001_0002,
+            queued: 0x0003_0004,
+            size: 1500,
+            packet: &[1, 2, 3, 4, 5, 6, 7, 8],
+        };
+        let read = Chunk::at(&chunk, 0).unwrap().registered();
+        assert_eq!(read.as_ref(), Some(&expected));
+        let mut buffer = [0xaa; 100];
+        let mut packet = PacketBuilder::begin(&mut buffer, 1, 2, 3).unwrap();
+        assert_eq!(packet.registered(&expected).unwrap().as_bytes(), chunk);
+    }
+    let auth = bytes("0fff000c 00000003 01020304");
+    let read = Chunk::at(&auth, 0).unwrap().registered().unwrap();
+    let mut buffer = [0xaa; 100];
+    let mut packet = PacketBuilder::begin(&mut buffer, 1, 2, 3).unwrap();
+    let written = packet.registered(&read).unwrap();
+    assert_eq!(written.as_bytes(), bytes("0f00000c 00000003 01020304"));
 }
 
 #[test]

@@ -6,7 +6,7 @@ mod common;
 
 use common::{bytes, chunks, packet};
 use davgyuti::{
-    Cause, Chunk, Data, Fault, FaultKind, Parameter, ParameterType, Policy, WriteError,
+    Cause, Chunk, Data, Fault, FaultKind, Parameter, ParameterType, Policy, Word, WriteError,
     first_fault, needs_checksum, word,
 };
 
@@ -104,7 +104,7 @@ fn a_checksum_of_zero_is_allowed() {
         assert!(needs_checksum(&bytes));
         assert_eq!(fault(&bytes, allowed), wrong, "{digits}");
         assert_eq!(fault(&bytes, allowed.with_zero_checksum(true)), None);
-        assert_eq!(first_fault(&bytes, 0, allowed), None);
+        assert_eq!(first_fault(&bytes, Word::default(), allowed), None);
         assert_eq!(fault(&packet(digits), allowed), None);
     }
     for digits in

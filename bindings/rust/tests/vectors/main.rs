@@ -12,7 +12,7 @@ mod random;
 use common::{bytes, shared};
 use davgyuti::{
     Answer, Association, Chunk, ChunkType, Chunks, Header, Init, InitFault, Known, Packet,
-    PacketBuilder, ParameterType, Parameters, Policy, Rule, TAG_REFLECTED, WriteError,
+    PacketBuilder, ParameterType, Parameters, Policy, Rule, TAG_REFLECTED, Word, WriteError,
 };
 use json::Json;
 use std::fmt::Debug;
@@ -69,7 +69,8 @@ fn written<T>(
 }
 
 fn fault(bytes: &[u8], policy: Policy) -> Option<Json> {
-    let fault = Packet::parse_with(bytes, 7, policy.with_any_checksum(true)).err()?;
+    let fault =
+        Packet::parse_with(bytes, Word::from_crc32c(7), policy.with_any_checksum(true)).err()?;
     let name = Json::Text(format!("{:?}", fault.kind).to_lowercase());
     Some(Json::List(vec![name, Json::Number(fault.offset.try_into().unwrap())]))
 }

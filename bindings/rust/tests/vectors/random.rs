@@ -4,7 +4,7 @@
 
 use super::common::{Chance, chunks, examples, sealed};
 use super::kinds;
-use davgyuti::{Chunk, Chunks, Header, Packet, PacketBuilder, Policy, first_fault};
+use davgyuti::{Chunk, Chunks, Header, Packet, PacketBuilder, Policy, Word, first_fault};
 
 /// The packet, written anew from what it holds.
 fn rewritten(packet: &Packet) -> Vec<u8> {
@@ -58,7 +58,9 @@ fn check(bytes: &[u8]) -> bool {
     let canonical = packet.write_canonical(&mut canonical).unwrap();
     // (a text that isn't UTF-8 has another canonical form)
     let (anew, mut again) = (rewritten(&packet), vec![0; 65_532]);
-    let again = Packet::parse_with(&anew, 0, POLICIES[1]).unwrap().write_canonical(&mut again);
+    let again = Packet::parse_with(&anew, Word::default(), POLICIES[1])
+        .unwrap()
+        .write_canonical(&mut again);
     assert_eq!(again.unwrap(), canonical);
     #[cfg(feature = "alloc")]
     {
@@ -103,7 +105,7 @@ fn sizes() {
                     _ => kinds::cause(&chunk.causes().next().unwrap()),
                 };
                 let is_list = it.get("parameters").or(it.get("causes")).is_some();
-                let is_accepted = first_fault(&packet, 0, POLICIES[2]).is_none();
+                let is_accepted = first_fault(&packet, Word::default(), POLICIES[2]).is_none();
                 (size % 4 == 0 || !is_list).then_some((!it.kind().is_empty(), is_accepted))
             });
             let said: Vec<_> = said.collect();
