@@ -3,7 +3,6 @@
 """Reads and writes packets by the package davgyuti, and by aiortc; bench/packages.py says what such a program does.
 
 usage: beside_aiortc.py ROUNDS MILLIS FILE.."""
-import operator
 import struct
 import sys
 import time
@@ -18,26 +17,37 @@ def sum_of_value(value):
 
 # ---- by davgyuti
 
-# What a kind of parameters holds, as bytes. One that isn't here writes its value.
-VALUE = operator.attrgetter('value')
-VALUES = {
-    davgyuti.RawParameter: VALUE,
-    davgyuti.ForwardTsnSupported: lambda it: b'',
-    davgyuti.HeartbeatInfo: operator.attrgetter('info'),
-    davgyuti.StateCookie: operator.attrgetter('cookie'),
-    davgyuti.SupportedExtensions: operator.attrgetter('chunk_types'),
+# The sum of the value of a kind of parameters or error causes, by its fields. One that isn't here writes its value.
+SUMS_OF_VALUES = {
+    davgyuti.ForwardTsnSupported: lambda it: 0,
+    davgyuti.HeartbeatInfo: lambda it: sum_of_value(it.info),
+    davgyuti.StateCookie: lambda it: sum_of_value(it.cookie),
+    davgyuti.SupportedExtensions: lambda it: sum_of_value(it.chunk_types),
+    davgyuti.OutgoingSsnReset: lambda it: 12 + 2 * len(it.streams) + (it.request_number >> 24),
+    davgyuti.ReConfigResponse: lambda it: (16 if it.next_tsns else 8) + (it.response_number >> 24),
+    davgyuti.MissingMandatoryParameter: lambda it: 4 + 2 * len(it.types),
+    davgyuti.UnrecognizedChunk: lambda it: sum_of_value(it.chunk),
+    davgyuti.UserInitiatedAbort: lambda it: sum_of_value(it.reason),
+    davgyuti.ProtocolViolation: lambda it: sum_of_value(it.information),
 }
+
+
+def sum_by_value(it):
+    return sum_of_value(it.value)
 
 
 def sum_of_parameters(parameters):
     total = 0
     for it in parameters:
-        total += it.type + sum_of_value(VALUES.get(type(it), VALUE)(it))
+        total += it.type + SUMS_OF_VALUES.get(type(it), sum_by_value)(it)
     return total
 
 
 def sum_of_causes(causes):
-    return sum(it.code + sum_of_value(bytes(it)[4:]) for it in causes)
+    total = 0
+    for it in causes:
+        total += it.code + SUMS_OF_VALUES.get(type(it), sum_by_value)(it)
+    return total
 
 
 def sum_of_data(it):
@@ -92,6 +102,14 @@ def read_by_davgyuti(data):
     return total
 
 
+def iterated_by_davgyuti(data):
+    """As the README's first lines read."""
+    total = 1
+    for it in davgyuti.Packet(data):
+        total += it.type + SUMS[type(it)](it)
+    return total
+
+
 def kept_by_davgyuti(data):
     """What a packet is written from: its ports and tag, and its chunks."""
     packet = davgyuti.Packet(data)
@@ -107,6 +125,61 @@ def written_by_davgyuti(kept):
     builder.reset(source_port, destination_port, tag)
     for it in chunks:
         builder.add(it)
+    return builder.seal()
+
+
+def add_data(builder, it):
+    builder.data(
+        it.payload, tsn=it.tsn, stream=it.stream, ssn=it.ssn, ppid=it.ppid, is_end=it.is_end, is_beginning=it.is_beginning,
+        is_unordered=it.is_unordered, immediate_ack=it.immediate_ack)
+
+
+def add_init(builder, it):
+    with builder.init(
+        initiate_tag=it.initiate_tag, a_rwnd=it.a_rwnd, outbound_streams=it.outbound_streams, inbound_streams=it.inbound_streams,
+        initial_tsn=it.initial_tsn
+    ) as init:
+        for parameter in it.parameters:
+            init.parameter(parameter)
+
+
+def add_re_config(builder, it):
+    with builder.re_config() as re_config:
+        for parameter in it.parameters:
+            re_config.parameter(parameter)
+
+
+def add_abort(builder, it):
+    abort = builder.abort(tag_reflected=it.tag_reflected)
+    for cause in it.causes:
+        abort.cause(cause)
+
+
+def add_error(builder, it):
+    with builder.error() as error:
+        for cause in it.causes:
+            error.cause(cause)
+
+
+# Of the kinds of chunks that the files have.
+METHODS = {
+    davgyuti.Data: add_data,
+    davgyuti.Init: add_init,
+    davgyuti.Sack: lambda builder, it: builder.sack(it.cumulative_tsn_ack, it.a_rwnd, it.blocks, it.duplicates),
+    davgyuti.CookieAck: lambda builder, it: builder.cookie_ack(),
+    davgyuti.Abort: add_abort,
+    davgyuti.OperationError: add_error,
+    davgyuti.ReConfig: add_re_config,
+    davgyuti.ForwardTsn: lambda builder, it: builder.forward_tsn(it.new_cumulative_tsn, it.streams),
+}
+
+
+def written_by_methods(kept):
+    """As the README's first lines write: by a builder for each packet."""
+    source_port, destination_port, tag, chunks = kept
+    builder = davgyuti.PacketBuilder(source_port, destination_port, tag)
+    for it in chunks:
+        METHODS[type(it)](builder, it)
     return builder.seal()
 
 
@@ -174,9 +247,10 @@ def written_by_aiortc(kept):
 
 # ---- the clock
 
-READERS = (('davgyuti', read_by_davgyuti), ('aiortc', read_by_aiortc))
+READERS = (('davgyuti', read_by_davgyuti), ('davgyuti, iterated', iterated_by_davgyuti), ('aiortc', read_by_aiortc))
 WRITERS = (
     ('davgyuti writes', kept_by_davgyuti, written_by_davgyuti),
+    ('davgyuti, methods writes', kept_by_davgyuti, written_by_methods),
     ('aiortc writes', kept_by_aiortc, written_by_aiortc),
 )
 

@@ -53,14 +53,14 @@ TIMED = ('data1200', 'data_small', 'data_bundle', 'sack20', 'init', 're_config',
          'clean_falling')
 # The rows of both tables: a language, the call that the others are compared with, and those.
 READ = (
-    ('C', 'by hand', 'davgyuti', 'davgyuti, rows'),
+    ('C', 'by hand', 'by hand, one pass', 'davgyuti', 'davgyuti, rows'),
     ('C with LTO', 'by hand', 'davgyuti'),
     ('Rust', 'plain loop', 'davgyuti'),
-    ('Python', 'aiortc', 'davgyuti'),
+    ('Python', 'aiortc', 'davgyuti', 'davgyuti, iterated'),
     ('Go', 'pion', 'davgyuti'),
     ('JavaScript', 'DataView', 'davgyuti'),
 )
-WRITTEN = (('Python', 'aiortc writes', 'davgyuti writes'), ('Go', 'pion writes', 'davgyuti writes'))
+WRITTEN = (('Python', 'aiortc writes', 'davgyuti writes', 'davgyuti, methods writes'), ('Go', 'pion writes', 'davgyuti writes'))
 
 
 class Missing(Exception):

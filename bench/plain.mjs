@@ -3,7 +3,7 @@
 //
 // usage: node plain.mjs ROUNDS MILLIS FILE..
 import { readFileSync } from 'node:fs';
-import { ChunkType, causes, parameters, read, readSack } from '../bindings/js/davgyuti.mjs';
+import { ChunkType, causes, parameters, read, readSack } from '../bindings/js/node.mjs';
 
 // ---- by the package
 
@@ -72,7 +72,7 @@ function sumOfChunk(chunk) {
 }
 
 // (The checksum isn't compared: neither way of reading does.)
-const POLICY = { anyChecksum: true, word: 0 };
+const POLICY = { anyChecksum: true };
 
 function byThePackage(bytes) {
   let packet;

@@ -3,7 +3,7 @@
 //!
 //! usage: plain ROUNDS MILLIS FILE..
 
-use davgyuti::{Content, Data, Init, Packet, Policy};
+use davgyuti::{Content, Data, Init, Packet, Policy, Word};
 use std::hint::black_box;
 use std::time::Duration;
 
@@ -67,7 +67,8 @@ fn sum_of_chunk(chunk: &davgyuti::Chunk) -> u64 {
 
 /// The checksum isn't compared: neither way of reading does.
 fn by_the_crate(bytes: &[u8]) -> u64 {
-    let Ok(packet) = Packet::parse_with(bytes, 0, Policy::new().with_any_checksum(true)) else {
+    let any = Policy::new().with_any_checksum(true);
+    let Ok(packet) = Packet::parse_with(bytes, Word::default(), any) else {
         return 0;
     };
     1 + packet.chunks().map(|it| u64::from(it.chunk_type().0) + sum_of_chunk(&it)).sum::<u64>()
