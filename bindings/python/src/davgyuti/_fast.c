@@ -14,7 +14,7 @@
 /* What a value is made of, in order, but that flags come first, which are in its header, and the type of what is of no kind. */
 enum what { END, NUMBER, RESERVED, BIT, RESULT, COUNT, EITHER, OR_ELSE, LIST, RECORDS, OPTIONAL, REST, ITEMS, FLAG, HEAD };
 enum level { CHUNK, PARAMETER, CAUSE, RECORD };
-enum { MOST_STEPS = 12, LARGEST_CHUNK = 0xFFFF, HEADER_SIZE = 4, MOST_BYTES = 65532 };
+enum { MOST_STEPS = 12, MOST_FIELDS = 3, LARGEST_CHUNK = 0xFFFF, HEADER_SIZE = 4, MOST_BYTES = 65532 };
 struct step {
     uint8_t what;
     uint8_t size; /* of a number or an item, in bytes */
@@ -45,6 +45,8 @@ struct state {
     PyObject *slots[KINDS][MOST_STEPS], *names[KINDS][MOST_STEPS], *offsets[KINDS]; /* of a kind a slot for each step that has a name */
     PyObject *results[RESULTS], *error_of, *policy, *encoded; /* (a policy that was made before, by which nothing is set) */
     PyObject *defaults[NOTHING + 1];
+    PyObject *unfilled; /* a tuple */
+    size_t begin; /* how many bytes it has before its fields, after its size */
     PyTypeObject *word, *writer;
     descrgetfunc get;
     descrsetfunc set;
@@ -102,23 +104,28 @@ static inline bool set(const struct state *state, PyObject *slot, PyObject *it, 
     return is_set;
 }
 
+/* A record whose fields aren't filled, as a tuple begins: from CPython 3.14 on with no hash. The collector of garbage isn't told of it. */
+static PyObject *unfilled(const struct state *state, int kind)
+{
+    const Py_ssize_t count = LAYOUTS[kind].fields;
+    PyVarObject *const it = PyObject_GC_NewVar(PyVarObject, state->types[kind], count);
+    if (it)
+        memcpy(it + 1, (PyVarObject *)state->unfilled + 1, state->begin + (size_t)count * sizeof(PyObject *));
+    return (PyObject *)it;
+}
+
 /* A record: a tuple of its numbers, after which come its bits. */
 static PyObject *record_at(const struct state *state, int kind, const uint8_t *at)
 {
     const Py_ssize_t count = LAYOUTS[kind].fields;
     const struct step *const steps = LAYOUTS[kind].steps;
     Py_ssize_t place = 0;
-    PyObject *it = PyType_GenericAlloc(state->types[kind], count);
-    if (!it)
-        return NULL;
-    PyObject_GC_UnTrack(it); /* (numbers lead to nothing: the collector of garbage needn't look) */
-    for (const struct step *step = steps; step->what; at += step->size, step++) {
+    PyObject *it = unfilled(state, kind); /* (numbers lead to nothing) */
+    for (const struct step *step = steps; it && step->what; at += step->size, step++) {
         const uint32_t number = number_at(at, step->size);
         PyObject *value = step->what == BIT ? PyBool_FromLong(number & 1) : PyLong_FromUnsignedLong(number);
-        if (!value || PyTuple_SetItem(it, step->what == BIT ? count - 1 : place++, value) < 0) {
-            Py_DECREF(it);
-            return NULL;
-        }
+        if (!value || PyTuple_SetItem(it, step->what == BIT ? count - 1 : place++, value) < 0)
+            Py_CLEAR(it);
     }
     return it;
 }
@@ -1046,6 +1053,11 @@ static PyObject *fast_prepare(PyObject *module, PyObject *const *arguments, Py_s
                                    || !(state->names[kind][i] = PyUnicode_InternFromString(steps[i].name))))
                 return NULL;
     }
+    PyObject *const begin = PyObject_GetAttrString((PyObject *)&PyTuple_Type, "__basicsize__");
+    if (!begin || !(state->unfilled = PyTuple_New(MOST_FIELDS)))
+        return NULL;
+    state->begin = PyLong_AsSize_t(begin) - sizeof(PyVarObject);
+    Py_DECREF(begin);
     PyTypeObject *const of_slot = Py_TYPE(state->offsets[0]);
     state->get = (descrgetfunc)PyType_GetSlot(of_slot, Py_tp_descr_get);
     state->set = (descrsetfunc)PyType_GetSlot(of_slot, Py_tp_descr_set);
