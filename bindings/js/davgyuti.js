@@ -131,7 +131,11 @@ class Word {
   }
 }
 
-/** The words for a packet, its checksum's word, and a policy. The word is computed where it is compared, or said. */
+/** How many of a packet's bytes are put into the memory: more than 65,535 are refused by their size, so at most one too many is copied. */
+const sizeOf = bytes => Math.min(bytes.length, 65_536);
+
+/** Puts a packet and a policy where the functions take them. Returns the packet's word: undefined where it has to be computed, as it is
+    compared, or said. */
 function asked(bytes, policy, isSaid = false) {
   const { anyChecksum = false, zeroChecksum = false, allowedZeroChecksum = false, strictPadding = false, word: given } =
     record(policy, 'policy');
@@ -140,46 +144,39 @@ function asked(bytes, policy, isSaid = false) {
   truth(strictPadding, 'strictPadding');
   truth(allowedZeroChecksum, 'allowedZeroChecksum');
   const word = given === undefined ? undefined : Word.numberOf(given);
-  // (more than 65,535 bytes are refused by their size: so at most one too many is copied)
-  const [start, length] = put(input, isBytes(bytes, 'bytes').length > 65_536 ? part(bytes, 0, 65_536) : bytes);
+  put(input, isBytes(bytes, 'bytes').length > 65_536 ? part(bytes, 0, 65_536) : bytes);
   const isZero = zeroChecksum || (allowedZeroChecksum && header(bytes)?.checksum === 0 && !needsChecksum(bytes));
-  const at = place(taken), memory = view();
-  // (a struct of its own: to write it by its fields takes longer than to check a short packet)
-  memory.setUint8(taken.from, anyChecksum ? 1 : 0);
-  memory.setUint8(taken.from + 1, isZero ? 1 : 0);
-  memory.setUint8(taken.from + 2, strictPadding ? 1 : 0);
-  return [start, length, word ?? (anyChecksum && !isSaid ? 0 : call('dcsctp_word', start, length)), at];
+  place(taken);
+  // (at once: to write a struct by its fields takes longer than to check a short packet)
+  view().setUint32(taken.from, anyChecksum | isZero << 8 | strictPadding << 16, true);
+  return anyChecksum && !isSaid ? word ?? 0 : word;
 }
 
-function firstOf(words) {
-  const code = call('dcsctp_first_fault', ...words, place(answer));
-  return code === Result.OK ? null : { code, offset: SIZE.read(answer.from).it };
+function firstFault(bytes, policy = {}) {
+  const word = asked(bytes, policy), code = firstFaultOf(input.at, big(sizeOf(bytes)), word, taken.at, place(answer));
+  return code === Result.OK ? null : { code, offset: view().getUint32(answer.from, true) };
 }
-
-function faultOf(words) {
-  const fault = firstOf(words);
-  return fault && new Fault(fault.code, fault.offset);
-}
-
-const firstFault = (bytes, policy = {}) => firstOf(asked(bytes, policy));
 
 function check(bytes, policy = {}) {
-  const words = asked(bytes, policy);
-  if (call('dcsctp_check', ...words) !== Result.OK)
-    throw faultOf(words);
+  const fault = firstFault(bytes, policy);
+  if (fault !== null)
+    throw new Fault(fault.code, fault.offset);
 }
 
 /** The bytes that a function writes, where they lie. */
 function written(name, bytes, policy) {
-  const words = asked(bytes, policy, name === 'dcsctp_report'), at = place(answer);
+  const word = asked(bytes, policy, name === 'dcsctp_report'), at = place(answer), its = [input.at, big(sizeOf(bytes))];
+  const words = [...its, word ?? call('dcsctp_word', ...its), taken.at];
   reserve(output, 4096);
   let code = call(name, ...words, output.at, BigInt(output.room), at);
   if (code === Result.NO_ROOM) {
     reserve(output, SIZE.read(answer.from).it);
     code = call(name, ...words, output.at, BigInt(output.room), at);
   }
-  if (code !== Result.OK)
-    throw faultOf(words) ?? new WriteError(code);
+  if (code !== Result.OK) {
+    check(bytes, policy);
+    throw new WriteError(code);
+  }
   return output.bytes(0, SIZE.read(answer.from).it);
 }
 
@@ -433,19 +430,24 @@ const headerIn = (memory, from) => ({
 const header = bytes => (isBytes(bytes, 'bytes').length < FIRST_CHUNK ? null : headerIn(packetOf(bytes).own, 0));
 
 function read(bytes, policy = {}) {
-  const [start, length, word, accepted] = asked(bytes, policy), at = place(answer);
-  const code = firstFaultOf(start, length, word, accepted, at), memory = view();
-  if (code !== Result.OK)
-    throw new Fault(code, memory.getUint32(answer.from, true));
-  const from = input.from, end = bytes.length, packet = packetOf(bytes, null);
-  // (of a packet that was accepted, as it lies in the memory, each length is right; and an array of one has room for one, where the
-  // first that is added to an empty one makes room for 17)
-  let chunk = new Chunk(packet, memory, from, FIRST_CHUNK, end);
-  const all = [chunk];
-  while (chunk.next < end)
-    all.push(chunk = new Chunk(packet, memory, from, chunk.next, end));
+  check(bytes, policy);
+  const memory = view(), from = input.from, end = bytes.length, packet = packetOf(bytes, null);
+  const first = new Chunk(packet, memory, from, FIRST_CHUNK, end);
   inInput = packet;
-  return { header: headerIn(memory, from), chunks: all };
+  return { header: headerIn(memory, from), chunks: first.next < end ? allFrom(first, packet, memory, from, end) : [first] };
+}
+
+/** All chunks of a packet that was accepted, as it lies in the memory: each length is right. (To have an array grow takes as long as to
+    make the chunks, and to make one of a size longer than one of one chunk.) */
+function allFrom(first, packet, memory, from, end) {
+  let count = 1;
+  for (let at = first.next; at < end; count++)
+    at += memory.getUint16(from + at + 2) + 3 & ~3;
+  const all = new Array(count);
+  all[0] = first;
+  for (let i = 1; i < count; i++)
+    all[i] = new Chunk(packet, memory, from, all[i - 1].next, end);
+  return all;
 }
 
 /** The chunks from a place of a packet's bytes on, up to the first that isn't whole, each as it is asked for. */

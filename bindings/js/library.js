@@ -51,10 +51,11 @@ function call(name, ...words) {
   }
 }
 
-/** Calls the function that packets are read by. (By its own name it takes a fifth of the time.) */
+/** Calls the function that packets are read by, with their word, which is computed if it isn't given. (By its own name a function takes
+    a fifth of the time.) */
 function firstFaultOf(bytes, length, word, policy, offset) {
   try {
-    return wasm.dcsctp_first_fault(bytes, length, word, policy, offset);
+    return wasm.dcsctp_first_fault(bytes, length, word ?? wasm.dcsctp_word(bytes, length), policy, offset);
   } catch (error) {
     return leave(error);
   }
