@@ -5,7 +5,8 @@
 usage: packages.py [--turns 3] [--rounds 6] [--millis 3]
 
 A program for each language reads packets both ways: hand.c, plain.rs, beside_aiortc.py, pion_test.go, plain.mjs. It checks a packet
-as a whole, its checksum too where the peer's parser compares that, and then adds up what the packet holds:
+as a whole, its checksum too where the peer's parser compares that, in JavaScript once with it and once without, and then adds up what the
+packet holds:
 
   1, and for each chunk its type and, of
   DATA, I-DATA                          every number, the flags U, B, E and I, the payload's size and its first byte
@@ -58,7 +59,8 @@ READ = (
     ('Rust', 'plain loop', 'davgyuti'),
     ('Python', 'aiortc', 'davgyuti', 'davgyuti, iterated'),
     ('Go', 'pion', 'davgyuti'),
-    ('JavaScript', 'DataView', 'davgyuti'),
+    ('JavaScript', 'DataView', 'DataView, one pass', 'davgyuti'),
+    ('JavaScript', 'DataView, no CRC32c', 'DataView, one pass, no CRC32c', 'davgyuti, no CRC32c'),
 )
 WRITTEN = (('Python', 'aiortc writes', 'davgyuti writes', 'davgyuti, methods writes'), ('Go', 'pion writes', 'davgyuti writes'))
 

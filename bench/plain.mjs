@@ -1,5 +1,6 @@
 // SPDX-License-Identifier: Apache-2.0
-// Reads packets by the package davgyuti, and by a plain loop over a DataView; bench/packages.py says what such a program does.
+// Reads packets by the package davgyuti, and by a plain loop over a DataView in two passes and in one, with their CRC32c and without;
+// bench/packages.py says what such a program does.
 //
 // usage: node plain.mjs ROUNDS MILLIS FILE..
 import { readFileSync } from 'node:fs';
@@ -71,13 +72,10 @@ function sumOfChunk(chunk) {
   }
 }
 
-// (The checksum isn't compared: neither way of reading does.)
-const POLICY = { anyChecksum: true };
-
-function byThePackage(bytes) {
+function byThePackage(bytes, policy) {
   let packet;
   try {
-    packet = read(bytes, POLICY);
+    packet = read(bytes, policy);
   } catch {
     return 0;
   }
@@ -213,9 +211,29 @@ function sumOf(view, type, flags, at, end) {
   }
 }
 
-function byAPlainLoop(bytes) {
+// RFC 9260 appendix A.
+const TABLE = Int32Array.from({ length: 256 }, (_, crc) => {
+  for (let bit = 0; bit < 8; bit++)
+    crc = crc >>> 1 ^ 0x82f63b78 * (crc & 1);
+  return crc;
+});
+
+function crcOf(bytes, at, end, crc) {
+  for (; at < end; at++)
+    crc = crc >>> 8 ^ TABLE[(crc ^ bytes[at]) & 255];
+  return crc;
+}
+
+const ZERO = new Uint8Array(4);
+
+/** Whether a packet has its CRC32c, which is computed with zero in its place. */
+const isSealed = (bytes, view) =>
+  bytes.length >= 12 && view.getInt32(8, true) === ~crcOf(bytes, 12, bytes.length, crcOf(ZERO, 0, 4, crcOf(bytes, 0, 8, -1)));
+
+/** Checks a packet, and then reads it. */
+function inTwoPasses(bytes, hasChecksum) {
   const view = new DataView(bytes.buffer, bytes.byteOffset, bytes.byteLength), end = bytes.byteLength;
-  if (!isPacket(view))
+  if ((hasChecksum && !isSealed(bytes, view)) || !isPacket(view))
     return 0;
   let sum = 1;
   for (let at = 12; at < end; at += stepOf(view, at, end)) {
@@ -225,9 +243,36 @@ function byAPlainLoop(bytes) {
   return sum;
 }
 
+/** Reads each chunk as soon as it is checked. */
+function inOnePass(bytes, hasChecksum) {
+  const view = new DataView(bytes.buffer, bytes.byteOffset, bytes.byteLength), end = bytes.byteLength;
+  if (end < 16 || end > 65535 || (hasChecksum && !isSealed(bytes, view)))
+    return 0;
+  let sum = 1;
+  for (let at = 12, step; at < end; at += step) {
+    step = stepOf(view, at, end);
+    if (step === 0)
+      return 0;
+    const type = view.getUint8(at), length = view.getUint16(at + 2);
+    if (!isChunk(view, type, at + 4, length - 4))
+      return 0;
+    sum += type + sumOf(view, type, view.getUint8(at + 1), at + 4, at + length);
+  }
+  return sum;
+}
+
 // ---- the clock
 
-const CALLS = [['davgyuti', byThePackage], ['DataView', byAPlainLoop]];
+const ANY = { anyChecksum: true };
+// Each says whether it compares the checksum.
+const CALLS = [
+  ['DataView', bytes => inTwoPasses(bytes, true), true],
+  ['DataView, one pass', bytes => inOnePass(bytes, true), true],
+  ['davgyuti', bytes => byThePackage(bytes), true],
+  ['DataView, no CRC32c', bytes => inTwoPasses(bytes, false), false],
+  ['DataView, one pass, no CRC32c', bytes => inOnePass(bytes, false), false],
+  ['davgyuti, no CRC32c', bytes => byThePackage(bytes, ANY), false],
+];
 
 function load(file) {
   const bytes = new Uint8Array(readFileSync(file)), view = new DataView(bytes.buffer), packets = [];
@@ -237,6 +282,9 @@ function load(file) {
   }
   return packets;
 }
+
+/** The same packets, each with another checksum. */
+const unsealed = packets => packets.map(it => it.map((byte, at) => (at === 8 ? byte ^ 1 : byte)));
 
 function pass(call, packets) {
   let sum = 0;
@@ -271,7 +319,12 @@ if (files.length === 0) {
   process.exit(2);
 }
 for (const file of files) {
-  const packets = load(file), sums = CALLS.map(([, call]) => pass(call, packets)), best = CALLS.map(() => Infinity);
+  const packets = load(file), others = unsealed(packets), best = CALLS.map(() => Infinity);
+  const sums = CALLS.map(([, call]) => pass(call, packets));
+  CALLS.forEach(([name, call, hasChecksum], i) => {
+    if (pass(call, others) !== (hasChecksum ? 0 : sums[i]))
+      throw new Error(`${name} takes another checksum for what it isn't`);
+  });
   // (the first rounds don't count: node compiles what is called again and again)
   for (let round = -WARM; rounds > 0 && round < rounds; round++)
     CALLS.forEach(([, call], i) => {
