@@ -56,7 +56,7 @@ TIMED = ('data1200', 'data_small', 'data_bundle', 'sack20', 'init', 're_config',
 READ = (
     ('C', 'by hand', 'by hand, one pass', 'davgyuti', 'davgyuti, rows'),
     ('C with LTO', 'by hand', 'davgyuti'),
-    ('Rust', 'plain loop', 'davgyuti'),
+    ('Rust', 'plain loop', 'plain loop, one pass', 'davgyuti'),
     ('Python', 'aiortc', 'davgyuti', 'davgyuti, iterated'),
     ('Go', 'pion', 'davgyuti'),
     ('JavaScript', 'DataView', 'DataView, one pass', 'davgyuti'),

@@ -1,5 +1,6 @@
 // SPDX-License-Identifier: Apache-2.0
-//! Reads packets by the crate davgyuti, and by a plain loop in safe Rust; bench/packages.py says what such a program does.
+//! Reads packets by the crate davgyuti, and by a plain loop in safe Rust, which checks a packet first, or each chunk as it reads it;
+//! bench/packages.py says what such a program does.
 //!
 //! usage: plain ROUNDS MILLIS FILE..
 
@@ -223,10 +224,29 @@ fn by_a_plain_loop(bytes: &[u8]) -> u64 {
     sum
 }
 
+/// By a plain loop too, each chunk as soon as it is checked.
+fn in_one_pass(bytes: &[u8]) -> u64 {
+    if !(16..=65535).contains(&bytes.len()) {
+        return 0;
+    }
+    let (mut sum, mut list) = (1, &bytes[12..]);
+    while !list.is_empty() {
+        match split(list) {
+            Some((chunk, rest)) if is_chunk(chunk[0], &chunk[4..]) => {
+                sum += u64::from(chunk[0]) + sum_of(chunk[0], chunk[1], &chunk[4..]);
+                list = rest;
+            }
+            _ => return 0,
+        }
+    }
+    sum
+}
+
 // ---- the clock
 
 type Call = fn(&[u8]) -> u64;
-const CALLS: [(&str, Call); 2] = [("davgyuti", by_the_crate), ("plain loop", by_a_plain_loop)];
+const CALLS: [(&str, Call); 3] =
+    [("davgyuti", by_the_crate), ("plain loop", by_a_plain_loop), ("plain loop, one pass", in_one_pass)];
 
 fn load(file: &str) -> std::io::Result<Vec<Vec<u8>>> {
     let bytes = std::fs::read(file)?;
