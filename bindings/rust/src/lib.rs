@@ -21,7 +21,7 @@ mod list;
 mod owned;
 mod packet;
 #[cfg(feature = "processor-crc32c")]
-pub mod processor;
+mod processor;
 mod raw;
 mod receive;
 mod registered;

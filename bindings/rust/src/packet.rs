@@ -51,10 +51,15 @@ impl Word {
 }
 
 /// Returns the word of a packet (RFC 9260 section 6.8): its CRC32c, over zeros in the checksum
-/// field. For fewer than 12 bytes it has no meaning.
+/// field. For fewer than 12 bytes it has no meaning. With the feature `processor-crc32c` the
+/// processor's instruction computes it, which isn't proved.
 #[doc(alias = "dcsctp_word")]
 #[must_use]
 pub fn word(bytes: &[u8]) -> Word {
+    #[cfg(feature = "processor-crc32c")]
+    if let Some(word) = crate::processor::word(bytes) {
+        return word;
+    }
     Word(call!(dcsctp_word, [bytes]))
 }
 
@@ -136,13 +141,18 @@ pub fn first_fault(bytes: &[u8], word: Word, policy: Policy) -> Option<Fault> {
     FaultKind::of(code).map(|kind| Fault { kind, offset })
 }
 
-/// Writes the CRC32c into the checksum field of a packet (RFC 9260 section 6.8); all other bytes
-/// stay.
+/// Writes the CRC32c into the checksum field of a packet (RFC 9260 section 6.8), as [`word`] returns
+/// it; all other bytes stay.
 ///
 /// # Errors
 /// [`WriteError::BadPlace`], and nothing changes, for fewer than 12 bytes.
 #[doc(alias = "dcsctp_seal")]
 pub fn seal(packet: &mut [u8]) -> Result<(), WriteError> {
+    #[cfg(feature = "processor-crc32c")]
+    if let Some(word) = crate::processor::word(packet) {
+        packet[8..12].copy_from_slice(&word.checksum().to_be_bytes());
+        return Ok(());
+    }
     WriteError::check(call!(dcsctp_seal, mut [packet]))
 }
 
@@ -229,7 +239,7 @@ impl<'a> Packet<'a> {
         Self::parse_with(bytes, word(bytes), Policy::default())
     }
 
-    /// Checks bytes under a policy; `word` is [`word(bytes)`](word), or what computes it faster.
+    /// Checks bytes under a policy; `word` is [`word(bytes)`](word).
     ///
     /// ```
     /// use davgyuti::{Fault, FaultKind, Packet, Policy};
