@@ -17,6 +17,9 @@
 //
 // Any number of threads may read the same bytes at once. Of a function of dcsctp.h that one here calls, dcsctp.h says
 // more: dcsctp_verify_tag of packet::verify_tag, and so on.
+//
+// With DCSCTP_PROCESSOR_CRC32C defined, in all files of a program, the processor's instruction computes each CRC32c that is
+// verified or written here, where it is there. That isn't proved: dcsctp_processor.h says more.
 #ifndef DCSCTP_HPP
 #define DCSCTP_HPP
 
@@ -26,6 +29,9 @@
 #pragma GCC diagnostic ignored "-Wshadow"
 #endif
 #include <dcsctp_registered.h>
+#ifdef DCSCTP_PROCESSOR_CRC32C
+#include <dcsctp_processor.h>
+#endif
 #ifdef __GNUC__
 #pragma GCC diagnostic pop
 #endif
@@ -930,7 +936,7 @@ class [[nodiscard]] reading {
 };
 
 /// What a packet's checksum field has to be, most significant byte first: of packet::word(), or of a number that was
-/// computed elsewhere, as by dcsctp_processor_word. The field itself is never it.
+/// computed elsewhere, as by a network card. The field itself is never it.
 class checksum_word {
     std::uint32_t number_;
 

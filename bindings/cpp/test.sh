@@ -6,7 +6,8 @@
 # folder DIST (else the repository's dist/), and runs it over registry/vectors, and the file $VECTORS; show.cc and the README's
 # program as well, as C++17; all with every warning as an error. Has the compilers refuse views of bytes that are gone, some of
 # them clang++ alone. Looks whether dcsctp.hpp calls each function of dcsctp.h, or test.cc compares with it what is read by
-# generated code; and by clang-tidy whether each result is [[nodiscard]]. Stops at the first that fails.
+# generated code; and by clang-tidy whether each result is [[nodiscard]]. Compares the processor's CRC32c with the library's. Stops
+# at the first that fails.
 set -eu -o pipefail
 case ${1:-} in
     --help) sed -n 's/^# \(usage: \)/\1/p' "$0" && exit ;;
@@ -42,6 +43,28 @@ done
     printf 'INIT ACK: State Cookie\nAdd IP Address: 1\n192.0.2.1\n198.51.100.1\n2001:db8::1\n2001:db8::2\n'
     printf 'COOKIE ACK to tag 1294857517\n'
 } >"$work/readme.expected"
+
+# The processor's CRC32c, of each size; the library's has its own name again.
+cat >"$work/processor.cc" <<'C'
+#include "dcsctp.hpp"
+#undef dcsctp_word
+#undef dcsctp_seal
+#include <random>
+int main()
+{
+    std::mt19937 random;
+    for (std::size_t size = 0; size <= 2000; size++) {
+        std::vector<std::uint8_t> one(size);
+        for (std::uint8_t &it : one)
+            it = static_cast<std::uint8_t>(random());
+        std::vector<std::uint8_t> other = one;
+        if (size >= 12 && dcsctp::packet(one).word().number() != ::dcsctp_word(one.data(), size))
+            return 1;
+        if (static_cast<bool>(dcsctp::seal(one)) != (::dcsctp_seal(other.data(), size) == DCSCTP_OK) || one != other)
+            return 2;
+    }
+}
+C
 
 # Views of bytes that are gone, and what isn't looked at: behind -, what clang++ alone finds. (What is right is in test.cc.)
 gone=(
@@ -90,6 +113,9 @@ for compiler in g++ clang++; do
             echo "bindings/cpp: $compiler on $way:" >&2 && cat "$work/said" >&2 && exit 1
         fi
     done
+    "$compiler" -std=c++17 "${flags[@]}" -DDCSCTP_PROCESSOR_CRC32C -c -o "$work/processor.o" "$work/processor.cc"
+    nm "$work/processor.o" | grep -q ' t .*dcsctp_processor_word'
+    "$compiler" -o "$work/processor" "$work/processor.o" "$text" && "$work/processor"
     "$compiler" -std=c++17 "${flags[@]}" -o "$work/readme" "$work/readme.cc" "$text"
     "$work/readme" | diff - "$work/readme.expected"
     "$compiler" -std=c++17 "${flags[@]}" -Weffc++ -O2 -o "$work/show" show.cc "$text"
