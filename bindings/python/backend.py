@@ -96,6 +96,15 @@ def texts():
     return sorted(it for it in os.listdir(LIBRARY) if re.fullmatch(r"dcsctp-.*-(elf|macho|coff)\.s", it))
 
 
+def within_32_bytes(compiler, text, work):
+    """What keeps branches of the text within 32 bytes (dist/README.md says why), by gcc or clang; nothing where it isn't known."""
+    for flag in ("-Wa,-mbranches-within-32B-boundaries", "-mbranches-within-32B-boundaries"):
+        probe = [*compiler, flag, "-c", "-x", "assembler", "-o", os.path.join(work, "probe.o"), os.devnull]
+        if "x86_64" in os.path.basename(text) and not subprocess.run(probe, capture_output=True).returncode:
+            return [flag]
+    return []
+
+
 def module():
     """The module for this system."""
     processor = platform.machine().lower()
@@ -115,6 +124,7 @@ def module():
     words = [*words, "-O2", "-fno-stack-protector", "-I", LIBRARY, "-I", os.path.dirname(header)]
     words += ["-DPy_LIMITED_API=0x030A0000"] if IS_LIMITED else []
     with tempfile.TemporaryDirectory() as work:
+        words += within_32_bytes(compiler, text, work)
         out = os.path.join(work, "module")
         if subprocess.run([*compiler, "-o", out, os.path.join(HERE, "src", NAME, "_fast.c"), text, *words]).returncode:
             give_up(f"{compiler[0]} doesn't take {os.path.normpath(text)}: it has to assemble GNU syntax for this system")
@@ -198,7 +208,7 @@ def build_sdist(sdist_directory, config_settings=None):
     files.update((it, read(LICENSES, it)) for it in ("LICENSE", "NOTICE"))
     for folder in (("src", NAME), ("tests",), ("examples",)):
         files.update(("/".join((*folder, it)), data) for it, data in files_of(*folder).items())
-    files.update((f"library/{it}", read(LIBRARY, it)) for it in (*texts(), "dcsctp.h"))
+    files.update((f"library/{it}", read(LIBRARY, it)) for it in (*texts(), "dcsctp.h", "dcsctp_processor.h"))
     # What the tests of all packages read: in the archive it is among these.
     root = os.path.join(HERE, os.pardir, os.pardir)
     for folder, ending, to in (("examples", ".txt", "tests"), (os.path.join("registry", "vectors"), ".jsonl", "tests/vectors")):

@@ -32,7 +32,7 @@ from ._library import version_text as __version__
 from ._numbers import *  # noqa: F401, F403
 from ._reading import (
     Packet, canonical, cause, check, chunks, first_fault, header, needs_checksum, parameter, raw_chunks, raw_items,
-    read_chunk, report, text, word,
+    read_chunk, report, text, use_processor_crc32c, word,
 )
 from ._receiving import (
     adds_addresses, broken_rules, init_abort, init_fault, init_refusal, out_of_the_blue, reply, unrecognized_chunk,
@@ -52,7 +52,8 @@ __all__ = [
     "chunks", "clean_blocks", "first_fault", "header", "init_abort", "init_fault", "init_refusal", "is_listed",
     "needs_checksum", "open_cookie", "out_of_the_blue", "parameter", "parameter_name", "raw_chunks", "raw_items",
     "read_chunk", "registered", "reply", "report", "seal", "seal_cookie", "set_tag", "shared_key", "sign_auth",
-    "text", "unrecognized_chunk", "unrecognized_parameter", "validate_sack", "verify_auth", "verify_tag", "word",
+    "text", "unrecognized_chunk", "unrecognized_parameter", "use_processor_crc32c", "validate_sack", "verify_auth",
+    "verify_tag", "word",
 ]
 __all__ += _kinds.__all__
 __all__ += _numbers.__all__

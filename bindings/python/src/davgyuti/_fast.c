@@ -9,7 +9,10 @@
 #include <Python.h>
 #include <structmember.h>
 #include <string.h>
-#include "dcsctp.h"
+#include "dcsctp_processor.h"
+#if defined(DCSCTP_PROCESSOR_TARGET) && defined(__x86_64__)
+#include <cpuid.h>
+#endif
 
 /* What a value is made of, in order, but that flags come first, which are in its header, and the type of what is of no kind. */
 enum what { END, NUMBER, RESERVED, BIT, RESULT, COUNT, EITHER, OR_ELSE, LIST, RECORDS, OPTIONAL, REST, ITEMS, FLAG, HEAD };
@@ -37,6 +40,47 @@ struct words {
     } all[MOST_STEPS];
 };
 #include "_kinds.h"
+
+/* ---- the CRC32c: the library's, or the processor's, where that was asked for and is there. ctypes calls these two too. */
+
+static bool is_by_processor;
+
+uint32_t chosen_word(const uint8_t *bytes, size_t length)
+{
+#ifdef DCSCTP_PROCESSOR_TARGET
+    if (is_by_processor && length >= DCSCTP_FIRST_CHUNK)
+        return dcsctp_processor_word_12(bytes, length);
+#endif
+    return dcsctp_word(bytes, length);
+}
+
+uint32_t chosen_seal(uint8_t *packet, size_t length)
+{
+    if (!is_by_processor || length < DCSCTP_FIRST_CHUNK)
+        return dcsctp_seal(packet, length);
+    const uint32_t word = chosen_word(packet, length);
+    for (int i = 0; i < 4; i++)
+        packet[8 + i] = (uint8_t)(word >> (24 - 8 * i));
+    return DCSCTP_OK;
+}
+
+static PyObject *fast_use_processor_crc32c(PyObject *module, PyObject *is_used)
+{
+    const int is_true = PyObject_IsTrue(is_used);
+    bool is_there = false;
+    (void)module;
+#if defined(DCSCTP_PROCESSOR_TARGET) && defined(__x86_64__)
+    /* (__builtin_cpu_supports needs a part of libgcc) */
+    unsigned a, b, c = 0, d;
+    is_there = __get_cpuid(1, &a, &b, &c, &d) && c & bit_SSE4_2 && c & bit_PCLMUL;
+#elif defined(DCSCTP_PROCESSOR_TARGET)
+    is_there = DCSCTP_PROCESSOR_HAS;
+#endif
+    if (is_true < 0)
+        return NULL;
+    is_by_processor = is_true && is_there;
+    return PyBool_FromLong(is_by_processor);
+}
 
 static const char *const LEVEL_NAMES[] = {"chunk", "parameter", "error cause"};
 
@@ -745,7 +789,7 @@ static PyObject *builder_seal(struct builder *it, PyObject *none)
     PyObject *packet = builder_bytes(it, none);
     /* (it is nobody's yet, and so may be written) */
     if (packet)
-        dcsctp_seal((uint8_t *)PyBytes_AsString(packet), it->size);
+        chosen_seal((uint8_t *)PyBytes_AsString(packet), it->size);
     return packet;
 }
 
@@ -942,7 +986,7 @@ static PyObject *fast_read(PyObject *module, PyObject *const *arguments, Py_ssiz
     if (is_set[2] && has_size && number_at(bytes.at + 8, 4) == 0)
         is_set[1] |= !needs_checksum(&bytes);
     if (!has_word && !is_set[0] && has_size) {
-        word = dcsctp_word(bytes.at, bytes.length);
+        word = chosen_word(bytes.at, bytes.length);
         has_word = true;
     }
     const struct dcsctp_policy asked = {.any_checksum = is_set[0], .zero_checksum = is_set[1], .strict_padding = is_set[3]};
@@ -1079,6 +1123,7 @@ static PyMethodDef FUNCTIONS[] = {
     METHOD("prepare", fast_prepare, METH_FASTCALL, NULL),
     METHOD("read", fast_read, METH_FASTCALL, NULL),
     METHOD("needs_checksum", fast_needs_checksum, METH_O, NULL),
+    METHOD("use_processor_crc32c", fast_use_processor_crc32c, METH_O, NULL),
     METHOD("header", fast_header, METH_O, NULL),
     METHOD("chunks", fast_chunks, METH_O, NULL),
     METHOD("parts", fast_parts, METH_FASTCALL, NULL),

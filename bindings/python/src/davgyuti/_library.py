@@ -14,7 +14,9 @@ from ._values import Buffer, error_of
 from ._version import VERSION
 
 # (each call takes less time than to let another thread go on, and to come back)
-functions = ctypes.PyDLL(_fast.__file__)
+functions: Any = ctypes.PyDLL(_fast.__file__)
+# (the module chooses by what a CRC32c is computed)
+functions.dcsctp_word, functions.dcsctp_seal = functions.chosen_word, functions.chosen_seal
 for _name, (_result, *_arguments) in FUNCTIONS.items():
     _function = getattr(functions, _name)
     _function.restype, _function.argtypes = _result, _arguments

@@ -28,6 +28,12 @@ def word(data: Buffer) -> Word:
     return Word(functions.dcsctp_word(data, len(data)))
 
 
+def use_processor_crc32c(is_used: bool = True) -> bool:
+    """Has the processor's own instruction compute each CRC32c from now on, in every thread, where it has one; or with False the
+    library again, as at first. Returns whether the instruction is used. It takes a sixth of the time, and isn't proved."""
+    return _fast.use_processor_crc32c(is_used)
+
+
 def needs_checksum(data: Buffer) -> bool:
     """Returns whether a packet has to have its CRC32c where a checksum of zero was negotiated, too (RFC 9653 section 5.2):
     it has INIT, COOKIE ECHO or ASCONF; or it answers a packet out of the blue, by an ABORT or a SHUTDOWN COMPLETE whose tag
