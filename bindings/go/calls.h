@@ -5,12 +5,29 @@
 
 #include "dcsctp.h"
 #include "dcsctp_processor.h"
+#ifdef __linux__
+#include <sys/auxv.h>
+#endif
 
 /* A code, and the offset or the size that the call wrote. */
 struct go_result {
     uint32_t code;
     size_t size;
 };
+
+/* Whether the processor has an instruction for CRC32c, by which Go's hash/crc32 goes too. */
+static inline bool go_has_instruction(void)
+{
+#ifdef __x86_64__
+    return __builtin_cpu_supports("sse4.2");
+#elif defined(__linux__)
+    return getauxval(AT_HWCAP) >> 7 & 1; /* HWCAP_CRC32 of arm64 */
+#elif defined(DCSCTP_PROCESSOR_TARGET)
+    return true; /* (the compiler is told so) */
+#else
+    return false;
+#endif
+}
 
 /* Whether the word of a packet can be computed here, by the processor's instruction: dcsctp_processor.h says when, and that it isn't
    proved. */
@@ -23,19 +40,23 @@ static inline bool go_has_word(void)
 #endif
 }
 
-/* A packet, the word that its field has to be, and the policy. Where go_has_word the word of at least 12 bytes can be left out. */
+/* A packet, the policy, and the word that its field has to be, or what computes that: the library, or the processor's instruction, for
+   at least 12 bytes, and where go_has_word. */
+enum { GO_WORD_GIVEN, GO_WORD_PROVED, GO_WORD_PROCESSOR };
 struct go_packet {
     const uint8_t *bytes;
     size_t length;
     uint32_t word;
-    bool lacks_word;
+    uint8_t word_by;
     struct dcsctp_policy policy;
 };
 
 static inline uint32_t go_word(const struct go_packet *packet)
 {
+    if (packet->word_by == GO_WORD_PROVED)
+        return dcsctp_word(packet->bytes, packet->length);
 #ifdef DCSCTP_PROCESSOR_TARGET
-    if (packet->lacks_word)
+    if (packet->word_by == GO_WORD_PROCESSOR)
         return dcsctp_processor_word_12(packet->bytes, packet->length);
 #endif
     return packet->word;
@@ -132,6 +153,8 @@ static inline void go_swap(uint8_t *to, const uint8_t *from, size_t size) { go_s
 
 static inline uint32_t go_seal_at(uint8_t *packet, const size_t *size) { return dcsctp_seal(packet, *size); }
 
+static inline uint32_t go_word_at(const uint8_t *packet, const size_t *size) { return dcsctp_word(packet, *size); }
+
 /* Whether C may be called directly. A sanitizer's own functions take more stack than there is. (Go has tags for two, unless they are
    asked for by CGO_CFLAGS.) */
 #ifndef __has_feature
@@ -149,7 +172,7 @@ enum {
 
 /* What Go calls directly, on the goroutine's stack: dist/stack.py looks at each. */
 struct go_functions {
-    void *first_fault, *seal, *short_numbers;
+    void *first_fault, *seal, *word, *short_numbers;
 };
 
 static inline struct go_functions go_functions(void)
@@ -160,7 +183,7 @@ static inline struct go_functions go_functions(void)
     size_t size;
     dcsctp_begin(packet, sizeof packet, &size, 0, 0, 0);
     dcsctp_add_chunk(packet, sizeof packet, &size, 0, 0, value, sizeof value);
-    return (struct go_functions){(void *)go_first_fault_at, (void *)go_seal_at, (void *)go_swap_at};
+    return (struct go_functions){(void *)go_first_fault_at, (void *)go_seal_at, (void *)go_word_at, (void *)go_swap_at};
 }
 
 #endif

@@ -12,6 +12,7 @@ import (
 	"fmt"
 	"hash/crc32"
 	"io"
+	"math/bits"
 	"math/rand"
 	"net"
 	"net/netip"
@@ -140,10 +141,13 @@ func TestPacket(t *testing.T) {
 	equal(t, "short", davgyuti.Packet(nil).SetTag(1), davgyuti.ErrBadPlace)
 }
 
-// What Seal writes, the library's own CRC32c, is the word that Go computes, and that a packet is checked by, which C computes with the
-// processor's instruction, or Go where it can't: at each address, of each size up to some blocks of three lanes (dcsctp_processor.h).
+// What Seal writes, Word returns and a packet is checked by is one word, the library's and the processor's, and that of Go's hash/crc32:
+// at each address, of each size up to some blocks of three lanes (dcsctp_processor.h).
 func TestWord(t *testing.T) {
-	random := rand.New(rand.NewSource(1))
+	defer davgyuti.UseProcessorCRC32c(false)
+	equal(t, "used", davgyuti.UseProcessorCRC32c(false), false)
+	t.Log("the processor's CRC32c is used:", davgyuti.UseProcessorCRC32c(true))
+	random, castagnoli := rand.New(rand.NewSource(1)), crc32.MakeTable(crc32.Castagnoli)
 	memory := make([]byte, 8+65535)
 	random.Read(memory)
 	wrong := &davgyuti.Error{Code: davgyuti.ErrChecksum, Offset: 8}
@@ -153,15 +157,32 @@ func TestWord(t *testing.T) {
 		}
 		for at := 0; at < 8; at++ {
 			packet := davgyuti.Packet(memory[at : at+size])
-			copy(packet[davgyuti.FirstChunk:], []byte{99, 0, byte((size - 12) >> 8), byte(size - 12)})
-			equal(t, "seal", packet.Seal(), nil)
-			equal(t, "word", packet.Word(), there[davgyuti.Header](t)(packet.Header()).Checksum)
-			equal(t, fmt.Sprint(size, " bytes"), packet.Check(davgyuti.Policy{}), nil)
-			packet[random.Intn(size)] ^= 1 << random.Intn(8)
-			equal(t, fmt.Sprint(size, " bytes, changed"), packet.Check(davgyuti.Policy{}), wrong)
+			copy(packet[8:], []byte{0, 0, 0, 0, 99, 0, byte((size - 12) >> 8), byte(size - 12)})
+			word := bits.ReverseBytes32(crc32.Checksum(packet, castagnoli))
+			for _, use := range []bool{true, false} {
+				if !use && at > 0 {
+					continue // (a proved function reads bytes, wherever they are)
+				}
+				davgyuti.UseProcessorCRC32c(use)
+				copy(packet[8:], make([]byte, 4))
+				equal(t, "word", packet.Word(), word)
+				equal(t, "seal", packet.Seal(), nil)
+				equal(t, "field", there[davgyuti.Header](t)(packet.Header()).Checksum, word)
+				equal(t, fmt.Sprint(size, " bytes"), packet.Check(davgyuti.Policy{}), nil)
+				changed := random.Intn(size)
+				packet[changed] ^= 1
+				equal(t, fmt.Sprint(size, " bytes, changed"), packet.Check(davgyuti.Policy{}), wrong)
+				packet[changed] ^= 1
+			}
 		}
 	}
-	equal(t, "word", davgyuti.Packet(memory[:davgyuti.FirstChunk-1]).Word(), uint32(0))
+	for _, use := range []bool{false, true} {
+		davgyuti.UseProcessorCRC32c(use)
+		equal(t, "word", davgyuti.Packet(memory[:davgyuti.FirstChunk-1]).Word(), uint32(0))
+		equal(t, "seal", davgyuti.Packet(memory[:davgyuti.FirstChunk-1]).Seal(), davgyuti.ErrBadPlace)
+		b, err := davgyuti.Begin(make([]byte, 16), 1, 2, 3)
+		equal(t, "begin", []error{err, b.AddCookieAck(), b.Seal(), davgyuti.Packet(b.Bytes()).Check(davgyuti.Policy{})}, make([]error, 4))
+	}
 }
 
 func TestFaults(t *testing.T) {

@@ -81,7 +81,7 @@ func (b *Builder) LastChunk() (Chunk, bool) { return Packet(b.Bytes()).ChunkAt(b
 // Seal writes the CRC32c. Call it last. Whether there is a chunk isn't looked at: without one the packet is sealed, and
 // Packet.Check refuses it.
 func (b *Builder) Seal() error {
-	if isDirect {
+	if isDirect && !byProcessor.Load() {
 		size := C.size_t(b.size)
 		return errorOf(C.uint32_t(direct.Call(functions.seal, unsafe.Pointer(bytesOf(b.buffer)), unsafe.Pointer(&size), nil)))
 	}
