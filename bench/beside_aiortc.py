@@ -247,7 +247,9 @@ def written_by_aiortc(kept):
 
 # ---- the clock
 
-READERS = (('davgyuti', read_by_davgyuti), ('davgyuti, iterated', iterated_by_davgyuti), ('aiortc', read_by_aiortc))
+BY_PROCESSOR = "davgyuti, processor's CRC32c"
+READERS = (('davgyuti', read_by_davgyuti), (BY_PROCESSOR, read_by_davgyuti), ('davgyuti, iterated', iterated_by_davgyuti),
+           ('aiortc', read_by_aiortc))
 WRITERS = (
     ('davgyuti writes', kept_by_davgyuti, written_by_davgyuti),
     ('davgyuti, methods writes', kept_by_davgyuti, written_by_methods),
@@ -268,8 +270,11 @@ def load(path):
 
 def calls_over(packets, is_timed):
     """A call's name, its function, what it is called with, and the sum of what it gives."""
-    readers = READERS if is_timed else READERS[:1]
-    calls = [(name, read, packets, sum(map(read, packets))) for name, read in readers]
+    calls = []
+    for name, read in READERS if is_timed else READERS[:2]:
+        davgyuti.use_processor_crc32c(name == BY_PROCESSOR)
+        calls.append((name, read, packets, sum(map(read, packets))))
+    davgyuti.use_processor_crc32c(False)
     for name, keep, write in WRITERS if is_timed else ():
         kept = [keep(it) for it in packets]
         if [write(it) for it in kept] != packets:
@@ -297,7 +302,8 @@ def main():
         calls = calls_over(load(path), rounds > 0)
         best = [float('inf')] * len(calls)
         for _ in range(rounds):
-            for i, (_, call, inputs, total) in enumerate(calls):
+            for i, (name, call, inputs, total) in enumerate(calls):
+                davgyuti.use_processor_crc32c(name == BY_PROCESSOR)
                 best[i] = min(best[i], timed(call, inputs, least, total))
         for (name, _, _, total), one in zip(calls, best):
             print('%s\t%s\t%d\t%.2f' % (path, name, total, one))

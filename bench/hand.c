@@ -1,10 +1,10 @@
 /* SPDX-License-Identifier: Apache-2.0 */
 /* Reads packets by dcsctp.h, call by call and by rows, and by hand; bench/packages.py says what such a program does. With
-   WITHOUT_ROWS defined it doesn't read by rows.
+   WITHOUT_ROWS defined it doesn't read by rows, and verifies no CRC32c.
 
    usage: hand ROUNDS MILLIS FILE.. */
 #define _GNU_SOURCE
-#include <dcsctp.h>
+#include <dcsctp_processor.h>
 #include <math.h>
 #include <stdio.h>
 #include <stdlib.h>
@@ -93,20 +93,35 @@ static uint64_t sum_of_chunk(const uint8_t *bytes, size_t length, const struct d
     }
 }
 
-static uint64_t by_calls(const uint8_t *bytes, size_t length)
+static inline uint64_t read_under(const struct dcsctp_policy *policy, uint32_t word, const uint8_t *bytes, size_t length)
 {
     struct dcsctp_chunk chunk;
     uint64_t sum = 1;
-    if (dcsctp_check(bytes, length, 0, &any) != DCSCTP_OK)
+    if (dcsctp_check(bytes, length, word, policy) != DCSCTP_OK)
         return 0;
     for (size_t at = DCSCTP_FIRST_CHUNK; dcsctp_chunk_at(bytes, length, at, &chunk); at = chunk.next)
         sum += chunk.type + sum_of_chunk(bytes, length, &chunk);
     return sum;
 }
 
-/* ---- by rows: the packet in one call, and each list in one */
+static uint64_t by_calls(const uint8_t *bytes, size_t length)
+{
+    return read_under(&any, 0, bytes, length);
+}
 
 #ifndef WITHOUT_ROWS
+
+static uint64_t verified(const uint8_t *bytes, size_t length)
+{
+    return read_under(dcsctp_usual_policy(), dcsctp_word(bytes, length), bytes, length);
+}
+
+static uint64_t verified_by_processor(const uint8_t *bytes, size_t length)
+{
+    return read_under(dcsctp_usual_policy(), dcsctp_processor_word(bytes, length), bytes, length);
+}
+
+/* ---- by rows: the packet in one call, and each list in one */
 
 /* As many as a packet has at most. */
 enum { MOST_ITEMS = 16384 };
@@ -392,6 +407,8 @@ static const struct {
     {"davgyuti", by_calls},
 #ifndef WITHOUT_ROWS
     {"davgyuti, rows", by_rows},
+    {"davgyuti, proved CRC32c", verified},
+    {"davgyuti, processor's CRC32c", verified_by_processor},
 #endif
     {"by hand", by_hand},
     {"by hand, one pass", in_one_pass},

@@ -52,16 +52,17 @@ GO_PATH = os.path.realpath(os.environ.get('PION', '/usr/share/gocode'))
 PACKETS, HOSTILE, RANDOM = 100, 1, 6000
 TIMED = ('data1200', 'data_small', 'data_bundle', 'sack20', 'init', 're_config', 'abort', 'error', 'forward_tsn', 'hostile_acks',
          'clean_falling')
-# The rows of both tables: a language, the call that the others are compared with, and those.
+# The rows of the tables: a language, the call that the others are compared with, and those.
 READ = (
     ('C', 'by hand', 'by hand, one pass', 'davgyuti', 'davgyuti, rows'),
     ('C with LTO', 'by hand', 'davgyuti'),
     ('Rust', 'plain loop', 'plain loop, one pass', 'davgyuti'),
-    ('Python', 'aiortc', 'davgyuti', 'davgyuti, iterated'),
-    ('Go', 'pion', 'davgyuti'),
+    ('Python', 'aiortc', 'davgyuti', "davgyuti, processor's CRC32c", 'davgyuti, iterated'),
+    ('Go', 'pion', 'davgyuti', "davgyuti, processor's CRC32c"),
     ('JavaScript', 'DataView', 'DataView, one pass', 'davgyuti'),
     ('JavaScript', 'DataView, no CRC32c', 'DataView, one pass, no CRC32c', 'davgyuti, no CRC32c'),
 )
+VERIFIED = tuple((it, 'davgyuti, proved CRC32c', "davgyuti, processor's CRC32c") for it in ('C', 'Rust'))
 WRITTEN = (('Python', 'aiortc writes', 'davgyuti writes', 'davgyuti, methods writes'), ('Go', 'pion writes', 'davgyuti writes'))
 
 
@@ -177,7 +178,8 @@ def c_program():
     program = os.path.join(OUT, 'hand')
     text = os.path.join(ROOT, 'dist', 'dcsctp-%s-elf.s' % platform.machine())
     gcc, headers = needed('gcc'), os.path.join(ROOT, 'dist')
-    run(gcc, '-O2', '-Wall', '-Wextra', '-I' + headers, '-o', program, os.path.join(BENCH, 'hand.c'), text)
+    aligned = ['-Wa,-mbranches-within-32B-boundaries'] if platform.machine() == 'x86_64' else []
+    run(gcc, '-O2', '-Wall', '-Wextra', '-I' + headers, '-o', program, os.path.join(BENCH, 'hand.c'), text, *aligned)
     return [program], {}, 'gcc ' + run(gcc, '-dumpfullversion').strip()
 
 
@@ -206,7 +208,7 @@ name = "plain"
 path = "%s"
 
 [dependencies]
-davgyuti = { path = "%s" }
+davgyuti = { path = "%s", features = ["processor-crc32c"] }
 
 [workspace]
 """
@@ -339,7 +341,8 @@ def main():
     said += (' Nanoseconds of processor time a packet where no other unit is said; in brackets how many times as long the first of its '
              'language takes.')
     print(filled(said + ''.join(' Left out: %s.' % it for it in left_out)) + '\n')
-    print('\n\n'.join(filter(None, (printed(best, READ, 'read by'), printed(best, WRITTEN, 'written by')))))
+    tables = (READ, 'read by'), (VERIFIED, 'verified and read by'), (WRITTEN, 'written by')
+    print('\n\n'.join(filter(None, (printed(best, *it) for it in tables))))
     print('packages.py: %.0f seconds' % (time.monotonic() - begin), file=sys.stderr)
 
 

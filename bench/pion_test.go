@@ -370,8 +370,20 @@ func writer(name string, packets [][]byte, write func(i int) ([]byte, error)) ca
 	return call{name, all, sum}
 }
 
+// byProcessor has the processor's instruction compute the CRC32c, as it does for pion.
+func byProcessor(it call) call {
+	all := it.all
+	it.all = func() uint64 {
+		davgyuti.UseProcessorCRC32c(true)
+		defer davgyuti.UseProcessorCRC32c(false)
+		return all()
+	}
+	return call{it.name, it.all, it.all()}
+}
+
 func callsOver(packets [][]byte, isTimed bool) []call {
-	calls := []call{reader("davgyuti", packets, readByDavgyuti)}
+	calls := []call{reader("davgyuti", packets, readByDavgyuti),
+		byProcessor(reader("davgyuti, processor's CRC32c", packets, readByDavgyuti))}
 	if !isTimed {
 		return calls
 	}

@@ -4,7 +4,7 @@
 //!
 //! usage: plain ROUNDS MILLIS FILE..
 
-use davgyuti::{Content, Data, Init, Packet, Policy, Word};
+use davgyuti::{Content, Data, Fault, Init, Packet, Policy, Word};
 use std::hint::black_box;
 use std::time::Duration;
 
@@ -66,13 +66,34 @@ fn sum_of_chunk(chunk: &davgyuti::Chunk) -> u64 {
     }
 }
 
-/// The checksum isn't compared: neither way of reading does.
+fn sum_of_packet(packet: Result<Packet, Fault>) -> u64 {
+    packet.map_or(0, |packet| {
+        let chunks = packet.chunks();
+        1 + chunks.map(|it| u64::from(it.chunk_type().0) + sum_of_chunk(&it)).sum::<u64>()
+    })
+}
+
+/// The checksum isn't compared: the plain loops don't either.
 fn by_the_crate(bytes: &[u8]) -> u64 {
     let any = Policy::new().with_any_checksum(true);
-    let Ok(packet) = Packet::parse_with(bytes, Word::default(), any) else {
-        return 0;
-    };
-    1 + packet.chunks().map(|it| u64::from(it.chunk_type().0) + sum_of_chunk(&it)).sum::<u64>()
+    sum_of_packet(Packet::parse_with(bytes, Word::default(), any))
+}
+
+unsafe extern "C" {
+    /// What `word` calls without the feature `processor-crc32c`.
+    fn dcsctp_word(bytes: *const u8, length: usize) -> u32;
+}
+
+fn verified_by_the_library(bytes: &[u8]) -> u64 {
+    // SAFETY: it is a slice.
+    let word = unsafe { dcsctp_word(bytes.as_ptr(), bytes.len()) };
+    let word = Word::from_crc32c(word.swap_bytes());
+    sum_of_packet(Packet::parse_with(bytes, word, Policy::new()))
+}
+
+/// The feature is on.
+fn verified_by_the_processor(bytes: &[u8]) -> u64 {
+    sum_of_packet(Packet::parse(bytes))
 }
 
 // ---- by a plain loop
@@ -245,8 +266,13 @@ fn in_one_pass(bytes: &[u8]) -> u64 {
 // ---- the clock
 
 type Call = fn(&[u8]) -> u64;
-const CALLS: [(&str, Call); 3] =
-    [("davgyuti", by_the_crate), ("plain loop", by_a_plain_loop), ("plain loop, one pass", in_one_pass)];
+const CALLS: [(&str, Call); 5] = [
+    ("davgyuti", by_the_crate),
+    ("plain loop", by_a_plain_loop),
+    ("plain loop, one pass", in_one_pass),
+    ("davgyuti, proved CRC32c", verified_by_the_library),
+    ("davgyuti, processor's CRC32c", verified_by_the_processor),
+];
 
 fn load(file: &str) -> std::io::Result<Vec<Vec<u8>>> {
     let bytes = std::fs::read(file)?;
