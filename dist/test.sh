@@ -311,6 +311,16 @@ cmake_installed() {
         -DCMAKE_PREFIX_PATH="$work/moved" && is_linked "$1" built/show
 }
 
+# On x86-64 the assembler keeps branches within 32 bytes, unless the option is off.
+cmake_aligns() {
+    local option flag=' -(Wa,-)?mbranches-within-32B-boundaries '
+    for option in ON OFF; do
+        cmake -S "$dist" -B aligned -DDCSCTP_ALIGN_BRANCHES=$option &&
+            cmake --build aligned --clean-first --verbose >"aligned.$option" || return
+    done
+    grep -E -- "$flag" aligned.ON && ! grep -E -- "$flag" aligned.OFF
+}
+
 # Whether a program takes the shared library, in the version of its names, or none.
 is_linked() {
     local needed
@@ -505,6 +515,13 @@ processor() {
     cd "$root" && "$cc" "${sanitizers[@]}" -I "$dist" -o "$work/processor" tests/c/processor.c "$elf" && "$work/processor"
 }
 
+# On a processor of x86-64-v2 that lacks PCLMULQDQ the library is called.
+nehalem=(qemu-x86_64 -cpu Nehalem)
+processor_is_missing() {
+    "$cc" -O2 -I "$dist" -o processor_missing "$root/tests/c/processor.c" "$elf" &&
+        "${nehalem[@]}" ./processor_missing >said && grep "the processor's CRC32c: not there" said
+}
+
 # The same on arm64, in one lane and in three.
 processor_on_arm64() {
     local options
@@ -585,6 +602,11 @@ cargo_git() {
 cargo_tests() {
     cd vendor/davgyuti && export CARGO_TARGET_DIR=$work/target && cargo test --offline --all-features &&
         cargo test --offline --no-default-features
+}
+
+cargo_processor_is_missing() {
+    cd vendor/davgyuti && CARGO_TARGET_X86_64_UNKNOWN_LINUX_GNU_RUNNER="${nehalem[*]}" CARGO_TARGET_DIR=$work/target \
+        cargo test --offline --all-features --test processor
 }
 
 # Optimized as a whole, so that rustc puts its own code beside the text into one module.
@@ -699,6 +721,11 @@ python_package() {
         venv/bin/python -m unittest discover -s "$bindings/python/tests"
 }
 
+python_processor_is_missing() {
+    "${nehalem[@]}" venv/bin/python -m unittest discover -s "$bindings/python/tests" -p test_processor.py >said &&
+        grep "the processor's CRC32c: not there" said
+}
+
 # The archive of sources is whole, and the same files give the same archive and the same wheel; it is installed in place too.
 python_archives() {
     mkdir one two three && python_backend one && python_backend two && diff -r one two || return
@@ -791,6 +818,7 @@ texts() {
     with "$cc gdb" 'so it does in gdb' by_gdb
     with 'aarch64-linux-gnu-gcc qemu-aarch64' 'the same on arm64, and x18 is kept' kept_on_arm64
     with "$cc" "the processor's CRC32c" processor
+    with "$cc qemu-x86_64" "where the processor has no CRC32c" processor_is_missing
     with 'aarch64-linux-gnu-gcc qemu-aarch64' "the processor's CRC32c on arm64" processor_on_arm64
     with 'clang clang-memory' 'MemorySanitizer' memory
     with "$cc" '20,000 packets against a second reader' fuzz
@@ -803,6 +831,7 @@ cmake_and_cpp() {
     with cmake 'CMake: find_package, shared' cmake_installed shared ON &&
         with pkg-config 'pkg-config, shared' by_pkg_config --define-prefix && try 'CMake: both in one prefix' cmake_both
     with cmake 'CMake: add_subdirectory' cmake_subdirectory
+    [ "$(uname -m)" != x86_64 ] || with cmake 'CMake: branches within 32 bytes' cmake_aligns
     with cmake 'CMake: FetchContent, shared' cmake_fetched
     with 'cmake clang' 'CMake: processors without a text' cmake_refuses_processors
     with "$cxx" 'C++' cpp_package && with cmake 'C++, by CMake' cpp_cmake
@@ -827,13 +856,15 @@ programs_elsewhere() {
 rust() {
     with 'cargo rustc-1.85' 'cargo package' cargo_package && try 'cargo test, in the package' cargo_tests &&
         try 'cargo add and run, as its README says' cargo_readme && with git 'cargo add --git' cargo_git
+    with 'cargo rustc-1.85 qemu-x86_64' 'cargo test, where the processor has no CRC32c' cargo_processor_is_missing
     with 'cargo rustc-1.85' 'cargo run --example show' cargo_show
     with 'cargo rustc-1.85 cargo-fmt cargo-clippy' 'cargo clippy, fmt and doc' cargo_lints
     with 'cargo rustc-1.85' 'cargo: two versions' cargo_refuses
 }
 
 python_and_javascript() {
-    with 'python-3.10 python3-venv Python.h' 'pip install' python_package && try 'pip wheel, of the archive of sources' python_archives
+    with 'python-3.10 python3-venv Python.h' 'pip install' python_package && try 'pip wheel, of the archive of sources' python_archives &&
+        with qemu-x86_64 'Python, where the processor has no CRC32c' python_processor_is_missing
     with 'node-18 npm' 'node --test' node_package
 }
 

@@ -2,7 +2,8 @@
 /* dcsctp_processor: the word of a packet by the processor's own instruction for CRC32c, where it has one.
 
    An option: dcsctp.h doesn't include this file, and the library doesn't call it. NOT PROVED. tests/c/processor.c compares it with
-   the proved dcsctp_word and dcsctp_seal, on random packets of every size at every address. Go's package checks packets by it.
+   the proved dcsctp_word and dcsctp_seal, on random packets of every size at every address. The packages for C++, Python and Go go by
+   it where they are told to.
 
    With DCSCTP_PROCESSOR_CRC32C defined before this file is included, dcsctp_word and dcsctp_seal mean
    dcsctp_processor_word and dcsctp_processor_seal from there on; without it they stay the library's:
