@@ -1,5 +1,6 @@
 /* SPDX-License-Identifier: Apache-2.0 */
-/* Times the CRC32c of crates/test_callers, beside a loop in C that goes byte by byte through one table.
+/* Times the CRC32c of crates/test_callers, beside a loop in C that goes byte by byte through one table, and the word of a packet by the
+   processor's instruction.
 
    usage: crc ROUNDS MILLIS
 
@@ -7,6 +8,7 @@
    that a slow spell of the machine hits them all; the best round counts. First it compares the functions at all lengths up
    to 4,096 bytes. Prints a Markdown table: gigabytes a second (10^9 bytes), a row a length. */
 #define _GNU_SOURCE
+#include <dcsctp_processor.h>
 #include <stdint.h>
 #include <stdio.h>
 #include <stdlib.h>
@@ -43,6 +45,7 @@ static const struct {
     {"byte by byte, in C", byte_by_byte},
     {"`crc32c`", probes_crc32c},
     {"`packet_word`", probes_packet_word},
+    {"`dcsctp_processor_word`", dcsctp_processor_word},
 };
 enum { CALLS = sizeof calls / sizeof calls[0] };
 

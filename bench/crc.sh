@@ -1,6 +1,6 @@
 #!/usr/bin/env bash
 # SPDX-License-Identifier: Apache-2.0
-# Times the CRC32c beside a loop in C that goes byte by byte (docs/SPEED.md).
+# Times the CRC32c beside a loop in C that goes byte by byte, and the processor's (docs/SPEED.md).
 set -eu
 . "$(dirname "$0")/build.sh"
 
