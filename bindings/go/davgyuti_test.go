@@ -151,7 +151,7 @@ func TestWord(t *testing.T) {
 	memory := make([]byte, 8+65535)
 	random.Read(memory)
 	wrong := &davgyuti.Error{Code: davgyuti.ErrChecksum, Offset: 8}
-	for size := 16; size <= 65535 && !t.Failed(); size++ {
+	for size := davgyuti.FirstChunk; size <= 65535 && !t.Failed(); size++ {
 		if size == 12+3*1536+100 {
 			size = 65528
 		}
@@ -168,6 +168,9 @@ func TestWord(t *testing.T) {
 				equal(t, "word", packet.Word(), word)
 				equal(t, "seal", packet.Seal(), nil)
 				equal(t, "field", there[davgyuti.Header](t)(packet.Header()).Checksum, word)
+				if size < 16 {
+					continue // it is no packet
+				}
 				equal(t, fmt.Sprint(size, " bytes"), packet.Check(davgyuti.Policy{}), nil)
 				changed := random.Intn(size)
 				packet[changed] ^= 1
