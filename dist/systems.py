@@ -66,7 +66,7 @@ def of_python(folder, system, machine):
     sys.path.insert(0, os.path.join(folder, "bindings", "python"))
     import backend
 
-    def run(words):
+    def run(words, **_):
         linked.extend(it for it in words if it.endswith(".s"))
         open(words[words.index("-o") + 1], "wb").close()
         return subprocess.CompletedProcess(words, 0)

@@ -114,7 +114,8 @@ for compiler in g++ clang++; do
         fi
     done
     "$compiler" -std=c++17 "${flags[@]}" -DDCSCTP_PROCESSOR_CRC32C -c -o "$work/processor.o" "$work/processor.cc"
-    nm "$work/processor.o" | grep -q ' t .*dcsctp_processor_word'
+    nm "$work/processor.o" >"$work/names"
+    grep -q ' t .*dcsctp_processor_word' "$work/names"
     "$compiler" -o "$work/processor" "$work/processor.o" "$text" && "$work/processor"
     "$compiler" -std=c++17 "${flags[@]}" -o "$work/readme" "$work/readme.cc" "$text"
     "$work/readme" | diff - "$work/readme.expected"
