@@ -69,7 +69,7 @@ ON_WINDOWS = "___chkstk_ms"
 # By wasm.py, of these modules.
 MADE_ELSEWHERE = ("sctp_dump.wasm",)
 COPIES = {"dcsctp.h": "include/dcsctp.h", "LICENSE": "LICENSE", "NOTICE": "NOTICE"}
-COPIES |= {f"{it}.h": f"include/{it}.h" for it in ("dcsctp_registered", "dcsctp_processor", "dcsctp_msan")}
+COPIES |= {f"{it}.h": f"include/{it}.h" for it in ("dcsctp_inline", "dcsctp_registered", "dcsctp_processor", "dcsctp_msan")}
 
 # What a package has to have in its own folder, since it is published alone, and whose it is. (rt ci takes no links.)
 PACKAGED = {f"bindings/{package}/{it}": it for package in ("cpp", "go", "js") for it in ("LICENSE", "NOTICE")}

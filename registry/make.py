@@ -17,7 +17,7 @@ import types
 sys.dont_write_bytecode = True
 import layouts
 import proved
-from languages import (c, c_registered, cpp, go, javascript, page, pages, python, rattle, rattle_layouts, rattle_report, rust,
+from languages import (c, c_inline, c_registered, cpp, go, javascript, page, pages, python, rattle, rattle_layouts, rattle_report, rust,
                        typescript)
 
 ROOT = os.path.dirname(os.path.dirname(os.path.abspath(__file__)))
@@ -169,7 +169,7 @@ def between_marks(path, texts):
 
 
 # Of each language the files that are written whole, by their paths, and those that are written between marks.
-LANGUAGES = (rattle, rattle_layouts, rattle_report, c, c_registered, python, rust, go, javascript, typescript, cpp, page, pages)
+LANGUAGES = (rattle, rattle_layouts, rattle_report, c, c_inline, c_registered, python, rust, go, javascript, typescript, cpp, page, pages)
 MARKED = {path for language in LANGUAGES for path in language.MARKED}
 
 

@@ -8,6 +8,7 @@ usage='usage: tools/build.sh [--text] PREFIX
 Proves and builds the C library, and puts it into the folder PREFIX:
 
   include/dcsctp.h
+  include/dcsctp_inline.h      readers that are compiled into their caller, an option that is not proved
   include/dcsctp_registered.h  a struct for each type that dcsctp.h keeps as bytes, an option that is not proved
   include/dcsctp_processor.h   the CRC32c of the processor, an option that is not proved
   include/dcsctp_msan.h        what dcsctp.h says to MemorySanitizer

@@ -129,6 +129,19 @@ interface_is_the_compilers() {
     tools/abi.py --assertions >"$work/abi.c" && compile -pedantic -Werror -c -o "$work/abi.o" "$work/abi.c"
 }
 
+# Each reader of dcsctp_inline.h against its call: by a compiler, in a language, with options.
+inline() {
+    local compiler=$1 language=$2
+    shift 2
+    "$compiler" -x "${language%%[0-9]*}" "-std=$language" -Wall -Wextra -Wpedantic -Wconversion -Werror -I"$prefix/include" "$@" \
+        -o "$work/inline" tests/c/inline.c -x none "$prefix/lib/libdcsctp.a" && "$work/inline" 20000 1 <examples/packets.txt
+}
+
+inline_sanitized() {
+    # shellcheck disable=SC2086 # a list of options
+    inline "$cc" c99 $sanitizers
+}
+
 header_is_cxx() {
     echo '#include <dcsctp_registered.h>
 static_assert(sizeof(struct dcsctp_re_config) == 48, "its size");' >"$work/header.cc" &&
@@ -319,6 +332,15 @@ fi
 try "the processor's CRC32c, on packets of each size" processor
 try 'calls on captured packets and at the edges, and each allocation refused' edge
 try "what IANA's registry has beyond the kinds, field by field" registered
+for compiler in "$cc c99" "$cxx c++11" 'clang c99' 'clang++ c++11'; do
+    if has "${compiler% *}"; then
+        # shellcheck disable=SC2086 # two words
+        try "the readers that are inlined, beside the library's, by $compiler" inline $compiler -O2
+    else
+        left_out "${compiler% *}" 'the readers that are inlined by it'
+    fi
+done
+try 'the same with the sanitizers' inline_sanitized
 try "what is asked of whoever receives a packet, sentence by sentence" receive
 try 'the rules that a packet breaks, row by row, and packets that end early' rules
 try 'State Cookies, AUTH chunks and shared keys, beside Python' authenticated
