@@ -1,9 +1,10 @@
 /* SPDX-License-Identifier: Apache-2.0 */
-/* Reads packets by dcsctp.h, call by call and by rows, and by hand; bench/packages.py says what such a program does. With
-   WITHOUT_ROWS defined it doesn't read by rows, and verifies no CRC32c.
+/* Reads packets by dcsctp.h, call by call, by the readers that are inlined and by rows, and by hand; bench/packages.py says what
+   such a program does. With CALLS_ALONE defined it reads by calls and by hand alone, and verifies no CRC32c.
 
    usage: hand ROUNDS MILLIS FILE.. */
 #define _GNU_SOURCE
+#include <dcsctp_inline.h>
 #include <dcsctp_processor.h>
 #include <math.h>
 #include <stdio.h>
@@ -20,105 +21,34 @@ static uint64_t sum_of_value(const uint8_t *value, size_t size)
     return size ? size + value[0] : 0;
 }
 
-static uint64_t sum_of_items(const uint8_t *bytes, size_t length, const struct dcsctp_chunk *chunk)
-{
-    struct dcsctp_parameter item;
-    uint64_t sum = 0;
-    for (size_t at = dcsctp_list_offset(chunk); dcsctp_parameter_at(bytes, length, chunk, at, &item); at = item.next)
-        sum += item.type + sum_of_value(bytes + item.value_offset, item.value_size);
-    return sum;
-}
-
 static uint64_t sum_of_payload(const uint8_t *bytes, const struct dcsctp_data *data)
 {
     uint64_t bits = data->is_unordered + data->is_beginning + data->is_end + data->immediate_ack;
     return bits + sum_of_value(bytes + data->payload_offset, data->payload_size);
 }
 
-/* Like by hand, a kind of user data has its own numbers: the others are 0. */
-static uint64_t sum_of_chunk(const uint8_t *bytes, size_t length, const struct dcsctp_chunk *chunk)
-{
-    struct dcsctp_data data;
-    struct dcsctp_init init;
-    struct dcsctp_sack sack;
-    struct dcsctp_gap_ack_block block;
-    struct dcsctp_forward_tsn forward;
-    struct dcsctp_skipped_stream stream;
-    uint64_t sum;
-    uint32_t tsn = 0;
-    switch (chunk->type) {
-    case DCSCTP_CHUNK_DATA:
-        if (!dcsctp_data(bytes, length, chunk, &data))
-            return 0;
-        sum = (uint64_t)data.tsn + data.stream + data.ssn + data.ppid;
-        return sum + sum_of_payload(bytes, &data);
-    case DCSCTP_CHUNK_I_DATA:
-        if (!dcsctp_data(bytes, length, chunk, &data))
-            return 0;
-        sum = (uint64_t)data.tsn + data.stream + data.mid + data.fsn + data.ppid;
-        return sum + sum_of_payload(bytes, &data);
-    case DCSCTP_CHUNK_INIT:
-    case DCSCTP_CHUNK_INIT_ACK:
-        if (!dcsctp_init(bytes, length, chunk, &init))
-            return 0;
-        sum = (uint64_t)init.initiate_tag + init.a_rwnd + init.outbound_streams + init.inbound_streams + init.initial_tsn;
-        return sum + sum_of_items(bytes, length, chunk);
-    case DCSCTP_CHUNK_SACK:
-        if (!dcsctp_sack(bytes, length, chunk, &sack))
-            return 0;
-        sum = (uint64_t)sack.cumulative_tsn_ack + sack.a_rwnd;
-        for (size_t i = 0; i < sack.block_count && dcsctp_gap_ack_block(bytes, length, chunk, i, &block); i++)
-            sum += (uint32_t)block.start + block.end;
-        for (size_t i = 0; i < sack.duplicate_count && dcsctp_duplicate_tsn(bytes, length, chunk, i, &tsn); i++)
-            sum += tsn;
-        return sum;
-    case DCSCTP_CHUNK_SHUTDOWN:
-        return dcsctp_shutdown(bytes, length, chunk, &tsn) ? tsn : 0;
-    case DCSCTP_CHUNK_FORWARD_TSN:
-    case DCSCTP_CHUNK_I_FORWARD_TSN:
-        if (!dcsctp_forward_tsn(bytes, length, chunk, &forward))
-            return 0;
-        sum = forward.new_cumulative_tsn;
-        for (size_t i = 0; i < forward.stream_count && dcsctp_skipped_stream(bytes, length, chunk, i, &stream); i++)
-            sum += (uint64_t)stream.stream + stream.ssn + stream.mid + stream.is_unordered;
-        return sum;
-    case DCSCTP_CHUNK_HEARTBEAT:
-    case DCSCTP_CHUNK_HEARTBEAT_ACK:
-    case DCSCTP_CHUNK_ABORT:
-    case DCSCTP_CHUNK_ERROR:
-    case DCSCTP_CHUNK_RE_CONFIG:
-        return sum_of_items(bytes, length, chunk);
-    default:
-        return sum_of_value(bytes + chunk->value_offset, chunk->value_size);
-    }
-}
+#define READ(call) dcsctp_##call
+#define OF(name) name##_by_calls
+#include "reads.h"
 
-static inline uint64_t read_under(const struct dcsctp_policy *policy, uint32_t word, const uint8_t *bytes, size_t length)
-{
-    struct dcsctp_chunk chunk;
-    uint64_t sum = 1;
-    if (dcsctp_check(bytes, length, word, policy) != DCSCTP_OK)
-        return 0;
-    for (size_t at = DCSCTP_FIRST_CHUNK; dcsctp_chunk_at(bytes, length, at, &chunk); at = chunk.next)
-        sum += chunk.type + sum_of_chunk(bytes, length, &chunk);
-    return sum;
-}
+#ifndef CALLS_ALONE
+#undef READ
+#undef OF
+#define READ(call) dcsctp_inline_##call
+#define OF(name) name##_inline
+#include "reads.h"
+#endif
 
-static uint64_t by_calls(const uint8_t *bytes, size_t length)
-{
-    return read_under(&any, 0, bytes, length);
-}
-
-#ifndef WITHOUT_ROWS
+#ifndef CALLS_ALONE
 
 static uint64_t verified(const uint8_t *bytes, size_t length)
 {
-    return read_under(dcsctp_usual_policy(), dcsctp_word(bytes, length), bytes, length);
+    return sum_under_by_calls(dcsctp_usual_policy(), dcsctp_word(bytes, length), bytes, length);
 }
 
 static uint64_t verified_by_processor(const uint8_t *bytes, size_t length)
 {
-    return read_under(dcsctp_usual_policy(), dcsctp_processor_word(bytes, length), bytes, length);
+    return sum_under_by_calls(dcsctp_usual_policy(), dcsctp_processor_word(bytes, length), bytes, length);
 }
 
 /* ---- by rows: the packet in one call, and each list in one */
@@ -404,8 +334,9 @@ static const struct {
     const char *name;
     uint64_t (*call)(const uint8_t *bytes, size_t length);
 } calls[] = {
-    {"davgyuti", by_calls},
-#ifndef WITHOUT_ROWS
+    {"davgyuti", sum_by_calls},
+#ifndef CALLS_ALONE
+    {"davgyuti, inline", sum_inline},
     {"davgyuti, rows", by_rows},
     {"davgyuti, proved CRC32c", verified},
     {"davgyuti, processor's CRC32c", verified_by_processor},

@@ -54,7 +54,8 @@ TIMED = ('data1200', 'data_small', 'data_bundle', 'sack20', 'init', 're_config',
          'clean_falling')
 # The rows of the tables: a language, the call that the others are compared with, and those.
 READ = (
-    ('C', 'by hand', 'by hand, one pass', 'davgyuti', 'davgyuti, rows'),
+    ('C', 'by hand', 'by hand, one pass', 'davgyuti', 'davgyuti, inline', 'davgyuti, rows'),
+    ('C by clang', 'by hand', 'by hand, one pass', 'davgyuti', 'davgyuti, inline', 'davgyuti, rows'),
     ('C with LTO', 'by hand', 'davgyuti'),
     ('Rust', 'plain loop', 'plain loop, one pass', 'davgyuti'),
     ('Python', 'aiortc', 'davgyuti', "davgyuti, processor's CRC32c", 'davgyuti, iterated'),
@@ -174,13 +175,14 @@ def write_files():
 # ---- the programs: each is built, and is a command with its environment, and what it was built with
 
 
-def c_program():
-    program = os.path.join(OUT, 'hand')
+def c_program(compiler='gcc'):
+    program = os.path.join(OUT, 'hand_' + compiler)
     text = os.path.join(ROOT, 'dist', 'dcsctp-%s-elf.s' % platform.machine())
-    gcc, headers = needed('gcc'), os.path.join(ROOT, 'dist')
-    aligned = ['-Wa,-mbranches-within-32B-boundaries'] if platform.machine() == 'x86_64' else []
-    run(gcc, '-O2', '-Wall', '-Wextra', '-I' + headers, '-o', program, os.path.join(BENCH, 'hand.c'), text, *aligned)
-    return [program], {}, 'gcc ' + run(gcc, '-dumpfullversion').strip()
+    path, headers = needed(compiler), os.path.join(ROOT, 'dist')
+    flag = '-mbranches-within-32B-boundaries' if compiler == 'clang' else '-Wa,-mbranches-within-32B-boundaries'
+    aligned = [flag] if platform.machine() == 'x86_64' else []
+    run(path, '-O2', '-Wall', '-Wextra', '-I' + headers, '-o', program, os.path.join(BENCH, 'hand.c'), text, *aligned)
+    return [program], {}, compiler + ' ' + run(path, '-dumpfullversion' if compiler == 'gcc' else '-dumpversion').strip()
 
 
 def lto_program():
@@ -194,7 +196,7 @@ def lto_program():
     program, dist = os.path.join(OUT, 'hand_lto'), os.path.join(ROOT, 'dist')
     run(clang, '--target=x86_64-linux-gnu', '--no-default-config', '-Wno-override-module', '-O2', '-march=x86-64-v2', '-flto',
         '-fuse-ld=lld', '-B' + os.path.dirname(clang), '-isystem', run(gcc, '-print-file-name=include').strip(), '-I' + dist,
-        '-DWITHOUT_ROWS', '-o', program, os.path.join(BENCH, 'hand.c'), os.path.join(dist, 'dcsctp.ll'), os.path.join(dist, 'heap.ll'))
+        '-DCALLS_ALONE', '-o', program, os.path.join(BENCH, 'hand.c'), os.path.join(dist, 'dcsctp.ll'), os.path.join(dist, 'heap.ll'))
     return [program], {}, 'clang ' + run(clang, '-dumpversion').strip()
 
 
@@ -266,7 +268,7 @@ def javascript_program():
 
 
 BUILDERS = {
-    'C': c_program, 'C with LTO': lto_program, 'Rust': rust_program, 'Python': python_program, 'Go': go_program, 'JavaScript': javascript_program,
+    'C': c_program, 'C by clang': lambda: c_program('clang'), 'C with LTO': lto_program, 'Rust': rust_program, 'Python': python_program, 'Go': go_program, 'JavaScript': javascript_program,
 }
 
 
