@@ -15,11 +15,9 @@
 extern "C" {
 #endif
 
-/* (a compiler doesn't inline by itself what is called twice, and has to know a chunk's type to leave out what isn't of it) */
-#if defined(__GNUC__)
+/* (by itself a compiler may not inline what is called twice, and then tests again what it knows) */
+#if defined(__GNUC__) || defined(__clang__)
 #define DCSCTP_INLINE static inline __attribute__((always_inline))
-#elif defined(_MSC_VER)
-#define DCSCTP_INLINE static __forceinline
 #else
 #define DCSCTP_INLINE static inline
 #endif
