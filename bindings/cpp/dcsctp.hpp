@@ -28,6 +28,7 @@
 #pragma GCC diagnostic push
 #pragma GCC diagnostic ignored "-Wshadow"
 #endif
+#include <dcsctp_inline.h>
 #include <dcsctp_registered.h>
 #ifdef DCSCTP_PROCESSOR_CRC32C
 #include <dcsctp_processor.h>
@@ -479,7 +480,7 @@ template <typename Item> struct items {
     [[nodiscard]] std::optional<Item> read(std::size_t offset) const noexcept
     {
         ::dcsctp_parameter item{};
-        if (!::dcsctp_item_at(bytes.data(), bytes.size(), offset, &item))
+        if (!::dcsctp_inline_item_at(bytes.data(), bytes.size(), offset, &item))
             return std::nullopt;
         return Item(bytes, item, offset);
     }
@@ -839,15 +840,15 @@ class chunk : public detail::chunk_kinds<detail::chunk_place> {
     /// The parameters; none of ABORT and ERROR, or where the type has none.
     [[nodiscard]] range<detail::items<parameter>> parameters() const noexcept
     {
-        return {{has_causes() ? bytes_view() : up_to_end()}, ::dcsctp_list_offset(&it_)};
+        return {{has_causes() ? bytes_view() : up_to_end()}, ::dcsctp_inline_list_offset(&it_)};
     }
     /// The error causes; none but of ABORT and ERROR.
     [[nodiscard]] range<detail::items<cause>> causes() const noexcept
     {
-        return {{has_causes() ? up_to_end() : bytes_view()}, ::dcsctp_list_offset(&it_)};
+        return {{has_causes() ? up_to_end() : bytes_view()}, ::dcsctp_inline_list_offset(&it_)};
     }
     /// The bytes of these, up to the end of the value.
-    [[nodiscard]] bytes_view list() const noexcept { return up_to_end().subspan(::dcsctp_list_offset(&it_)); }
+    [[nodiscard]] bytes_view list() const noexcept { return up_to_end().subspan(::dcsctp_inline_list_offset(&it_)); }
     /// Returns whether it is a SACK whose gap ack blocks are in order, apart, and begin at 2 or later.
     [[nodiscard]] bool is_valid_sack() const noexcept { return detail::call<bool>(::dcsctp_validate_sack, bytes_, &it_); }
 
@@ -1024,7 +1025,7 @@ class packet {
     [[nodiscard]] std::optional<chunk> chunk_at(std::size_t offset) const noexcept
     {
         ::dcsctp_chunk it{};
-        if (!::dcsctp_chunk_at(bytes_.data(), bytes_.size(), offset, &it))
+        if (!::dcsctp_inline_chunk_at(bytes_.data(), bytes_.size(), offset, &it))
             return std::nullopt;
         return chunk(bytes_, it, offset);
     }

@@ -254,6 +254,7 @@ std::size_t agrees_up_to(bytes_view from, const Range &range, const ::dcsctp_chu
     for (const auto &it : range) {
         CHECK(::dcsctp_parameter_at(from.data(), from.size(), &of, next, &item) && it.offset() == next
               && it.next_offset() == item.next);
+        CHECK(::dcsctp_item_at(from.data(), of.value_offset + of.value_size, next, &item) && it.next_offset() == item.next);
         CHECK(it.value().data() == from.data() + item.value_offset && it.value().size() == item.value_size);
         each_reader(it, item, alike_by_c{from});
         next = it.next_offset();
@@ -279,8 +280,14 @@ void kind_line(std::string_view line)
     const bytes given = joined(of_hex("1388 1389 01020304 00000000"), bytes_by(line, "bytes"));
     const packet it(given);
     const std::string shown = list_of(it.chunks(), [](const chunk &one) { return show(one); });
-    for (const chunk &one : it.chunks())
+    std::size_t next = DCSCTP_FIRST_CHUNK;
+    for (const chunk &one : it.chunks()) {
+        CHECK(one.offset() == next);
         agrees(given, one);
+        next = one.next_offset();
+    }
+    ::dcsctp_chunk more{};
+    CHECK(!::dcsctp_chunk_at(given.data(), given.size(), next, &more));
     CHECK(show(it.first_fault({true, false, false})) == by_key(line, "fault"));
     std::vector<row> rows(it.chunks().size());
     const reading read = it.read(rows, {true, false, false});
