@@ -37,9 +37,6 @@ static uint64_t sum_of_payload(const uint8_t *bytes, const struct dcsctp_data *d
 #define READ(call) dcsctp_inline_##call
 #define OF(name) name##_inline
 #include "reads.h"
-#endif
-
-#ifndef CALLS_ALONE
 
 static uint64_t verified(const uint8_t *bytes, size_t length)
 {
