@@ -5,7 +5,9 @@
    usage: hand ROUNDS MILLIS FILE.. */
 #define _GNU_SOURCE
 #include <dcsctp_inline.h>
+#ifndef CALLS_ALONE
 #include <dcsctp_processor.h>
+#endif
 #include <math.h>
 #include <stdio.h>
 #include <stdlib.h>
@@ -13,7 +15,7 @@
 
 /* ---- by dcsctp.h */
 
-/* The checksum isn't compared: neither way of reading does. */
+/* The checksum is compared by the two calls that say by what. */
 static const struct dcsctp_policy any = {.any_checksum = true};
 
 static uint64_t sum_of_value(const uint8_t *value, size_t size)
