@@ -34,7 +34,7 @@ test('values of thousands of bytes', () => {
   }
 });
 
-// RFC 9260 sections 3.2 and 3.2.1: what has a length of 16 bits has room for so many; and a packet of 65,532 bytes for so many.
+// How many fit into a length of 16 bits (RFC 9260 sections 3.2 and 3.2.1), and how many into a packet of 65,532 bytes.
 test('lists that are full, and those that never end', () => {
   function* endless(it) {
     for (;;)
